@@ -1,5 +1,5 @@
 //! The records of all entries.
-ghost use Rattle.std.specs.Prelude.{◌≡◌, ◌≤◌, IfOk};
+ghost use Rattle.std.specs.Prelude.{◌≡◌, IfOk};
 ghost use Rattle.range_set.specs.Starts.{AllFrom};
 ghost use Rattle.sym_records.specs.Canon.{canon_text};
 ghost use Rattle.sym_records.specs.Spelled.{text_bytes};
@@ -7,14 +7,14 @@ ghost use Rattle.rule_postfix.specs.FrameMeaning.{KeepsFrames};
 ghost use Rattle.rule_postfix.specs.Written.{written, omitted, written_lines};
 
 use crate::omission::Omissions;
-use crate::progress::Progress;
+use crate::progress::{Progress, Setting};
 use crate::shares::put_entries;
 use frame_entries::EntryList;
 use range_set::Enclosing;
-use std::alloc::Global;
 use std::thread::Threads;
 use sym_edges::{ListOf, OutOfMemory, Span};
 use sym_records::TextPieces;
+use unit_workers::Crew;
 
 /// The text of the frame records of a file, and the entries that are left out.
 #[derive(Debug, Drop)]
@@ -25,27 +25,30 @@ pub struct Frames {
 
 /// The text of the frame records of all entries, those of the first list before those of the second, with addresses
 /// counted from `base`; and the entries that are left out, each with its first reason. Evaluating the text gives what the rows of the
-/// written entries give. They are translated by `workers` workers, 1 to 64, whose number changes nothing.
+/// written entries give. They are translated by a crew of workers, whose number changes nothing.
 #[tactic(auto, using(crate::proofs::DecidedLemmas::lies_above, crate::proofs::DecidedLemmas::shown_text, crate::proofs::DecidedLemmas::shown_omitted, crate::proofs::MeaningLemmas::entries_kept))]
 pub fn translate_all<R: Threads + Sync>(
-    rt: &R,
-    alloc: Global,
+    crew: &Crew<'_, R>,
     first: &EntryList<'_>,
     second: &EntryList<'_>,
     code: &[Span],
     base: u64,
-    workers: usize,
 ) -> Result<Frames, OutOfMemory>
     requires from { AllFrom base code.now }
-    requires workers { (1 ≤ workers) × (workers ≤ 64) }
     ensures text { IfOk result (λ frames. text_bytes frames.text ≡ canon_text (written_lines base (written code.now first.now second.now))) }
     ensures means { IfOk result (λ _. KeepsFrames base (written code.now first.now second.now) (written_lines base (written code.now first.now second.now))) }
     ensures omitted { IfOk result (λ frames. frames.omitted ≡ omitted code.now first.now second.now) }
 {
+    let alloc = crew.alloc();
     let enclosing = Enclosing::of_spans(alloc, code)?;
     let mut progress = Progress::new(alloc);
-    put_entries(rt, alloc, &mut progress, first, &enclosing, base, workers)?;
-    put_entries(rt, alloc, &mut progress, second, &enclosing, base, workers)?;
+    let setting = Setting {
+        alloc,
+        code: &enclosing,
+        base,
+    };
+    put_entries(crew, setting, &mut progress, first)?;
+    put_entries(crew, setting, &mut progress, second)?;
     let Progress { text, omitted, .. } = progress;
     Ok(Frames {
         text,

@@ -6,9 +6,8 @@ ghost use Rattle.rule_postfix.specs.RowRules.{changed_rules, some_becomes_unspec
 ghost use Rattle.rule_postfix.specs.FrameLines.{change};
 ghost use Rattle.rule_postfix.specs.internal.Backward.{IfLost};
 
-use crate::rules::{Unwritten, write_changes};
-use frame_entries::Fde;
-use frame_rows::{Columns, Row};
+use crate::rules::{Rows, Unwritten, write_changes};
+use frame_rows::Columns;
 use sym_records::write_change;
 use sym_rules::write_last;
 
@@ -16,24 +15,19 @@ use sym_rules::write_last;
 /// unspecified and none of the rules is an expression. The two rows differ in no column outside of those that are given.
 #[tactic(auto, using(crate::proofs::SpellingLemmas::no_change, crate::proofs::SpellingLemmas::some_change))]
 pub fn write_change_line(
-    fde: &Fde<'_>,
-    address: u64,
+    rows: &Rows<'_, '_, '_>,
     columns: Columns,
-    before: &Row,
-    after: &Row,
+    address: u64,
     line: &mut [u8],
 ) -> Result<usize, Unwritten>
-    requires alike { StayOutside columns before.now after.now }
+    requires alike { StayOutside columns rows.now.before.now rows.now.after.now }
     requires room { 768 ≤ length line.old }
-    ensures kept { MatchResult result (λ _. some_becomes_unspecified before.now after.now ≡ false) (IfLost before.now after.now) }
+    ensures kept { MatchResult result (λ _. some_becomes_unspecified rows.now.before.now rows.now.after.now ≡ false) (IfLost rows.now.before.now rows.now.after.now) }
     ensures below { IfOk result (λ start. start ≤ length line.old) }
-    ensures written { IfOk result (λ start. drop start line.new ≡ canon_text (change address (changed_rules fde.now before.now after.now))) }
+    ensures written { IfOk result (λ start. drop start line.new ≡ canon_text (change address (changed_rules rows.now.fde.now rows.now.before.now rows.now.after.now))) }
 {
     let end = write_last(b'\n', line);
-    let at = match write_changes(fde, columns, before, after, line, end) {
-        Ok(at) => at,
-        Err(why) => return Err(why),
-    };
+    let at = write_changes(rows, columns, line, end)?;
     if at == end {
         return Ok(line.len());
     }

@@ -14,7 +14,7 @@ use crate::column_target::ColumnTarget;
 use crate::parts::{
     RowPart, becomes_unspecified, cfa_part, column_part, is_kept, rule_at, same_part,
 };
-use crate::rules::empty_row;
+use crate::rules::{Rows, empty_row};
 use expr_postfix::rule_tokens;
 use expr_steps::Place;
 use frame_entries::Fde;
@@ -161,39 +161,31 @@ fn add_rule(text: &mut Vec<u8>, target: Target, words: Option<Tokens>) -> Result
 #[tactic(auto, using(crate::proofs::LongLemmas::nothing_added))]
 fn add_column(
     alloc: Global,
-    fde: &Fde<'_>,
     text: &mut Vec<u8>,
     target: ColumnTarget,
-    before: &Row,
-    after: &Row,
+    rows: &Rows<'_, '_, '_>,
 ) -> Result<(), OutOfMemory>
-    ensures { OnOk result (text.new.items ≡ text.old.items ++ rule_text (target_of target) (if_other fde.now (target_of target) (column_part (column_of target) (rule_at before.now (column_of target))) (column_part (column_of target) (rule_at after.now (column_of target))))) }
+    ensures { OnOk result (text.new.items ≡ text.old.items ++ rule_text (target_of target) (if_other rows.now.fde.now (target_of target) (column_part (column_of target) (rule_at rows.now.before.now (column_of target))) (column_part (column_of target) (rule_at rows.now.after.now (column_of target))))) }
 {
     let column = target.column();
-    let part = column_part(column, rule_at(after, column));
-    if same_part(column_part(column, rule_at(before, column)), part) {
+    let part = column_part(column, rule_at(rows.after, column));
+    if same_part(column_part(column, rule_at(rows.before, column)), part) {
         return Ok(());
     }
-    let words = part_words(alloc, fde, target, part)?;
+    let words = part_words(alloc, rows.fde, target, part)?;
     add_rule(text, column_target(target), words)
 }
 
 /// Adds the rule of the CFA, where two rows differ in it.
 #[tactic(auto, using(crate::proofs::LongLemmas::nothing_added), unfolding(crate::specs::RowRules::spelled))]
-fn add_cfa(
-    alloc: Global,
-    fde: &Fde<'_>,
-    text: &mut Vec<u8>,
-    before: Option<CfaRule>,
-    after: Option<CfaRule>,
-) -> Result<(), OutOfMemory>
-    ensures { OnOk result (text.new.items ≡ text.old.items ++ rule_text Cfa (if_other fde.now Cfa (cfa_part before) (cfa_part after))) }
+fn add_cfa(alloc: Global, text: &mut Vec<u8>, rows: &Rows<'_, '_, '_>) -> Result<(), OutOfMemory>
+    ensures { OnOk result (text.new.items ≡ text.old.items ++ rule_text Cfa (if_other rows.now.fde.now Cfa (cfa_part rows.now.before.now.cfa) (cfa_part rows.now.after.now.cfa))) }
 {
-    if same_part(cfa_part(before), cfa_part(after)) {
+    if same_part(cfa_part(rows.before.cfa), cfa_part(rows.after.cfa)) {
         return Ok(());
     }
-    let words = match after {
-        Some(cfa) => cfa_words(alloc, fde, cfa)?,
+    let words = match rows.after.cfa {
+        Some(cfa) => cfa_words(alloc, rows.fde, cfa)?,
         None => None,
     };
     add_rule(text, Target::Cfa, words)
@@ -203,15 +195,13 @@ fn add_cfa(
 #[tactic(auto, using(crate::proofs::LongLemmas::one_added, crate::proofs::LongLemmas::none_added))]
 fn add_registers(
     alloc: Global,
-    fde: &Fde<'_>,
     text: &mut Vec<u8>,
-    before: &Row,
-    after: &Row,
+    rows: &Rows<'_, '_, '_>,
 ) -> Result<(), OutOfMemory>
-    ensures { OnOk result (text.new.items ≡ text.old.items ++ spelled_rules (rules_of (if_changed fde.now before.now after.now) (registers 16))) }
+    ensures { OnOk result (text.new.items ≡ text.old.items ++ spelled_rules (rules_of (if_changed rows.now.fde.now rows.now.before.now rows.now.after.now) (registers 16))) }
 {
     'registers: for number in 0..16u8 {
-        add_column(alloc, fde, text, ColumnTarget::Reg(number), before, after)?;
+        add_column(alloc, text, ColumnTarget::Reg(number), rows)?;
     }
     Ok(())
 }
@@ -220,16 +210,14 @@ fn add_registers(
 #[tactic(auto, using(crate::proofs::LongLemmas::all_added))]
 fn add_changes(
     alloc: Global,
-    fde: &Fde<'_>,
     text: &mut Vec<u8>,
-    before: &Row,
-    after: &Row,
+    rows: &Rows<'_, '_, '_>,
 ) -> Result<(), OutOfMemory>
-    ensures { OnOk result (text.new.items ≡ text.old.items ++ spelled_rules (changed_rules fde.now before.now after.now)) }
+    ensures { OnOk result (text.new.items ≡ text.old.items ++ spelled_rules (changed_rules rows.now.fde.now rows.now.before.now rows.now.after.now)) }
 {
-    add_cfa(alloc, fde, text, before.cfa, after.cfa)?;
-    add_column(alloc, fde, text, ColumnTarget::Ra, before, after)?;
-    add_registers(alloc, fde, text, before, after)
+    add_cfa(alloc, text, rows)?;
+    add_column(alloc, text, ColumnTarget::Ra, rows)?;
+    add_registers(alloc, text, rows)
 }
 
 /// Adds the rules that a row of an entry has, and the end of their line.
@@ -242,7 +230,12 @@ pub fn add_row_rules(
 ) -> Result<(), OutOfMemory>
     ensures { OnOk result (text.new.items ≡ text.old.items ++ (spelled_rules (row_rules fde.now row.now) ++ 10 ∷ [])) }
 {
-    add_changes(alloc, fde, text, &empty_row(), row)?;
+    let rows = Rows {
+        fde,
+        before: &empty_row(),
+        after: row,
+    };
+    add_changes(alloc, text, &rows)?;
     text.push(b'\n')?;
     Ok(())
 }
@@ -260,16 +253,14 @@ pub fn add_end(text: &mut Vec<u8>, line: &[u8], at: usize) -> Result<(), OutOfMe
 #[tactic(auto, using(crate::proofs::LongLemmas::record_added, crate::proofs::LongLemmas::no_record))]
 pub fn add_change_record(
     alloc: Global,
-    fde: &Fde<'_>,
     text: &mut Vec<u8>,
     address: u64,
-    before: &Row,
-    after: &Row,
+    rows: &Rows<'_, '_, '_>,
 ) -> Result<(), OutOfMemory>
-    ensures { OnOk result (text.new.items ≡ text.old.items ++ canon_text (change address (changed_rules fde.now before.now after.now))) }
+    ensures { OnOk result (text.new.items ≡ text.old.items ++ canon_text (change address (changed_rules rows.now.fde.now rows.now.before.now rows.now.after.now))) }
 {
     let mut rules = Vec::new(alloc);
-    add_changes(alloc, fde, &mut rules, before, after)?;
+    add_changes(alloc, &mut rules, rows)?;
     let spelled = rules.as_slice();
     if spelled.is_empty() {
         return Ok(());

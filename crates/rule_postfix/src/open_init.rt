@@ -13,7 +13,7 @@ ghost use Rattle.rule_postfix.specs.internal.Spelling.{IsSpelled, lacks_rule};
 
 use crate::change_record::write_change_line;
 use crate::long_rules::{add_change_record, add_end, add_row_rules, lose_column};
-use crate::rules::{LINE, Unwritten, write_row_rules};
+use crate::rules::{LINE, Rows, Unwritten, write_row_rules};
 use frame_entries::Fde;
 use frame_rows::{Columns, Row, Stepper};
 use std::alloc::Global;
@@ -76,81 +76,78 @@ fn close(text: &mut Vec<u8>, open: &OpenInit, end: u64, base: u64) -> Result<(),
     Ok(())
 }
 
-/// The INIT ends, and another begins at a row.
-fn cut(
-    alloc: Global,
-    fde: &Fde<'_>,
-    text: &mut Vec<u8>,
-    open: &mut OpenInit,
-    address: u64,
-    row: &Row,
-    base: u64,
-) -> Result<(), OutOfMemory>
-    requires above { base ≤ open.old.start }
-    requires rises { open.old.start ≤ address }
-    ensures { OnOk result ((front : List ℕ) (before : Row) (o : Open) → some_becomes_unspecified before row.now ≡ true → IsSpelled front base text.old.items open.old o → IsSpelled front base text.new.items open.new (with_row fde.now address before row.now o)) }
-{
-    close(text, open, address, base)?;
-    begin(alloc, fde, open, address, row)
-}
-
-/// A row of an entry, the row after it, and the address at which that begins.
+/// A row of an entry, the row after it, and the address at which that begins; addresses are counted from `base`.
 #[derive(Drop)]
-struct RowChange<'r> {
+struct RowChange<'r, 'f, 'a> {
+    fde: &'f Fde<'a>,
     before: &'r Row,
     after: &'r Row,
     address: u64,
+    base: u64,
+}
+
+/// The INIT ends, and another begins at a row.
+fn cut(
+    alloc: Global,
+    text: &mut Vec<u8>,
+    open: &mut OpenInit,
+    change: &RowChange<'_, '_, '_>,
+) -> Result<(), OutOfMemory>
+    requires above { change.now.base ≤ open.old.start }
+    requires rises { open.old.start ≤ change.now.address }
+    ensures { OnOk result ((front : List ℕ) (before : Row) (o : Open) → some_becomes_unspecified before change.now.after.now ≡ true → IsSpelled front change.now.base text.old.items open.old o → IsSpelled front change.now.base text.new.items open.new (with_row change.now.fde.now change.now.address before change.now.after.now o)) }
+{
+    close(text, open, change.address, change.base)?;
+    begin(alloc, change.fde, open, change.address, change.after)
 }
 
 /// A row after another, where a rule may have more words than a line has room for.
 fn put_long_row(
     alloc: Global,
-    fde: &Fde<'_>,
     text: &mut Vec<u8>,
     open: &mut OpenInit,
-    rows: &RowChange<'_>,
-    base: u64,
+    change: &RowChange<'_, '_, '_>,
 ) -> Result<(), OutOfMemory>
-    requires above { base ≤ open.old.start }
-    requires rises { open.old.start ≤ rows.now.address }
-    ensures { OnOk result ((front : List ℕ) (o : Open) → IsSpelled front base text.old.items open.old o → IsSpelled front base text.new.items open.new (with_row fde.now rows.now.address rows.now.before.now rows.now.after.now o)) }
+    requires above { change.now.base ≤ open.old.start }
+    requires rises { open.old.start ≤ change.now.address }
+    ensures { OnOk result ((front : List ℕ) (o : Open) → IsSpelled front change.now.base text.old.items open.old o → IsSpelled front change.now.base text.new.items open.new (with_row change.now.fde.now change.now.address change.now.before.now change.now.after.now o)) }
 {
-    if lose_column(rows.before, rows.after) {
-        return cut(alloc, fde, text, open, rows.address, rows.after, base);
+    if lose_column(change.before, change.after) {
+        return cut(alloc, text, open, change);
     }
-    add_change_record(
-        alloc,
-        fde,
-        &mut open.body,
-        rows.address - base,
-        rows.before,
-        rows.after,
-    )
+    let rows = Rows {
+        fde: change.fde,
+        before: change.before,
+        after: change.after,
+    };
+    let address = change.address - change.base;
+    add_change_record(alloc, &mut open.body, address, &rows)
 }
 
 /// A row of an entry after another: where a column becomes unspecified, another INIT begins, else the changes are spelled. The two rows
 /// differ in no column outside of those that are given.
 fn put_row(
     alloc: Global,
-    fde: &Fde<'_>,
     text: &mut Vec<u8>,
     open: &mut OpenInit,
     columns: Columns,
-    rows: &RowChange<'_>,
-    base: u64,
+    change: &RowChange<'_, '_, '_>,
 ) -> Result<(), OutOfMemory>
-    requires alike { StayOutside columns rows.now.before.now rows.now.after.now }
-    requires above { base ≤ open.old.start }
-    requires rises { open.old.start ≤ rows.now.address }
-    ensures { OnOk result ((front : List ℕ) (o : Open) → IsSpelled front base text.old.items open.old o → IsSpelled front base text.new.items open.new (with_row fde.now rows.now.address rows.now.before.now rows.now.after.now o)) }
+    requires alike { StayOutside columns change.now.before.now change.now.after.now }
+    requires above { change.now.base ≤ open.old.start }
+    requires rises { open.old.start ≤ change.now.address }
+    ensures { OnOk result ((front : List ℕ) (o : Open) → IsSpelled front change.now.base text.old.items open.old o → IsSpelled front change.now.base text.new.items open.new (with_row change.now.fde.now change.now.address change.now.before.now change.now.after.now o)) }
 {
-    let at = rows.address - base;
-    match write_change_line(fde, at, columns, rows.before, rows.after, &mut open.line) {
+    let rows = Rows {
+        fde: change.fde,
+        before: change.before,
+        after: change.after,
+    };
+    let at = change.address - change.base;
+    match write_change_line(&rows, columns, at, &mut open.line) {
         Ok(at) => add_end(&mut open.body, &open.line, at),
-        Err(Unwritten::Unspecified) => {
-            cut(alloc, fde, text, open, rows.address, rows.after, base)
-        }
-        Err(Unwritten::Expression) => put_long_row(alloc, fde, text, open, rows, base),
+        Err(Unwritten::Unspecified) => { cut(alloc, text, open, change) }
+        Err(Unwritten::Expression) => put_long_row(alloc, text, open, change),
     }
 }
 
@@ -172,10 +169,7 @@ fn end_steps(
         (λ _. text.new.items ≡ text.old.items)
         (Unit {0}) }
 {
-    match stepper.finish() {
-        Ok(()) => {}
-        Err(stop) => return Err(stop),
-    }
+    stepper.finish()?;
     close(text, open, end, base)?;
     Ok(())
 }
@@ -226,12 +220,14 @@ pub fn spell_steps(
         };
         let address = stepper.address();
         let row = stepper.row();
-        let rows = RowChange {
+        let change = RowChange {
+            fde,
             before: &before,
             after: row,
             address,
+            base,
         };
-        put_row(alloc, fde, text, open, columns, &rows, base)?;
+        put_row(alloc, text, open, columns, &change)?;
         before.follow(columns, row);
         lacking = lack_rule(lacking, row);
     }

@@ -25,6 +25,14 @@ use std::alloc::Global;
 use sym_edges::{OutOfMemory, Reason, Stop};
 use sym_records::TextPieces;
 
+/// In what entries are translated: what gives memory, the ranges of code, and the address from which text counts, which lies below them.
+#[derive(Clone, Copy)]
+pub struct Setting<'c> {
+    pub alloc: Global,
+    pub code: &'c Enclosing,
+    pub base: u64,
+}
+
 /// What was decided so far: the text of the records, the entries that are left out, and the ranges of those that are
 /// written. The INIT of one entry at a time is made in `open`.
 #[derive(Drop)]
@@ -165,32 +173,30 @@ fn write(
 
 /// An entry whose fields can be read is written or left out, where the state after its CIE is given.
 fn put_behind(
-    alloc: Global,
+    setting: Setting<'_>,
     progress: &mut Progress,
     state: &CieState,
     entry: &Entry<'_>,
     fde: &Fde<'_>,
-    code: &Enclosing,
-    base: u64,
 ) -> Result<(), OutOfMemory>
     requires good { entry.now.body ≡ Good fde.now }
     requires behind { state.now ≡ cie_left fde.now }
-    requires above { LiesAbove base code.now }
-    ensures { OnOk result ((d : Decided) → Shows base progress.old d → Shows base progress.new (with_entry code.now entry.now d)) }
+    requires above { LiesAbove setting.base setting.code.now }
+    ensures { OnOk result ((d : Decided) → Shows setting.entry.base progress.old d → Shows setting.entry.base progress.new (with_entry setting.entry.code.now entry.now d)) }
 {
     let Some(end) = end_of(fde) else {
-        let why = reason_without_range(alloc, state, fde)?;
+        let why = reason_without_range(setting.alloc, state, fde)?;
         return leave_out(progress, entry, why);
     };
-    if !code.encloses(fde.start, end) {
-        let why = reason_or(alloc, state, fde, Reason::Outside)?;
+    if !setting.code.encloses(fde.start, end) {
+        let why = reason_or(setting.alloc, state, fde, Reason::Outside)?;
         return leave_out(progress, entry, why);
     }
     if progress.taken.meets(fde.start, end) {
-        let why = reason_or(alloc, state, fde, Reason::Overlap)?;
+        let why = reason_or(setting.alloc, state, fde, Reason::Overlap)?;
         return leave_out(progress, entry, why);
     }
-    match write(alloc, progress, state, fde, base) {
+    match write(setting.alloc, progress, state, fde, setting.base) {
         Ok(()) => Ok(()),
         Err(stop) => leave_out_where_refused(progress, entry, stop),
     }
@@ -198,63 +204,57 @@ fn put_behind(
 
 /// An entry whose fields can be read is written or left out. The state after its CIE is made where it is not there.
 fn put_good(
-    alloc: Global,
+    setting: Setting<'_>,
     progress: &mut Progress,
     states: &mut CieStates,
     entry: &Entry<'_>,
     fde: &Fde<'_>,
-    code: &Enclosing,
-    base: u64,
 ) -> Result<(), OutOfMemory>
     requires good { entry.now.body ≡ Good fde.now }
     requires known { KeptFor states.old fde.now }
-    requires above { LiesAbove base code.now }
-    ensures shown { OnOk result ((d : Decided) → Shows base progress.old d → Shows base progress.new (with_entry code.now entry.now d)) }
+    requires above { LiesAbove setting.base setting.code.now }
+    ensures shown { OnOk result ((d : Decided) → Shows setting.entry.base progress.old d → Shows setting.entry.base progress.new (with_entry setting.entry.code.now entry.now d)) }
     ensures kept { OnOk result (StaysKept entry.now states.old states.new) }
 {
-    states.make(alloc, fde)?;
-    put_behind(alloc, progress, states.behind(fde), entry, fde, code, base)
+    states.make(setting.alloc, fde)?;
+    put_behind(setting, progress, states.behind(fde), entry, fde)
 }
 
 /// An entry is written or left out.
 fn put_entry(
-    alloc: Global,
+    setting: Setting<'_>,
     progress: &mut Progress,
     states: &mut CieStates,
     entry: &Entry<'_>,
-    code: &Enclosing,
-    base: u64,
 ) -> Result<(), OutOfMemory>
     requires known { (e : FdeFields) → entry.now.body ≡ Good e → KeptFor states.old e }
-    requires above { LiesAbove base code.now }
-    ensures shown { OnOk result ((d : Decided) → Shows base progress.old d → Shows base progress.new (with_entry code.now entry.now d)) }
+    requires above { LiesAbove setting.base setting.code.now }
+    ensures shown { OnOk result ((d : Decided) → Shows setting.entry.base progress.old d → Shows setting.entry.base progress.new (with_entry setting.entry.code.now entry.now d)) }
     ensures kept { OnOk result (StaysKept entry.now states.old states.new) }
 {
     match &entry.body {
         Body::Bad(reason) => leave_out(progress, entry, *reason),
-        Body::Good(fde) => put_good(alloc, progress, states, entry, fde, code, base),
+        Body::Good(fde) => put_good(setting, progress, states, entry, fde),
     }
 }
 
 /// Entries of one section in order, from one number on up to another.
 pub fn put_range(
-    alloc: Global,
+    setting: Setting<'_>,
     progress: &mut Progress,
     entries: &EntryList<'_>,
-    code: &Enclosing,
-    base: u64,
     from: usize,
     to: usize,
 ) -> Result<(), OutOfMemory>
-    requires above { LiesAbove base code.now }
+    requires above { LiesAbove setting.base setting.code.now }
     requires order { from ≤ to }
     requires inside { to ≤ length entries.now }
-    ensures { OnOk result ((d : Decided) → Shows base progress.old d → Shows base progress.new (with_entries code.now (take (to - from) (drop from entries.now)) d)) }
+    ensures { OnOk result ((d : Decided) → Shows setting.entry.base progress.old d → Shows setting.entry.base progress.new (with_entries setting.entry.code.now (take (to - from) (drop from entries.now)) d)) }
 {
-    let mut states = CieStates::new(alloc);
+    let mut states = CieStates::new(setting.alloc);
     'entries: for i in from..to {
         let entry = entries.entry(i);
-        put_entry(alloc, progress, &mut states, &entry, code, base)?;
+        put_entry(setting, progress, &mut states, &entry)?;
     }
     Ok(())
 }

@@ -24,6 +24,14 @@ use sym_rules::{write_byte, write_bytes, write_last, write_register, write_signe
 /// The most bytes that a line with all rules has.
 pub const LINE: usize = 768;
 
+/// Two rows of an entry.
+#[derive(Clone, Copy)]
+pub struct Rows<'r, 'f, 'a> {
+    pub fde: &'f Fde<'a>,
+    pub before: &'r Row,
+    pub after: &'r Row,
+}
+
 /// The CFA plus so much.
 #[inline]
 #[tactic(auto, using(crate::proofs::TokenLemmas::sum_written))]
@@ -209,27 +217,20 @@ fn write_part(
 
 /// The rule of a column, where two rows differ in it, and the second has no expression there.
 #[tactic(auto, using(crate::proofs::TokenLemmas::no_rule, crate::proofs::PartLemmas::plain_column))]
-fn write_column(
-    fde: &Fde<'_>,
-    target: ColumnTarget,
-    before: Rule,
-    after: Rule,
-    line: &mut [u8],
-    end: usize,
-) -> usize
-    requires plain { is_expression after ≡ false }
+fn write_column(rows: &Rows<'_, '_, '_>, target: ColumnTarget, line: &mut [u8], end: usize) -> usize
+    requires plain { is_expression (rule_at rows.now.after.now (column_of target)) ≡ false }
     requires room { 40 ≤ end }
     requires within { end ≤ length line.old }
     ensures below { result ≤ end }
     ensures short { end ≤ result + 40 }
-    ensures written { drop result line.new ≡ rule_text (target_of target) (if_other fde.now (target_of target) (column_part (column_of target) before) (column_part (column_of target) after)) ++ drop end line.old }
+    ensures written { drop result line.new ≡ rule_text (target_of target) (if_other rows.now.fde.now (target_of target) (column_part (column_of target) (rule_at rows.now.before.now (column_of target))) (column_part (column_of target) (rule_at rows.now.after.now (column_of target)))) ++ drop end line.old }
 {
     let column = target.column();
-    let part = column_part(column, after);
-    if same_part(column_part(column, before), part) {
+    let part = column_part(column, rule_at(rows.after, column));
+    if same_part(column_part(column, rule_at(rows.before, column)), part) {
         return end;
     }
-    write_part(fde, target, part, line, end)
+    write_part(rows.fde, target, part, line, end)
 }
 
 /// Why the changes between two rows are not written into a line.
@@ -243,24 +244,18 @@ pub enum Unwritten {
 
 /// The rule of the CFA, where two rows differ in it.
 #[tactic(auto, using(crate::proofs::TokenLemmas::cfa_written, crate::proofs::TokenLemmas::no_rule), unfolding(crate::specs::RowRules::spelled))]
-fn write_cfa(
-    fde: &Fde<'_>,
-    before: &Row,
-    after: &Row,
-    line: &mut [u8],
-    end: usize,
-) -> Result<usize, Unwritten>
+fn write_cfa(rows: &Rows<'_, '_, '_>, line: &mut [u8], end: usize) -> Result<usize, Unwritten>
     requires room { 40 ≤ end }
     requires within { end ≤ length line.old }
     ensures why { OnErr result (result ≡ Err Expression) }
     ensures below { IfOk result (λ start. start ≤ end) }
     ensures short { IfOk result (λ start. end ≤ start + 40) }
-    ensures written { IfOk result (λ start. drop start line.new ≡ rule_text Cfa (if_other fde.now Cfa (cfa_part before.now.cfa) (cfa_part after.now.cfa)) ++ drop end line.old) }
+    ensures written { IfOk result (λ start. drop start line.new ≡ rule_text Cfa (if_other rows.now.fde.now Cfa (cfa_part rows.now.before.now.cfa) (cfa_part rows.now.after.now.cfa)) ++ drop end line.old) }
 {
-    if keeps_cfa(before, after) {
+    if keeps_cfa(rows.before, rows.after) {
         return Ok(end);
     }
-    match &after.cfa {
+    match &rows.after.cfa {
         None => Ok(end),
         Some(CfaRule::Base { register, offset }) => {
             let at = write_base(*register, *offset, line, end);
@@ -274,35 +269,31 @@ fn write_cfa(
 /// these stay too, so that is asked first.
 #[tactic(auto, using(crate::proofs::RulesLemmas::no_register, crate::proofs::RulesLemmas::register_stays, crate::proofs::RulesLemmas::one_register_more, crate::proofs::RulesLemmas::none_lost, crate::proofs::RulesLemmas::stays_kept, crate::proofs::RulesLemmas::one_kept, crate::proofs::RulesLemmas::one_lost, crate::proofs::RulesLemmas::all_kept, crate::proofs::RulesLemmas::all_registers))]
 fn write_registers(
-    fde: &Fde<'_>,
+    rows: &Rows<'_, '_, '_>,
     columns: Columns,
-    before: &Row,
-    after: &Row,
     line: &mut [u8],
     end: usize,
 ) -> Result<usize, Unwritten>
-    requires alike { StayOutside columns before.now after.now }
+    requires alike { StayOutside columns rows.now.before.now rows.now.after.now }
     requires room { 640 ≤ end }
     requires within { end ≤ length line.old }
-    ensures kept { MatchResult result (λ _. some_unspecified_below before.now after.now 16 ≡ false) (IfLost before.now after.now) }
+    ensures kept { MatchResult result (λ _. some_unspecified_below rows.now.before.now rows.now.after.now 16 ≡ false) (IfLost rows.now.before.now rows.now.after.now) }
     ensures below { IfOk result (λ start. start ≤ end) }
     ensures short { IfOk result (λ start. end ≤ start + 640) }
-    ensures written { IfOk result (λ start. drop start line.new ≡ spelled_rules (rules_of (if_changed fde.now before.now after.now) (registers 16)) ++ drop end line.old) }
+    ensures written { IfOk result (λ start. drop start line.new ≡ spelled_rules (rules_of (if_changed rows.now.fde.now rows.now.before.now rows.now.after.now) (registers 16)) ++ drop end line.old) }
 {
     let mut at = end;
     let mut number = columns.end.min(16);
     'turns: while columns.first < number {
         number -= 1;
-        if !stays(before, after, number) {
-            let was = rule_at(before, number);
-            let is = rule_at(after, number);
-            if becomes_unspecified(before, after, number) {
+        if !stays(rows.before, rows.after, number) {
+            if becomes_unspecified(rows.before, rows.after, number) {
                 return Err(Unwritten::Unspecified);
             }
-            if is_expression(is) {
+            if is_expression(rule_at(rows.after, number)) {
                 return Err(Unwritten::Expression);
             }
-            at = write_column(fde, ColumnTarget::Reg(number), was, is, line, at);
+            at = write_column(rows, ColumnTarget::Reg(number), line, at);
         }
     }
     Ok(at)
@@ -310,63 +301,50 @@ fn write_registers(
 
 /// The rule of the return address, where two rows differ in it.
 #[tactic(auto, using(crate::proofs::RulesLemmas::one_lost, crate::proofs::RulesLemmas::ra_kept, crate::proofs::RulesLemmas::ra_stays, crate::proofs::RulesLemmas::no_ra_text))]
-fn write_ra(
-    fde: &Fde<'_>,
-    before: &Row,
-    after: &Row,
-    line: &mut [u8],
-    end: usize,
-) -> Result<usize, Unwritten>
-    requires kept { some_unspecified_below before.now after.now 16 ≡ false }
+fn write_ra(rows: &Rows<'_, '_, '_>, line: &mut [u8], end: usize) -> Result<usize, Unwritten>
+    requires kept { some_unspecified_below rows.now.before.now rows.now.after.now 16 ≡ false }
     requires room { 40 ≤ end }
     requires within { end ≤ length line.old }
-    ensures kept { MatchResult result (λ _. some_becomes_unspecified before.now after.now ≡ false) (IfLost before.now after.now) }
+    ensures kept { MatchResult result (λ _. some_becomes_unspecified rows.now.before.now rows.now.after.now ≡ false) (IfLost rows.now.before.now rows.now.after.now) }
     ensures below { IfOk result (λ start. start ≤ end) }
     ensures short { IfOk result (λ start. end ≤ start + 40) }
-    ensures written { IfOk result (λ start. drop start line.new ≡ rule_text Ra (if_other fde.now Ra (column_part 16 (rule_at before.now 16)) (column_part 16 (rule_at after.now 16))) ++ drop end line.old) }
+    ensures written { IfOk result (λ start. drop start line.new ≡ rule_text Ra (if_other rows.now.fde.now Ra (column_part 16 (rule_at rows.now.before.now 16)) (column_part 16 (rule_at rows.now.after.now 16))) ++ drop end line.old) }
 {
-    if stays(before, after, 16) {
+    if stays(rows.before, rows.after, 16) {
         return Ok(end);
     }
-    let was = rule_at(before, 16);
-    let is = rule_at(after, 16);
-    if becomes_unspecified(before, after, 16) {
+    if becomes_unspecified(rows.before, rows.after, 16) {
         return Err(Unwritten::Unspecified);
     }
-    if is_expression(is) {
+    if is_expression(rule_at(rows.after, 16)) {
         return Err(Unwritten::Expression);
     }
-    Ok(write_column(fde, ColumnTarget::Ra, was, is, line, end))
+    Ok(write_column(rows, ColumnTarget::Ra, line, end))
 }
 
 /// The rules of the targets in which two rows of an entry differ, where no column becomes unspecified and none of these rules is an
 /// expression. The two differ in no column outside of those that are given.
 #[tactic(auto, using(crate::proofs::RulesLemmas::all_rules))]
 pub fn write_changes(
-    fde: &Fde<'_>,
+    rows: &Rows<'_, '_, '_>,
     columns: Columns,
-    before: &Row,
-    after: &Row,
     line: &mut [u8],
     end: usize,
 ) -> Result<usize, Unwritten>
-    requires alike { StayOutside columns before.now after.now }
+    requires alike { StayOutside columns rows.now.before.now rows.now.after.now }
     requires room { 720 ≤ end }
     requires within { end ≤ length line.old }
-    ensures kept { MatchResult result (λ _. some_becomes_unspecified before.now after.now ≡ false) (IfLost before.now after.now) }
+    ensures kept { MatchResult result (λ _. some_becomes_unspecified rows.now.before.now rows.now.after.now ≡ false) (IfLost rows.now.before.now rows.now.after.now) }
     ensures below { IfOk result (λ start. start ≤ end) }
     ensures short { IfOk result (λ start. end ≤ start + 720) }
-    ensures written { IfOk result (λ start. drop start line.new ≡ spelled_rules (changed_rules fde.now before.now after.now) ++ drop end line.old) }
+    ensures written { IfOk result (λ start. drop start line.new ≡ spelled_rules (changed_rules rows.now.fde.now rows.now.before.now rows.now.after.now) ++ drop end line.old) }
 {
-    let at = match write_registers(fde, columns, before, after, line, end) {
+    let at = match write_registers(rows, columns, line, end) {
         Ok(at) => at,
         Err(why) => return Err(why),
     };
-    let at = match write_ra(fde, before, after, line, at) {
-        Ok(at) => at,
-        Err(why) => return Err(why),
-    };
-    match write_cfa(fde, before, after, line, at) {
+    let at = write_ra(rows, line, at)?;
+    match write_cfa(rows, line, at) {
         Ok(at) => Ok(at),
         Err(_) => Err(Unwritten::Expression),
     }
@@ -391,7 +369,12 @@ pub fn write_row_rules(fde: &Fde<'_>, row: &Row, line: &mut [u8]) -> Option<usiz
     ensures written { IfSome result (λ start. drop start line.new ≡ spelled_rules (row_rules fde.now row.now) ++ 10 ∷ []) }
 {
     let end = write_last(b'\n', line);
-    match write_changes(fde, Columns::all(), &empty_row(), row, line, end) {
+    let rows = Rows {
+        fde,
+        before: &empty_row(),
+        after: row,
+    };
+    match write_changes(&rows, Columns::all(), line, end) {
         Ok(at) => Some(at),
         Err(_) => None,
     }

@@ -8,7 +8,7 @@ ghost use Rattle.rule_postfix.specs.Written.{Decided, with_entries};
 ghost use Rattle.rule_postfix.specs.internal.Deciding.{LiesAbove, Shows, none_decided};
 
 use crate::cie_states::is_long;
-use crate::progress::{Progress, put_range};
+use crate::progress::{Progress, Setting, put_range};
 use crate::written_ranges::WrittenRanges;
 use frame_entries::{Body, EntryList};
 use range_set::Enclosing;
@@ -17,7 +17,7 @@ use std::marker::Model;
 use std::mem::replace;
 use std::thread::Threads;
 use sym_edges::{OutOfMemory, Span};
-use unit_workers::{NoGate, UnitJob, run_all, share_bounds};
+use unit_workers::{Crew, NoGate, UnitJob, share_bounds};
 
 /// The fewest entries that a share has, where a section has as many.
 const LEAST: usize = 512;
@@ -53,27 +53,24 @@ fn share_size(entries: &EntryList<'_>, workers: usize) -> usize
 /// Decides the entries of share `k`.
 #[tactic(auto, using(unit_workers::proofs::ShareLemmas::share_between))]
 fn put_share(
-    alloc: Global,
+    setting: Setting<'_>,
     progress: &mut Progress,
     entries: &EntryList<'_>,
-    code: &Enclosing,
-    base: u64,
     size: usize,
     k: usize,
 ) -> Result<(), OutOfMemory>
-    requires { LiesAbove base code.now }
-    ensures { OnOk result ((d : Decided) → Shows base progress.old d → Shows base progress.new (with_entries code.now (share size k entries.now) d)) }
+    requires { LiesAbove setting.base setting.code.now }
+    ensures { OnOk result ((d : Decided) → Shows setting.entry.base progress.old d → Shows setting.entry.base progress.new (with_entries setting.entry.code.now (share size k entries.now) d)) }
 {
     let (from, to) = share_bounds(entries.len(), size, k);
-    put_range(alloc, progress, entries, code, base, from, to)
+    put_range(setting, progress, entries, from, to)
 }
 
 /// The shares of a section's entries, each decided as if no range were taken.
 #[derive(Drop)]
 struct Translator<'s, 'a> {
+    setting: Setting<'s>,
     entries: &'s EntryList<'a>,
-    code: &'s Enclosing,
-    base: u64,
     size: usize,
 }
 
@@ -83,25 +80,19 @@ impl<'s, 'a> Model for Translator<'s, 'a> {
 
     ghost Value = { TranslatorParts };
 
-    ghost view = { λ t. record { entries = t.entries.now; code = t.code.now; base = t.base; size = t.size } };
+    ghost view = { λ t. record { entries = t.entries.now; code = t.setting.code.now; base = t.setting.base; size = t.size } };
 
-    ghost invariant = { λ t. LiesAbove t.base t.code.now };
+    ghost invariant = { λ t. LiesAbove t.setting.base t.setting.code.now };
 }
 
 impl<'s, 'a> Translator<'s, 'a> {
-    fn of(
-        entries: &'s EntryList<'a>,
-        code: &'s Enclosing,
-        base: u64,
-        size: usize,
-    ) -> Translator<'s, 'a>
-        requires { LiesAbove base code.now }
-        ensures { result ≡ record { entries = entries.now; code = code.now; base = base; size = size } }
+    fn of(setting: Setting<'s>, entries: &'s EntryList<'a>, size: usize) -> Translator<'s, 'a>
+        requires { LiesAbove setting.base setting.code.now }
+        ensures { result ≡ record { entries = entries.now; code = setting.entry.code.now; base = setting.entry.base; size = size } }
     {
         Translator {
+            setting,
             entries,
-            code,
-            base,
             size,
         }
     }
@@ -120,15 +111,7 @@ impl<'s, 'a> UnitJob for Translator<'s, 'a> {
 
     fn run(&self, alloc: Global, k: usize, _scratch: &mut ()) -> Result<Progress, OutOfMemory> {
         let mut progress = Progress::new(alloc);
-        put_share(
-            alloc,
-            &mut progress,
-            self.entries,
-            self.code,
-            self.base,
-            self.size,
-            k,
-        )?;
+        put_share(self.setting, &mut progress, self.entries, self.size, k)?;
         Ok(progress)
     }
 }
@@ -171,7 +154,6 @@ fn take_all(
 
 /// Adds what was decided of share `k`, or decides its entries anew where a range of theirs meets one that is taken.
 fn join_share(
-    alloc: Global,
     progress: &mut Progress,
     translator: &Translator<'_, '_>,
     part: Progress,
@@ -182,11 +164,9 @@ fn join_share(
 {
     if meets_any(&progress.taken, part.taken.as_slice()) {
         return put_share(
-            alloc,
+            translator.setting,
             progress,
             translator.entries,
-            translator.code,
-            translator.base,
             translator.size,
             k,
         );
@@ -197,7 +177,7 @@ fn join_share(
         taken,
         ..
     } = part;
-    take_all(alloc, &mut progress.taken, taken)?;
+    take_all(translator.setting.alloc, &mut progress.taken, taken)?;
     progress.text.append(text)?;
     progress.omitted.append(&mut omitted)?;
     Ok(())
@@ -205,7 +185,6 @@ fn join_share(
 
 /// Adds what was decided of all shares, in their order.
 fn join_shares(
-    alloc: Global,
     progress: &mut Progress,
     translator: &Translator<'_, '_>,
     mut parts: Vec<Progress>,
@@ -215,32 +194,28 @@ fn join_shares(
     ensures { OnOk result ((d : Decided) → Shows translator.now.base progress.old d → Shows translator.now.base progress.new (with_entries translator.now.code translator.now.entries d)) }
 {
     'shares: for k in 0..parts.len() {
-        let part = replace(&mut parts[k], Progress::new(alloc));
-        join_share(alloc, progress, translator, part, k)?;
+        let part = replace(&mut parts[k], Progress::new(translator.setting.alloc));
+        join_share(progress, translator, part, k)?;
     }
     Ok(())
 }
 
-/// Decides the entries of one section in order, by `workers` workers, 1 to 64.
+/// Decides the entries of one section in order, by a crew of workers.
 pub fn put_entries<R: Threads + Sync>(
-    rt: &R,
-    alloc: Global,
+    crew: &Crew<'_, R>,
+    setting: Setting<'_>,
     progress: &mut Progress,
     entries: &EntryList<'_>,
-    code: &Enclosing,
-    base: u64,
-    workers: usize,
 ) -> Result<(), OutOfMemory>
-    requires above { LiesAbove base code.now }
-    requires workers { (1 ≤ workers) × (workers ≤ 64) }
-    ensures { OnOk result ((d : Decided) → Shows base progress.old d → Shows base progress.new (with_entries code.now entries.now d)) }
+    requires above { LiesAbove setting.base setting.code.now }
+    ensures { OnOk result ((d : Decided) → Shows setting.entry.base progress.old d → Shows setting.entry.base progress.new (with_entries setting.entry.code.now entries.now d)) }
 {
-    let size = share_size(entries, workers);
+    let size = share_size(entries, crew.workers());
     let count = (entries.len() / size).saturating_add(1);
     if count as u64 > 1 << 32 {
         return Err(OutOfMemory);
     }
-    let translator = Translator::of(entries, code, base, size);
-    let parts = run_all(rt, alloc, &translator, &NoGate, count, workers)?;
-    join_shares(alloc, progress, &translator, parts)
+    let translator = Translator::of(setting, entries, size);
+    let parts = crew.run(&translator, &NoGate, count)?;
+    join_shares(progress, &translator, parts)
 }

@@ -8,11 +8,11 @@ use Rattle.rule_postfix.proofs.open_init.put_row.Goals as goal
 pub returns-in-Ok : goal.returns-in-Ok
 returns-in-Ok c =
     IfOk-weaker c.add_end.result _ _ (λ _ more front o so.
-    change_spelled c.args.fde.now front c.args.text.now.items c.args.base c.args.rows.now.address c.args.rows.now.before.now c.args.rows.now.after.now c.args.open.now _ o c.in-Ok.ensures.kept refl
+    change_spelled c.args.change.now.fde.now front c.args.text.now.items c.args.change.now.base c.args.change.now.address c.args.change.now.before.now c.args.change.now.after.now c.args.open.now _ o c.in-Ok.ensures.kept refl
     (more ∙ ap (λ l. c.args.open.now.body.items ++ l) c.in-Ok.ensures.written) so)
     c.add_end.ensures
 
 pub returns-in-Err-Unspecified : goal.returns-in-Err-Unspecified
 returns-in-Err-Unspecified c =
-    let P : Unwritten → Type 0 = IfLost c.args.rows.now.before.now c.args.rows.now.after.now in
-    IfOk-weaker c.cut.result _ _ (λ _ more front o so. more front c.args.rows.now.before.now o (subst P c.in-Err-Unspecified.field-0-is c.in-Err-Unspecified.ensures.kept) (record { based = so.based; start = so.start; body = so.body; lines = so.lines })) c.cut.ensures
+    let P : Unwritten → Type 0 = IfLost c.args.change.now.before.now c.args.change.now.after.now in
+    IfOk-weaker c.cut.result _ _ (λ _ more front o so. more front c.args.change.now.before.now o (subst P c.in-Err-Unspecified.field-0-is c.in-Err-Unspecified.ensures.kept) (record { based = so.based; start = so.start; body = so.body; lines = so.lines })) c.cut.ensures

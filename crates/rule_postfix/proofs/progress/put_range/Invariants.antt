@@ -6,6 +6,6 @@ use Rattle.rule_postfix.proofs.progress.put_range.Given as goal
 
 abbrev pub invariant-entries : goal.invariant-entries
 invariant-entries l = record {
-  shown : (d : Decided) → Shows l.base l.initial.progress d → Shows l.base l.progress (with_entries l.code (take (l.i - l.from) (drop l.from l.entries)) d);
+  shown : (d : Decided) → Shows l.setting.base l.initial.progress d → Shows l.setting.base l.progress (with_entries l.setting.code.now (take (l.i - l.from) (drop l.from l.entries)) d);
   kept : KeptForAll l.states l.entries;
 }

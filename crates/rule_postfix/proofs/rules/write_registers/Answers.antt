@@ -5,18 +5,18 @@ use Rattle.rule_postfix.proofs.rules.write_registers.Goals as goal
 
 pub turns-preserved : goal.turns-preserved
 turns-preserved c =
-    let same : rule_at c.args.before.now (c.turns.number - 1) ≡ rule_at c.args.after.now (c.turns.number - 1) = c.stays.ensures c.if-not-stays.false in
+    let same : rule_at c.args.rows.now.before.now (c.turns.number - 1) ≡ rule_at c.args.rows.now.after.now (c.turns.number - 1) = c.stays.ensures c.if-not-stays.false in
     record {
       small = omega arith;
       low = c.turns.invariant.low;
       near = omega arith;
-      kept = stays_kept c.args.before.now c.args.after.now c.turns.number (c.turns.number - 1) (omega arith) (omega arith) c.turns.invariant.kept same;
-      written = register_stays c.args.fde.now c.args.before.now c.args.after.now c.turns.number (c.turns.number - 1) (drop c.args.end c.args.line.now) (drop c.turns.at c.turns.line) (omega arith) (omega arith) c.turns.invariant.written same;
+      kept = stays_kept c.args.rows.now.before.now c.args.rows.now.after.now c.turns.number (c.turns.number - 1) (omega arith) (omega arith) c.turns.invariant.kept same;
+      written = register_stays c.args.rows.now.fde.now c.args.rows.now.before.now c.args.rows.now.after.now c.turns.number (c.turns.number - 1) (drop c.args.end c.args.line.now) (drop c.turns.at c.turns.line) (omega arith) (omega arith) c.turns.invariant.written same;
     }
 
 pub returns-clause-kept : goal.returns-clause-kept
-returns-clause-kept c = all_kept c.args.columns c.args.before.now c.args.after.now c.turns.number c.requires.alike (omega arith) c.turns.invariant.small c.turns.invariant.kept
+returns-clause-kept c = all_kept c.args.columns c.args.rows.now.before.now c.args.rows.now.after.now c.turns.number c.requires.alike (omega arith) c.turns.invariant.small c.turns.invariant.kept
 
 pub returns-clause-written : goal.returns-clause-written
 returns-clause-written c =
-    all_registers c.args.fde.now c.args.columns c.args.before.now c.args.after.now c.turns.number (drop c.args.end c.args.line.now) (drop c.turns.at c.turns.line) c.requires.alike (omega arith) c.turns.invariant.small c.turns.invariant.written
+    all_registers c.args.rows.now.fde.now c.args.columns c.args.rows.now.before.now c.args.rows.now.after.now c.turns.number (drop c.args.end c.args.line.now) (drop c.turns.at c.turns.line) c.requires.alike (omega arith) c.turns.invariant.small c.turns.invariant.written

@@ -9,8 +9,8 @@ invariant-turns l = record {
   small : l.number ≤ 16;
   low : l.at ≤ l.end;
   near : l.end ≤ l.at + 40 * (16 - l.number);
-  kept : some_unspecified_from l.before l.after l.number ≡ false;
-  written : drop l.at l.line ≡ spelled_rules (rules_of (if_changed l.fde l.before l.after) (registers_from l.number)) ++ drop l.end l.fn.line;
+  kept : some_unspecified_from l.rows.before.now l.rows.after.now l.number ≡ false;
+  written : drop l.at l.line ≡ spelled_rules (rules_of (if_changed l.rows.fde.now l.rows.before.now l.rows.after.now) (registers_from l.number)) ++ drop l.end l.fn.line;
 }
 
 abbrev pub decreases-turns : goal.decreases-turns
