@@ -7,6 +7,7 @@ use std::test::Fail;
 use std::thread::Threads;
 use test_rows::Holding;
 use test_rows::elf::{EIGHT_OR_FOUR, LONG_CODE, NULL, UNIT, file_of};
+use unit_workers::Crew;
 
 /// A file of two units of one entry.
 fn two_units(alloc: Global) -> Result<Vec<u8>, AllocError> {
@@ -29,7 +30,7 @@ fn entries_of<R: Threads + Sync>(
     gate: &Holding,
 ) -> Result<Vec<u64>, Fail> {
     let image = read_image(alloc, file)?;
-    let read = read_debug(rt, alloc, &image, gate, 2)?;
+    let read = read_debug(&Crew::new(rt, alloc, 2), &image, gate)?;
     let mut counts = Vec::new(alloc);
     for unit in read.units.as_slice() {
         counts.push(unit.die.dies().len() as u64)?;

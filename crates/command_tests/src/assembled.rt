@@ -11,7 +11,7 @@ use std::alloc::Global;
 use std::test::Fail;
 use std::thread::Threads;
 use sym_edges::{CallList, MemSink, OutOfMemory};
-use unit_workers::NoGate;
+use unit_workers::{Crew, NoGate};
 
 /// How many headers, units and frame entries of each section were read, and what is made of them.
 fn made_of<R: Threads + Sync>(
@@ -28,7 +28,7 @@ fn made_of<R: Threads + Sync>(
         read.first.len(),
         read.second.len(),
     ];
-    let dumped = assemble(rt, alloc, image, read, b"a.out", false, 4)?;
+    let dumped = assemble(&Crew::new(rt, alloc, 4), image, read, b"a.out", false)?;
     Ok((counts, dumped))
 }
 
@@ -38,7 +38,7 @@ fn made_of_image<R: Threads + Sync>(
     alloc: Global,
     image: &Image<'_>,
 ) -> Result<([usize; 4], Dumped), Fail> {
-    match read_debug(rt, alloc, image, &NoGate, 4) {
+    match read_debug(&Crew::new(rt, alloc, 4), image, &NoGate) {
         Ok(read) => Ok(made_of(rt, alloc, image, &read)?),
         Err(_) => Err("nothing is read".into()),
     }

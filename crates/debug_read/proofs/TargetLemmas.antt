@@ -2,6 +2,7 @@
 use Rattle.std.proofs.Common.{◌≡◌, ℕ, zero, suc, ◌+◌, ◌-◌, ◌<◌, ◌≤◌, ◌&&◌, ◌||◌, nat_le, nat_lt, Bool, true, false, if◌then◌else◌, List, [], ◌∷◌, ◌++◌, length, take, get_or, Option, Some, None, arith, refl, sym, ap, ◌∙◌}
 use Rattle.std.specs.List.{flat_map, list_any, slice_get, slice_index_or}
 use Rattle.std.specs.List.Sorted.{IsNonDecreasing, IsPartitionPoint, IsPermutation}
+use Rattle.std.proofs.Math.Bool.{and-false, or-false}
 use Rattle.std.proofs.lemmas.Bool.Decides.{nat_tests}
 use Rattle.std.proofs.lemmas.List.{flat_map_more, take_all}
 use Rattle.std.proofs.lemmas.List.Folds.{list_any-append}
@@ -31,13 +32,9 @@ pub all_taken : {X : Type 0} (xs : List X) (n : ℕ) → length xs ≤ n → xs 
 all_taken xs n past = sym (take_all n xs past)
 
 -- a place of the supplementary file lies in a unit where the place through both files is one of it
-or_false : (b : Bool) → (b || false) ≡ b
-or_false true = refl
-or_false false = refl
-
 shifted : (first place low high : ℕ) (b : Bool) → nat_le first place ≡ b → list_any (λ (p : ℕ). nat_le low p && nat_lt p high) (if b then (place - first) ∷ [] else []) ≡ (nat_le (first + low) place && nat_lt place (first + high))
 shifted first place low high true is =
-    or_false (nat_le low (place - first) && nat_lt (place - first) high)
+    or-false (nat_le low (place - first) && nat_lt (place - first) high)
     ∙ ap (λ b. b && nat_lt (place - first) high) (let le : first ≤ place = grind (arith, nat_tests) in grind (arith, nat_tests))
     ∙ ap (λ b. nat_le (first + low) place && b) (let le : first ≤ place = grind (arith, nat_tests) in grind (arith, nat_tests))
 shifted first place low high false is =
@@ -83,12 +80,8 @@ none_behind : (unit : Unit) (xs : List ℕ) → ((k d : ℕ) → k < length xs �
 none_behind unit [] past = refl
 none_behind unit (x ∷ xs) past =
     let here : unit.end ≤ x = past 0 0 (omega arith) in
-    let not_here : lies_in unit x ≡ false = ap (λ b. nat_le unit.start x && b) (let no : nat_lt x unit.end ≡ false = grind (arith, nat_tests) in no) ∙ and_false (nat_le unit.start x) in
+    let not_here : lies_in unit x ≡ false = ap (λ b. nat_le unit.start x && b) (let no : nat_lt x unit.end ≡ false = grind (arith, nat_tests) in no) ∙ and-false (nat_le unit.start x) in
     ap (λ b. b || list_any (lies_in unit) xs) not_here ∙ none_behind unit xs (λ k d h. past (suc k) d (omega arith))
-  where
-    and_false : (b : Bool) → (b && false) ≡ false
-    and_false true = refl
-    and_false false = refl
 
 -- there is a place, and it stands before the end
 abbrev pub ends_before : ℕ → Option ℕ → Bool

@@ -1,5 +1,5 @@
 //! The debugging information of a file.
-ghost use Rattle.std.specs.Prelude.{◌≡◌, ◌≤◌, Err};
+ghost use Rattle.std.specs.Prelude.{◌≡◌, Err};
 ghost use Rattle.sym_edges.specs.Outside.{MatchStop};
 ghost use Rattle.debug_read.specs.DebugSays.{debug_says, IsDebugRead};
 
@@ -8,12 +8,11 @@ use crate::found::DebugRead;
 use crate::units::{BothRead, read_both};
 use elf_sections::Image;
 use frame_entries::entries;
-use std::alloc::Global;
 use std::thread::Threads;
 use sym_edges::{Sect, Stop};
-use unit_workers::Gate;
+use unit_workers::{Crew, Gate};
 
-/// All debugging information of an image, by `workers` workers, 1 to 64: the headers of the units of `.debug_info`, the units
+/// All debugging information of an image, by a crew of workers: the headers of the units of `.debug_info`, the units
 /// that are read, in their order, and the entries of `.eh_frame` and of `.debug_frame`. `gate` is told of each unit of the file
 /// before it is read, by its number among those that are read. Where the image has the sections of a supplementary file
 /// (DWARF 5, 7.3.6), its units stand behind those of the file; their entries have no addresses, and they no lines.
@@ -24,19 +23,17 @@ use unit_workers::Gate;
 /// nothing. A `.debug_info` of more than 2^29 bytes, which no file that is dumped has, wants more memory than there is.
 #[tactic(auto, unfolding(crate::specs::DebugSays::debug_says))]
 pub fn read_debug<'a, R: Threads + Sync, G: Gate + Sync>(
-    rt: &R,
-    alloc: Global,
+    crew: &Crew<'_, R>,
     image: &Image<'a>,
     gate: &G,
-    workers: usize,
 ) -> Result<DebugRead<'a>, Stop<DebugFault>>
-    requires { (1 ≤ workers) × (workers ≤ 64) }
     ensures { MatchStop result
         (λ read. IsDebugRead image.now read)
         (λ fault. debug_says image.now ≡ Err fault)
         (Prim.Unit {0}) }
 {
-    let both = match read_both(rt, alloc, image, gate, workers) {
+    let alloc = crew.alloc();
+    let both = match read_both(crew, image, gate) {
         Ok(both) => both,
         Err(stop) => return Err(stop),
     };

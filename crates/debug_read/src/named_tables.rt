@@ -1,6 +1,6 @@
 //! The line tables that units name. A table whose lines are kept is read once for all units that name it with one compilation
 //! directory. Where no unit keeps the lines at an offset, the table there is read once, for its faults.
-ghost use Rattle.std.specs.Prelude.{◌≡◌, ◌≤◌, true, ℕ, List, [], unwrap_or, IfOk, IfSome};
+ghost use Rattle.std.specs.Prelude.{◌≡◌, true, ℕ, List, [], unwrap_or, IfOk, IfSome};
 ghost use Rattle.std.specs.List.{All};
 ghost use Rattle.abbrev_units.specs.DebugSections.{DebugSections};
 ghost use Rattle.sym_edges.specs.Addresses.{Range};
@@ -19,10 +19,10 @@ use std::cmp::Ordering;
 use std::marker::Model;
 use std::thread::Threads;
 use sym_edges::{OutOfMemory, Stop};
-use unit_workers::{NoGate, UnitJob, run_all};
+use unit_workers::{Crew, NoGate, UnitJob};
 
-/// What tells a line table: its offset; whether its lines are kept; and where they are, the directory of the compilation, which
-/// stands in its paths.
+/// What tells line tables apart: the offset, whether lines are kept, and, where they are, the compilation directory, which is a part of
+/// the paths.
 #[derive(Clone, Copy)]
 pub struct TableName<'a> {
     pub offset: u64,
@@ -208,22 +208,19 @@ fn names_of<'a>(
 
 /// The tables of all units, in the order of their names. Each is read once, by the workers.
 pub fn read_tables<'a, R: Threads + Sync>(
-    rt: &R,
-    alloc: Global,
+    crew: &Crew<'_, R>,
     sections: &Sections<'a>,
     code: &Enclosing,
     found: &[Result<UnitFound<'a>, DwarfFault>],
-    workers: usize,
 ) -> Result<Vec<NamedTable<'a>>, OutOfMemory>
-    requires workers { (1 ≤ workers) × (workers ≤ 64) }
     ensures { IfOk result (λ tables. All (IsTable code.now sections.now) tables.items) }
 {
-    let names = names_of(alloc, found)?;
+    let names = names_of(crew.alloc(), found)?;
     if names.len() as u64 > 1 << 32 {
         return Err(OutOfMemory);
     }
     let job = NameReader::of(sections, names.as_slice(), code);
-    let tables = run_all(rt, alloc, &job, &NoGate, names.len(), workers)?;
+    let tables = crew.run(&job, &NoGate, names.len())?;
     Ok(tables)
 }
 

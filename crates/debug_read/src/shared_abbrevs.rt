@@ -10,7 +10,7 @@ use std::alloc::Global;
 use std::marker::Model;
 use std::thread::Threads;
 use sym_edges::{OutOfMemory, Stop};
-use unit_workers::{NoGate, UnitJob, run_all};
+use unit_workers::{Crew, NoGate, UnitJob};
 
 /// The abbreviations that several units name, each with one of these units, and for each unit the number of its own, if there is
 /// one.
@@ -203,21 +203,18 @@ fn group_units(alloc: Global, units: &[Unit]) -> Result<Grouping, OutOfMemory> {
 
 /// Reads the abbreviations that several of these units name, by the workers.
 pub fn read_shared<'a, R: Threads + Sync>(
-    rt: &R,
-    alloc: Global,
+    crew: &Crew<'_, R>,
     sections: &Sections<'a>,
     units: &[Unit],
-    workers: usize,
 ) -> Result<SharedAbbrevs, OutOfMemory>
-    requires { (1 ≤ workers) × (workers ≤ 64) }
     ensures { IfOk result (λ shared. Match (IsRead sections.now) shared.firsts shared.tables) }
 {
-    let Grouping { firsts, numbers } = group_units(alloc, units)?;
+    let Grouping { firsts, numbers } = group_units(crew.alloc(), units)?;
     if firsts.len() as u64 > 1 << 32 {
         return Err(OutOfMemory);
     }
     let job = AbbrevReader::of(sections, firsts.as_slice());
-    let tables = run_all(rt, alloc, &job, &NoGate, firsts.len(), workers)?;
+    let tables = crew.run(&job, &NoGate, firsts.len())?;
     Ok(SharedAbbrevs {
         firsts,
         tables,

@@ -1,6 +1,6 @@
 //! The line table of each unit, once the entries of all were read: a handle of the table that it names, or its fault. Of a unit
 //! without a function no lines are kept.
-ghost use Rattle.std.specs.Prelude.{◌≡◌, ◌≤◌, if◌then◌else◌, Some, List, Err, IfOk};
+ghost use Rattle.std.specs.Prelude.{◌≡◌, if◌then◌else◌, Some, List, Err, IfOk};
 ghost use Rattle.sym_edges.specs.Addresses.{Range};
 ghost use Rattle.sym_edges.specs.Outside.{MatchStop};
 ghost use Rattle.abbrev_units.specs.declared.unit.Unit.{Unit};
@@ -20,6 +20,7 @@ use range_set::Enclosing;
 use std::alloc::Global;
 use std::thread::Threads;
 use sym_edges::{OutOfMemory, Span, Stop};
+use unit_workers::Crew;
 
 /// What a worker found of a unit: all but its line table, and whether one of its entries is a function.
 #[derive(Drop)]
@@ -159,21 +160,19 @@ fn settle_all<'a>(
 /// All units, with the line tables that they name, or the fault of the first one that has one. Ranges that one of the spans encloses are
 /// code.
 pub fn settle_units<'a, R: Threads + Sync>(
-    rt: &R,
-    alloc: Global,
+    crew: &Crew<'_, R>,
     sections: &Sections<'a>,
     code: &[Span],
     found: Vec<Result<UnitFound<'a>, DwarfFault>>,
-    workers: usize,
 ) -> Result<Vec<UnitRead<'a>>, Stop<DwarfFault>>
-    requires workers { (1 ≤ workers) × (workers ≤ 64) }
     ensures { (units : List Unit) → Match (IsOwing code.now sections.now) units found.entry.items → MatchStop result
         (λ parts. Says (Match (IsUnitRead code.now)) (each_of (unit_says sections.now) units) parts.items)
         (λ fault. each_of (unit_says sections.now) units ≡ Err fault)
         (Prim.Unit {0}) }
 {
+    let alloc = crew.alloc();
     let code = Enclosing::of_spans(alloc, code)?;
-    let tables = read_tables(rt, alloc, sections, &code, found.as_slice(), workers)?;
+    let tables = read_tables(crew, sections, &code, found.as_slice())?;
     let known = KnownTables {
         sections,
         code: &code,

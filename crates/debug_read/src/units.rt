@@ -32,7 +32,7 @@ use std::alloc::Global;
 use std::marker::Model;
 use std::thread::Threads;
 use sym_edges::{FILE_LIMIT, OutOfMemory, Span, Stop};
-use unit_workers::{Gate, NoGate, UnitJob, run_all};
+use unit_workers::{Crew, Gate, NoGate, UnitJob};
 
 /// Adds a unit that is read.
 fn add_read(read: &mut Vec<Unit>, unit: &Unit) -> Result<(), OutOfMemory>
@@ -217,38 +217,33 @@ impl<'s, 'a> UnitJob for UnitReader<'s, 'a> {
 
 /// What the workers find, unit by unit.
 fn find_all<'a, R: Threads + Sync, G: Gate + Sync>(
-    rt: &R,
-    alloc: Global,
+    crew: &Crew<'_, R>,
     sections: &Sections<'a>,
     headers: &[Unit],
     code: &[Span],
     gate: &G,
-    workers: usize,
 ) -> Result<Vec<Result<UnitFound<'a>, DwarfFault>>, OutOfMemory>
-    requires workers { (1 ≤ workers) × (workers ≤ 64) }
     requires small { length sections.now.info ≤ 2 ^ 29 }
     requires headers { units_in sections.now.info ≡ Ok headers.now }
     ensures { IfOk result (λ found. Match (IsOwing code.now sections.now) (read_units headers.now) found.items) }
 {
+    let alloc = crew.alloc();
     let code = Enclosing::of_spans(alloc, code)?;
     let read = pick_read(alloc, headers)?;
-    let shared = read_shared(rt, alloc, sections, read.as_slice(), workers)?;
+    let shared = read_shared(crew, sections, read.as_slice())?;
     let job = UnitReader::of(sections, read.as_slice(), &code, &shared);
-    let found = run_all(rt, alloc, &job, gate, read.len(), workers)?;
+    let found = crew.run(&job, gate, read.len())?;
     Ok(found)
 }
 
 /// The units that are read, or the fault of the first one that has one.
 fn read_parts<'a, R: Threads + Sync, G: Gate + Sync>(
-    rt: &R,
-    alloc: Global,
+    crew: &Crew<'_, R>,
     sections: &Sections<'a>,
     headers: &[Unit],
     code: &[Span],
     gate: &G,
-    workers: usize,
 ) -> Result<Vec<UnitRead<'a>>, Stop<DwarfFault>>
-    requires workers { (1 ≤ workers) × (workers ≤ 64) }
     requires small { length sections.now.info ≤ 2 ^ 29 }
     requires headers { units_in sections.now.info ≡ Ok headers.now }
     ensures { MatchStop result
@@ -256,8 +251,8 @@ fn read_parts<'a, R: Threads + Sync, G: Gate + Sync>(
         (λ fault. each_of (unit_says sections.now) (read_units headers.now) ≡ Err fault)
         (Prim.Unit {0}) }
 {
-    let found = find_all(rt, alloc, sections, headers, code, gate, workers)?;
-    settle_units(rt, alloc, sections, code, found, workers)
+    let found = find_all(crew, sections, headers, code, gate)?;
+    settle_units(crew, sections, code, found)
 }
 
 /// The headers of the units of a file, and the units that are read.
@@ -270,14 +265,11 @@ pub(crate) struct FileRead<'a> {
 /// The units of a file, or its first fault.
 #[tactic(auto, using(crate::proofs::FileLemmas::file_made, crate::proofs::FileLemmas::headers_fault, crate::proofs::FileLemmas::units_fault))]
 fn read_file<'a, R: Threads + Sync, G: Gate + Sync>(
-    rt: &R,
-    alloc: Global,
+    crew: &Crew<'_, R>,
     sections: &Sections<'a>,
     code: &[Span],
     gate: &G,
-    workers: usize,
 ) -> Result<FileRead<'a>, Stop<DwarfFault>>
-    requires { (1 ≤ workers) × (workers ≤ 64) }
     ensures says { MatchStop result
         (λ file. Says (IsFileRead code.now) (file_says sections.now) file)
         (λ fault. file_says sections.now ≡ Err fault)
@@ -287,11 +279,11 @@ fn read_file<'a, R: Threads + Sync, G: Gate + Sync>(
     if sections.info.len() > FILE_LIMIT {
         return Err(Stop::NoMemory);
     }
-    let headers = match units(alloc, sections.info) {
+    let headers = match units(crew.alloc(), sections.info) {
         Ok(headers) => headers,
         Err(stop) => return Err(stop),
     };
-    match read_parts(rt, alloc, sections, headers.as_slice(), code, gate, workers) {
+    match read_parts(crew, sections, headers.as_slice(), code, gate) {
         Ok(parts) => Ok(FileRead { headers, parts }),
         Err(stop) => Err(stop),
     }
@@ -321,25 +313,22 @@ fn join_files<'a>(
 
 /// The units of an image and of its supplementary file, or the first fault.
 pub fn read_both<'a, R: Threads + Sync, G: Gate + Sync>(
-    rt: &R,
-    alloc: Global,
+    crew: &Crew<'_, R>,
     image: &Image<'a>,
     gate: &G,
-    workers: usize,
 ) -> Result<BothRead<'a>, Stop<DebugFault>>
-    requires { (1 ≤ workers) × (workers ≤ 64) }
     ensures { MatchStop result
         (λ both. Says (IsBothRead image.now.code) (both_says image.now) both)
         (λ fault. both_says image.now ≡ Err fault)
         (Prim.Unit {0}) }
 {
     let own = sections_of(image);
-    let file = match read_file(rt, alloc, &own, image.code(), gate, workers) {
+    let file = match read_file(crew, &own, image.code(), gate) {
         Ok(file) => file,
         Err(stop) => return Err(dwarf_stop(stop)),
     };
     let sup = sup_sections_of(image.sup());
-    let other = match read_file(rt, alloc, &sup, image.code(), &NoGate, workers) {
+    let other = match read_file(crew, &sup, image.code(), &NoGate) {
         Ok(other) => other,
         Err(stop) => return Err(sup_stop(stop)),
     };

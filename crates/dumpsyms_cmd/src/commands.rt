@@ -17,14 +17,15 @@ use crate::sample::judge_sample;
 use crate::stacks_input::answer_stacks;
 use crate::state_input::answer_query;
 use crate::symbol_input::{answer_judged, answer_symbols};
-use crate::words::{Command, ElfPlace, USAGE, name_of, parse_words};
+use crate::watched_crew::WatchedCrew;
+use crate::words::{Command, ElfPlace, USAGE, USUAL_WORKERS, name_of, parse_words};
 use debug_read::{DebugRead, read_debug};
 use elf_sections::Image;
 use std::alloc::{AllocError, Global};
 use std::thread::Threads;
 use sym_edges::{OutOfMemory, ReadEnd, Stop, Store};
 use sym_records::ByteText;
-use unit_workers::Gate;
+use unit_workers::{Crew, Gate};
 
 /// A refusal with a line.
 pub fn refuse(line: Message) -> Judgement
@@ -40,19 +41,16 @@ pub fn refuse(line: Message) -> Judgement
 /// A dump of a source's image without faults after it.
 #[tactic(auto, using(crate::proofs::JudgedLemmas::dumps_named))]
 fn judge_records<R: Threads + Sync>(
-    rt: &R,
-    alloc: Global,
+    crew: &Crew<'_, R>,
     image: &Image<'_>,
     debug: &DebugRead<'_>,
     source: &ElfPlace<'_>,
-    workers: usize,
 ) -> Result<Judgement, OutOfMemory>
     requires found { IsDebugRead image.now debug.now }
-    requires workers { (1 ≤ workers) × (workers ≤ 64) }
     ensures { IfOk result (λ j. JudgesParts j source.now.full (module_name source.now.elf.now) image.now) }
 {
     let name = name_of(source.elf.as_bytes());
-    let dumped = assemble(rt, alloc, image, debug, name, source.full, workers)?;
+    let dumped = assemble(crew, image, debug, name, source.full)?;
     Ok(Judgement {
         status: 0,
         out: Output::Text(dumped.file),
@@ -62,19 +60,18 @@ fn judge_records<R: Threads + Sync>(
 
 /// A dump of a source's image.
 pub(crate) fn judge_image<R: Threads + Sync, G: Gate + Sync>(
-    rt: &R,
-    alloc: Global,
+    watched: &WatchedCrew<'_, R, G>,
     image: &Image<'_>,
     source: &ElfPlace<'_>,
-    gate: &G,
-    workers: usize,
 ) -> Result<Judgement, OutOfMemory>
-    requires workers { (1 ≤ workers) × (workers ≤ 64) }
     ensures { IfOk result (λ j. JudgesParts j source.now.full (module_name source.now.elf.now) image.now) }
 {
-    match read_debug(rt, alloc, image, gate, workers) {
-        Ok(debug) => judge_records(rt, alloc, image, &debug, source, workers),
-        Err(Stop::Fault(fault)) => Ok(refuse(Message::Made(debug_line(alloc, fault)?))),
+    match read_debug(&watched.crew, image, watched.gate) {
+        Ok(debug) => judge_records(&watched.crew, image, &debug, source),
+        Err(Stop::Fault(fault)) => Ok(refuse(Message::Made(debug_line(
+            watched.crew.alloc(),
+            fault,
+        )?))),
         Err(Stop::NoMemory) => Err(OutOfMemory),
     }
 }
@@ -104,37 +101,29 @@ pub fn answer_stop(stop: Stop<ReadEnd>, unread: Message) -> Answer
 /// The answer to `dump ELF`, also with `--full`, or with a debug file, by some workers.
 #[tactic(auto, using(crate::proofs::SourceLemmas::dump_answered, crate::proofs::SourceLemmas::dump_asked))]
 fn answer_dump<R: Threads + Sync, S: Store, G: Gate + Sync>(
-    rt: &R,
-    alloc: Global,
+    watched: &WatchedCrew<'_, R, G>,
     source: &ElfPlace<'_>,
-    workers: usize,
     store: &mut S,
-    gate: &G,
 ) -> Answer
-    requires workers { (1 ≤ workers) × (workers ≤ 64) }
-    ensures asked { AsksRow (Some (dump (source_view source.now) workers)) (S.files store.old) (S.asked store.old) (S.asked store.new) }
+    ensures asked { AsksRow (Some (dump (source_view source.now) watched.now.crew)) (S.files store.old) (S.asked store.old) (S.asked store.new) }
     ensures files { S.files store.new ≡ S.files store.old }
     ensures faults { S.faults store.old ≤ S.faults store.new }
     ensures steady { IsSteadyAnswer result (S.faults store.old) (S.faults store.new) }
-    ensures answered { AnswersCommand result (Some (dump (source_view source.now) workers)) (S.files store.old) (S.asked store.new) (S.faults store.old) (S.faults store.new) }
+    ensures answered { AnswersCommand result (Some (dump (source_view source.now) watched.now.crew)) (S.files store.old) (S.asked store.new) (S.faults store.old) (S.faults store.new) }
 {
-    answer_source(rt, alloc, source, workers, store, gate)
+    answer_source(watched, source, store)
 }
 
 /// The answer to `sample N`, by some workers.
 #[tactic(auto, using(crate::proofs::SampleLemmas::sample_answered))]
 fn answer_sample<R: Threads + Sync, G: Gate + Sync>(
-    rt: &R,
-    alloc: Global,
+    watched: &WatchedCrew<'_, R, G>,
     units: usize,
-    workers: usize,
-    gate: &G,
 ) -> Answer
     requires few { units ≤ 20000 }
-    requires workers { (1 ≤ workers) × (workers ≤ 64) }
-    ensures { (files : Option Files) (asked : List (List ℕ)) (before after : ℕ) → AnswersCommand result (Some (sample units workers)) files asked before after }
+    ensures { (files : Option Files) (asked : List (List ℕ)) (before after : ℕ) → AnswersCommand result (Some (sample units watched.now.crew)) files asked before after }
 {
-    answer_judged(judge_sample(rt, alloc, units as u32, gate, workers))
+    answer_judged(judge_sample(watched, units as u32))
 }
 
 /// The answer to invalid arguments.
@@ -166,14 +155,23 @@ pub fn answer_words<R: Threads + Sync, S: Store, G: Gate + Sync>(
     match parse_words(words) {
         None => answer_usage(),
         Some(Command::Dump { source, workers }) => {
-            answer_dump(rt, alloc, &source, workers, store, gate)
+            answer_dump(&WatchedCrew::new(rt, alloc, gate, workers), &source, store)
         }
-        Some(Command::Sample { units, workers }) => answer_sample(rt, alloc, units, workers, gate),
+        Some(Command::Sample { units, workers }) => {
+            answer_sample(&WatchedCrew::new(rt, alloc, gate, workers), units)
+        }
         Some(Command::Symbols { sym, query }) => answer_symbols(alloc, sym, query, store),
         Some(Command::States { sym, query, state }) => {
             answer_query(alloc, sym, query, state, store)
         }
-        Some(Command::Judge { source, sym }) => answer_judge(rt, alloc, &source, sym, store, gate),
+        Some(Command::Judge { source, sym }) => {
+            answer_judge(
+                &WatchedCrew::new(rt, alloc, gate, USUAL_WORKERS),
+                &source,
+                sym,
+                store,
+            )
+        }
         Some(Command::Stacks { core, folder }) => answer_stacks(alloc, core, folder, store),
     }
 }

@@ -26,6 +26,7 @@ use std::thread::Threads;
 use sym_edges::OutOfMemory;
 use sym_records::laws::cleaned_bytes_are_names;
 use sym_records::{ByteText, SymText, TextPieces, add_info, add_module, add_public};
+use unit_workers::Crew;
 
 /// Spells the record of the binary, under its cleaned name.
 #[tactic(auto, using(crate::proofs::RecordLemmas::module_valid), unfolding(crate::specs::commands::Dump::module_line))]
@@ -103,22 +104,20 @@ fn add_publics(
 
 /// Spells the records in front of those of frames, under the file's cleaned name.
 fn spell_head<R: Threads + Sync>(
-    rt: &R,
-    alloc: Global,
+    crew: &Crew<'_, R>,
     image: &Image<'_>,
     name: &[u8],
     units: &Units<'_>,
     pieces: &PieceList,
-    workers: usize,
 ) -> Result<TextPieces, OutOfMemory>
     requires clean { HaveCleanPaths units.now }
-    requires workers { (1 ≤ workers) × (workers ≤ 64) }
     ensures { IfOk result (λ text. HasHead image.now name.now units.now pieces.now (text_bytes text)) }
 {
+    let alloc = crew.alloc();
     let base = image.base();
     let mut front = TextPieces::new(alloc);
     put_identity(alloc, &mut front.last, image, name)?;
-    let mut text = add_functions(rt, alloc, base, units, pieces.as_slice(), workers, front)?;
+    let mut text = add_functions(crew, base, units, pieces.as_slice(), front)?;
     let found = publics(alloc, image, pieces)?;
     add_publics(alloc, base, found.as_slice(), &mut text)?;
     Ok(text)
@@ -133,27 +132,22 @@ struct FileText {
 
 /// The records of a file, spelled: those in front, and then those of its frame entries.
 fn dump_file<R: Threads + Sync>(
-    rt: &R,
-    alloc: Global,
+    crew: &Crew<'_, R>,
     image: &Image<'_>,
     name: &[u8],
     debug: &DebugRead<'_>,
-    workers: usize,
 ) -> Result<FileText, OutOfMemory>
     requires found { IsDebugRead image.now debug.now }
-    requires workers { (1 ≤ workers) × (workers ≤ 64) }
     ensures { IfOk result (λ d. DumpsRead image.now name.now debug.now d.file d.omitted) }
 {
-    let pieces = pieces(alloc, &debug.units)?;
-    let mut head = spell_head(rt, alloc, image, name, &debug.units, &pieces, workers)?;
+    let pieces = pieces(crew.alloc(), &debug.units)?;
+    let mut head = spell_head(crew, image, name, &debug.units, &pieces)?;
     let framed = translate_all(
-        rt,
-        alloc,
+        crew,
         &debug.first,
         &debug.second,
         image.code(),
         image.base(),
-        workers,
     )?;
     let Frames { text, omitted } = framed;
     head.append(text)?;
@@ -174,24 +168,21 @@ pub struct Dumped {
 
 /// Spells the symbol file of an image under a name, which is cleaned (Breakpad's symbol_files.md): MODULE, INFO, FILE, INLINE_ORIGIN,
 /// each FUNC with its INLINE and line records, PUBLIC, and the records of frames. `debug` is what `read_debug` answered for the image.
-/// Where `full`, what is left out names the units whose entries stand in another file too. It is spelled by `workers` workers, 1 to 64,
+/// Where `full`, what is left out names the units whose entries stand in another file too. It is spelled by a crew of workers,
 /// whose number changes nothing.
 pub fn assemble<R: Threads + Sync>(
-    rt: &R,
-    alloc: Global,
+    crew: &Crew<'_, R>,
     image: &Image<'_>,
     debug: &DebugRead<'_>,
     name: &[u8],
     full: bool,
-    workers: usize,
 ) -> Result<Dumped, OutOfMemory>
     requires found { IsDebugRead image.now debug.now }
-    requires workers { (1 ≤ workers) × (workers ≤ 64) }
     ensures { IfOk result (λ d. Assembles full image.now name.now d.file d.err d.omitted) }
 {
-    let text = dump_file(rt, alloc, image, name, debug, workers)?;
+    let text = dump_file(crew, image, name, debug)?;
     let FileText { file, omitted } = text;
-    let err = list_left_out(alloc, full, image, debug, omitted.as_slice())?;
+    let err = list_left_out(crew.alloc(), full, image, debug, omitted.as_slice())?;
     Ok(Dumped {
         file,
         err,

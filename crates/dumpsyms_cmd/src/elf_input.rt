@@ -16,6 +16,7 @@ use crate::commands::{answer_line, answer_stop};
 use crate::judgement::Answer;
 use crate::refusals::{debug_fault_line, fault_line, pair_line, unread_line};
 use crate::sup_input::answer_image;
+use crate::watched_crew::WatchedCrew;
 use crate::words::{DebugPlace, ElfPlace};
 use debug_pair::{PairFault, debug_path, pair};
 use elf_sections::{ElfFault, Image};
@@ -23,7 +24,7 @@ use full_image::{Inflations, PackedImage, inflate_sections, read_packed};
 use std::alloc::Global;
 use std::thread::Threads;
 use sym_edges::{FILE_LIMIT, Stop, Store, read_all};
-use unit_workers::Gate;
+use unit_workers::{Crew, Gate};
 
 /// A file whose tables were read, and what its compressed sections give.
 #[derive(Drop)]
@@ -41,18 +42,15 @@ struct Images<'i, 'b, 'd> {
 
 /// Reads the tables of a file, and its compressed sections where `full`.
 fn open_file<'a, R: Threads + Sync>(
-    rt: &R,
-    alloc: Global,
+    crew: &Crew<'_, R>,
     bytes: &'a [u8],
     full: bool,
-    workers: usize,
 ) -> Result<Opened<'a>, Stop<ElfFault>>
-    requires workers { (1 ≤ workers) × (workers ≤ 64) }
     ensures { MatchStop result (λ o. (o.packed ≡ record { full = full; file = bytes.now }) × (o.inflated ≡ outcomes_of o.packed)) (λ fault. any_image full bytes.now ≡ Err fault) (Unit {0}) }
 {
-    match read_packed(alloc, bytes, full) {
+    match read_packed(crew.alloc(), bytes, full) {
         Ok(packed) => {
-            let inflated = inflate_sections(rt, alloc, &packed, workers)?;
+            let inflated = inflate_sections(crew, &packed)?;
             Ok(Opened { packed, inflated })
         }
         Err(stop) => Err(stop),
@@ -97,24 +95,21 @@ fn find_debug(
 /// The answer by a binary and the image of its debug file, which stands at a path.
 #[tactic(auto, using(crate::proofs::SourceLemmas::pair_answered, crate::proofs::SourceLemmas::pair_asked, crate::proofs::SourceLemmas::pair_refused, crate::proofs::SourceLemmas::no_pair_asked, crate::proofs::SourceLemmas::none_asked, crate::proofs::SteadyLemmas::any_steady))]
 fn answer_pair<R: Threads + Sync, S: Store, G: Gate + Sync>(
-    rt: &R,
-    alloc: Global,
+    watched: &WatchedCrew<'_, R, G>,
     images: Images<'_, '_, '_>,
     path: &str,
     source: &ElfPlace<'_>,
-    workers: usize,
     store: &mut S,
-    gate: &G,
 ) -> Answer
-    requires workers { (1 ≤ workers) × (workers ≤ 64) }
     ensures asked { AsksAll result (read_names (source_view source.now) path.now (or_refused pair_line (pair_of images.entry.binary.now images.entry.debug.now))) (S.asked store.old) (S.asked store.new) }
     ensures files { S.files store.new ≡ S.files store.old }
     ensures faults { S.faults store.old ≤ S.faults store.new }
     ensures steady { IsSteadyAnswer result (S.faults store.old) (S.faults store.new) }
     ensures answered { AnswersImage result (then_link (source_view source.now) path.now (or_refused pair_line (pair_of images.entry.binary.now images.entry.debug.now))) (source_view source.now) (S.files store.old) (S.asked store.new) (S.faults store.old) (S.faults store.new) }
 {
+    let alloc = watched.crew.alloc();
     match pair(alloc, images.binary, images.debug) {
-        Ok(both) => answer_image(rt, alloc, both, path, source, workers, store, gate),
+        Ok(both) => answer_image(watched, both, path, source, store),
         Err(Stop::Fault(fault)) => answer_line(pair_line(alloc, fault.word())),
         Err(Stop::NoMemory) => Answer::NoMemory,
     }
@@ -122,18 +117,14 @@ fn answer_pair<R: Threads + Sync, S: Store, G: Gate + Sync>(
 /// The same by a debug file whose tables were read.
 #[tactic(auto, using(crate::proofs::SourceLemmas::debug_answered, crate::proofs::SourceLemmas::debug_asked, crate::proofs::SourceLemmas::debug_refused, crate::proofs::SourceLemmas::no_debug_asked, crate::proofs::SteadyLemmas::any_steady))]
 fn answer_unpacked<R: Threads + Sync, S: Store, G: Gate + Sync>(
-    rt: &R,
-    alloc: Global,
+    watched: &WatchedCrew<'_, R, G>,
     binary: &Image<'_>,
     opened: Opened<'_>,
     path: &str,
     source: &ElfPlace<'_>,
-    workers: usize,
     store: &mut S,
-    gate: &G,
 ) -> Answer
     requires inflated { opened.inflated ≡ outcomes_of opened.packed }
-    requires workers { (1 ≤ workers) × (workers ≤ 64) }
     ensures asked { AsksAll result (read_names (source_view source.now) path.now (debug_given binary.now (any_image opened.entry.packed.full opened.entry.packed.file))) (S.asked store.old) (S.asked store.new) }
     ensures files { S.files store.new ≡ S.files store.old }
     ensures faults { S.faults store.old ≤ S.faults store.new }
@@ -143,47 +134,38 @@ fn answer_unpacked<R: Threads + Sync, S: Store, G: Gate + Sync>(
     let Opened { packed, inflated } = opened;
     match packed.unpack(&inflated) {
         Ok(debug) => answer_pair(
-            rt,
-            alloc,
+            watched,
             Images {
                 binary,
                 debug: &debug,
             },
             path,
             source,
-            workers,
             store,
-            gate,
         ),
-        Err(fault) => answer_line(debug_fault_line(alloc, fault)),
+        Err(fault) => answer_line(debug_fault_line(watched.crew.alloc(), fault)),
     }
 }
 
 /// The same over the bytes of the debug file.
 #[tactic(auto, using(crate::proofs::SourceLemmas::debug_opened, crate::proofs::SourceLemmas::debug_opened_asked, crate::proofs::SourceLemmas::debug_refused, crate::proofs::SourceLemmas::no_debug_asked, crate::proofs::SourceLemmas::none_asked, crate::proofs::SteadyLemmas::any_steady))]
 fn answer_debug<R: Threads + Sync, S: Store, G: Gate + Sync>(
-    rt: &R,
-    alloc: Global,
+    watched: &WatchedCrew<'_, R, G>,
     binary: &Image<'_>,
     bytes: &[u8],
     path: &str,
     source: &ElfPlace<'_>,
-    workers: usize,
     store: &mut S,
-    gate: &G,
 ) -> Answer
-    requires workers { (1 ≤ workers) × (workers ≤ 64) }
     ensures asked { AsksAll result (read_names (source_view source.now) path.now (debug_given binary.now (any_image source.now.full bytes.now))) (S.asked store.old) (S.asked store.new) }
     ensures files { S.files store.new ≡ S.files store.old }
     ensures faults { S.faults store.old ≤ S.faults store.new }
     ensures steady { IsSteadyAnswer result (S.faults store.old) (S.faults store.new) }
     ensures answered { AnswersImage result (then_link (source_view source.now) path.now (debug_given binary.now (any_image source.now.full bytes.now))) (source_view source.now) (S.files store.old) (S.asked store.new) (S.faults store.old) (S.faults store.new) }
 {
-    match open_file(rt, alloc, bytes, source.full, workers) {
-        Ok(opened) => answer_unpacked(
-            rt, alloc, binary, opened, path, source, workers, store, gate,
-        ),
-        Err(Stop::Fault(fault)) => answer_line(debug_fault_line(alloc, fault)),
+    match open_file(&watched.crew, bytes, source.full) {
+        Ok(opened) => answer_unpacked(watched, binary, opened, path, source, store),
+        Err(Stop::Fault(fault)) => answer_line(debug_fault_line(watched.crew.alloc(), fault)),
         Err(Stop::NoMemory) => Answer::NoMemory,
     }
 }
@@ -192,37 +174,24 @@ fn answer_debug<R: Threads + Sync, S: Store, G: Gate + Sync>(
 /// taken after a file failed.
 #[tactic(auto, using(crate::proofs::SourceLemmas::file_unread, crate::proofs::SteadyLemmas::stop_steady, crate::proofs::SteadyLemmas::steady_behind, crate::proofs::SteadyLemmas::any_steady))]
 fn answer_file<R: Threads + Sync, S: Store, G: Gate + Sync>(
-    rt: &R,
-    alloc: Global,
+    watched: &WatchedCrew<'_, R, G>,
     binary: &Image<'_>,
     path: &str,
     source: &ElfPlace<'_>,
-    workers: usize,
     store: &mut S,
-    gate: &G,
 ) -> Answer
-    requires workers { (1 ≤ workers) × (workers ≤ 64) }
     ensures asked { AsksFile result (source_view source.now) binary.now path.now (S.files store.old) (S.asked store.old) (S.asked store.new) }
     ensures files { S.files store.new ≡ S.files store.old }
     ensures faults { S.faults store.old ≤ S.faults store.new }
     ensures steady { IsSteadyAnswer result (S.faults store.old) (S.faults store.new) }
     ensures answered { AnswersImage result (with_file (source_view source.now) binary.now path.now) (source_view source.now) (S.files store.old) (S.asked store.new) (S.faults store.old) (S.faults store.new) }
 {
+    let alloc = watched.crew.alloc();
     let Ok(unread) = unread_line(alloc, source.full, path.as_bytes()) else {
         return Answer::NoMemory;
     };
     match read_all(alloc, store, path, FILE_LIMIT) {
-        Ok(bytes) => answer_debug(
-            rt,
-            alloc,
-            binary,
-            bytes.as_slice(),
-            path,
-            source,
-            workers,
-            store,
-            gate,
-        ),
+        Ok(bytes) => answer_debug(watched, binary, bytes.as_slice(), path, source, store),
         Err(stop) => answer_stop(stop, unread),
     }
 }
@@ -230,33 +199,21 @@ fn answer_file<R: Threads + Sync, S: Store, G: Gate + Sync>(
 /// The answer by a binary whose debug file is still to be found.
 #[tactic(auto, using(crate::proofs::SourceLemmas::file_answered, crate::proofs::SourceLemmas::file_asked, crate::proofs::SourceLemmas::file_refused, crate::proofs::SourceLemmas::no_file_asked, crate::proofs::SourceLemmas::path_unknown, crate::proofs::SteadyLemmas::any_steady))]
 fn answer_place<R: Threads + Sync, S: Store, G: Gate + Sync>(
-    rt: &R,
-    alloc: Global,
+    watched: &WatchedCrew<'_, R, G>,
     binary: &Image<'_>,
     debug: DebugPlace<'_>,
     source: &ElfPlace<'_>,
-    workers: usize,
     store: &mut S,
-    gate: &G,
 ) -> Answer
-    requires workers { (1 ≤ workers) × (workers ≤ 64) }
     ensures asked { AsksPath result (source_view source.now) binary.now (path_of (debug_view debug.entry) binary.now) (S.files store.old) (S.asked store.old) (S.asked store.new) }
     ensures files { S.files store.new ≡ S.files store.old }
     ensures faults { S.faults store.old ≤ S.faults store.new }
     ensures steady { IsSteadyAnswer result (S.faults store.old) (S.faults store.new) }
     ensures answered { AnswersImage result (then_path (with_file (source_view source.now) binary.now) (path_of (debug_view debug.entry) binary.now)) (source_view source.now) (S.files store.old) (S.asked store.new) (S.faults store.old) (S.faults store.new) }
 {
+    let alloc = watched.crew.alloc();
     match find_debug(alloc, debug, binary) {
-        Ok(path) => answer_file(
-            rt,
-            alloc,
-            binary,
-            path.as_str(),
-            source,
-            workers,
-            store,
-            gate,
-        ),
+        Ok(path) => answer_file(watched, binary, path.as_str(), source, store),
         Err(Stop::Fault(word)) => answer_line(pair_line(alloc, word)),
         Err(Stop::NoMemory) => Answer::NoMemory,
     }
@@ -265,15 +222,11 @@ fn answer_place<R: Threads + Sync, S: Store, G: Gate + Sync>(
 /// The answer by the image of the ELF file.
 #[tactic(auto, using(crate::proofs::SourceLemmas::none_answered, crate::proofs::SourceLemmas::none_named, crate::proofs::SourceLemmas::some_answered, crate::proofs::SourceLemmas::some_asked))]
 fn answer_binary<R: Threads + Sync, S: Store, G: Gate + Sync>(
-    rt: &R,
-    alloc: Global,
+    watched: &WatchedCrew<'_, R, G>,
     binary: Image<'_>,
     source: &ElfPlace<'_>,
-    workers: usize,
     store: &mut S,
-    gate: &G,
 ) -> Answer
-    requires workers { (1 ≤ workers) × (workers ≤ 64) }
     ensures asked { AsksDebug result (source_view source.now) (source_view source.now).debug binary.entry (S.files store.old) (S.asked store.old) (S.asked store.new) }
     ensures files { S.files store.new ≡ S.files store.old }
     ensures faults { S.faults store.old ≤ S.faults store.new }
@@ -281,24 +234,20 @@ fn answer_binary<R: Threads + Sync, S: Store, G: Gate + Sync>(
     ensures answered { AnswersImage result (with_debug (source_view source.now) (source_view source.now).debug binary.entry) (source_view source.now) (S.files store.old) (S.asked store.new) (S.faults store.old) (S.faults store.new) }
 {
     match source.debug {
-        None => answer_image(rt, alloc, binary, source.elf, source, workers, store, gate),
-        Some(debug) => answer_place(rt, alloc, &binary, debug, source, workers, store, gate),
+        None => answer_image(watched, binary, source.elf, source, store),
+        Some(debug) => answer_place(watched, &binary, debug, source, store),
     }
 }
 
 /// The same by the ELF file, whose tables were read.
 #[tactic(auto, using(crate::proofs::SourceLemmas::binary_answered, crate::proofs::SourceLemmas::binary_refused, crate::proofs::SourceLemmas::binary_asked, crate::proofs::SourceLemmas::refused_asked, crate::proofs::SteadyLemmas::any_steady))]
 fn answer_opened<R: Threads + Sync, S: Store, G: Gate + Sync>(
-    rt: &R,
-    alloc: Global,
+    watched: &WatchedCrew<'_, R, G>,
     opened: Opened<'_>,
     source: &ElfPlace<'_>,
-    workers: usize,
     store: &mut S,
-    gate: &G,
 ) -> Answer
     requires inflated { opened.inflated ≡ outcomes_of opened.packed }
-    requires workers { (1 ≤ workers) × (workers ≤ 64) }
     ensures asked { AsksBehind result (source_view source.now) (or_refused elf_line (any_image opened.entry.packed.full opened.entry.packed.file)) (S.files store.old) (S.asked store.old) (S.asked store.new) }
     ensures files { S.files store.new ≡ S.files store.old }
     ensures faults { S.faults store.old ≤ S.faults store.new }
@@ -307,32 +256,28 @@ fn answer_opened<R: Threads + Sync, S: Store, G: Gate + Sync>(
 {
     let Opened { packed, inflated } = opened;
     match packed.unpack(&inflated) {
-        Ok(binary) => answer_binary(rt, alloc, binary, source, workers, store, gate),
-        Err(fault) => answer_line(fault_line(alloc, fault)),
+        Ok(binary) => answer_binary(watched, binary, source, store),
+        Err(fault) => answer_line(fault_line(watched.crew.alloc(), fault)),
     }
 }
 
 /// The same over the bytes of the ELF file.
 #[tactic(auto, using(crate::proofs::SourceLemmas::opened_answered, crate::proofs::SourceLemmas::opened_asked, crate::proofs::SourceLemmas::binary_refused, crate::proofs::SourceLemmas::refused_asked, crate::proofs::SourceLemmas::memory_asked, crate::proofs::SteadyLemmas::any_steady))]
 fn answer_bytes<R: Threads + Sync, S: Store, G: Gate + Sync>(
-    rt: &R,
-    alloc: Global,
+    watched: &WatchedCrew<'_, R, G>,
     bytes: &[u8],
     source: &ElfPlace<'_>,
-    workers: usize,
     store: &mut S,
-    gate: &G,
 ) -> Answer
-    requires workers { (1 ≤ workers) × (workers ≤ 64) }
     ensures asked { AsksBehind result (source_view source.now) (or_refused elf_line (any_image source.now.full bytes.now)) (S.files store.old) (S.asked store.old) (S.asked store.new) }
     ensures files { S.files store.new ≡ S.files store.old }
     ensures faults { S.faults store.old ≤ S.faults store.new }
     ensures steady { IsSteadyAnswer result (S.faults store.old) (S.faults store.new) }
     ensures answered { AnswersImage result (then_debug (source_view source.now) (or_refused elf_line (any_image source.now.full bytes.now))) (source_view source.now) (S.files store.old) (S.asked store.new) (S.faults store.old) (S.faults store.new) }
 {
-    match open_file(rt, alloc, bytes, source.full, workers) {
-        Ok(opened) => answer_opened(rt, alloc, opened, source, workers, store, gate),
-        Err(Stop::Fault(fault)) => answer_line(fault_line(alloc, fault)),
+    match open_file(&watched.crew, bytes, source.full) {
+        Ok(opened) => answer_opened(watched, opened, source, store),
+        Err(Stop::Fault(fault)) => answer_line(fault_line(watched.crew.alloc(), fault)),
         Err(Stop::NoMemory) => Answer::NoMemory,
     }
 }
@@ -341,25 +286,22 @@ fn answer_bytes<R: Threads + Sync, S: Store, G: Gate + Sync>(
 /// and says where it is.
 #[tactic(auto, using(crate::proofs::SourceLemmas::elf_stopped, crate::proofs::SourceLemmas::elf_not_read, crate::proofs::SourceLemmas::nothing_asked, crate::proofs::SteadyLemmas::stop_steady, crate::proofs::SteadyLemmas::steady_behind, crate::proofs::SteadyLemmas::any_steady))]
 pub(crate) fn answer_source<R: Threads + Sync, S: Store, G: Gate + Sync>(
-    rt: &R,
-    alloc: Global,
+    watched: &WatchedCrew<'_, R, G>,
     source: &ElfPlace<'_>,
-    workers: usize,
     store: &mut S,
-    gate: &G,
 ) -> Answer
-    requires workers { (1 ≤ workers) × (workers ≤ 64) }
     ensures asked { AsksSource result (source_view source.now) (S.files store.old) (S.asked store.old) (S.asked store.new) }
     ensures files { S.files store.new ≡ S.files store.old }
     ensures faults { S.faults store.old ≤ S.faults store.new }
     ensures steady { IsSteadyAnswer result (S.faults store.old) (S.faults store.new) }
     ensures answered { AnswersImage result (given_image (source_view source.now)) (source_view source.now) (S.files store.old) (S.asked store.new) (S.faults store.old) (S.faults store.new) }
 {
+    let alloc = watched.crew.alloc();
     let Ok(unread) = unread_line(alloc, source.full, source.elf.as_bytes()) else {
         return Answer::NoMemory;
     };
     match read_all(alloc, store, source.elf, FILE_LIMIT) {
-        Ok(bytes) => answer_bytes(rt, alloc, bytes.as_slice(), source, workers, store, gate),
+        Ok(bytes) => answer_bytes(watched, bytes.as_slice(), source, store),
         Err(stop) => answer_stop(stop, unread),
     }
 }

@@ -12,6 +12,7 @@ use crate::judgement::{Answer, Judgement, Output};
 use crate::read_back::read_back;
 use crate::refusals::unread_line;
 use crate::symbol_input::{answer_end, answer_judged};
+use crate::watched_crew::WatchedCrew;
 use crate::words::ElfPlace;
 use std::alloc::Global;
 use std::thread::Threads;
@@ -19,9 +20,6 @@ use sym_edges::{FILE_LIMIT, OutOfMemory, Store};
 use sym_grammar::read_file;
 use sym_records::SymFile;
 use unit_workers::Gate;
-
-/// How many workers dump the ELF file.
-const WORKERS: usize = 4;
 
 /// The answer to a symbol file, against records. The line for a file that cannot be read, which has its name where `full`, is made
 /// before, since no memory is taken after a file failed.
@@ -74,12 +72,10 @@ fn answer_dumped<S: Store>(
 /// The answer to `judge ELF SYM`, also with `--full`, or with a debug file. The source is read and dumped first.
 #[tactic(auto, using(crate::proofs::SteadyLemmas::steady_behind))]
 pub(crate) fn answer_judge<R: Threads + Sync, S: Store, G: Gate + Sync>(
-    rt: &R,
-    alloc: Global,
+    watched: &WatchedCrew<'_, R, G>,
     source: &ElfPlace<'_>,
     sym: &str,
     store: &mut S,
-    gate: &G,
 ) -> Answer
     ensures asked { AsksRow (Some (judge (source_view source.now) sym.now)) (S.files store.old) (S.asked store.old) (S.asked store.new) }
     ensures files { S.files store.new ≡ S.files store.old }
@@ -87,8 +83,14 @@ pub(crate) fn answer_judge<R: Threads + Sync, S: Store, G: Gate + Sync>(
     ensures steady { IsSteadyAnswer result (S.faults store.old) (S.faults store.new) }
     ensures answered { AnswersCommand result (Some (judge (source_view source.now) sym.now)) (S.files store.old) (S.asked store.new) (S.faults store.old) (S.faults store.new) }
 {
-    match answer_source(rt, alloc, source, WORKERS, store, gate) {
-        Answer::Judged(dumped) => answer_dumped(alloc, dumped, source.full, sym, store),
+    match answer_source(watched, source, store) {
+        Answer::Judged(dumped) => answer_dumped(
+            watched.crew.alloc(),
+            dumped,
+            source.full,
+            sym,
+            store,
+        ),
         other => other,
     }
 }

@@ -21,6 +21,7 @@ mod commands;
 mod judgement;
 mod program;
 mod refusals;
+mod watched_crew;
 mod words;
 
 // `dump`, also with a separate debug file, and `sample`.

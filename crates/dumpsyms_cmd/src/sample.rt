@@ -10,6 +10,7 @@ use crate::dump::assemble;
 use crate::judgement::{Judgement, Message, Output};
 use crate::read_back::read_back;
 use crate::refusals::{debug_line, fault_line};
+use crate::watched_crew::WatchedCrew;
 use debug_read::{DebugRead, read_debug};
 use elf_sections::{Image, read_image};
 use itoa::Buffer;
@@ -18,7 +19,7 @@ use std::alloc::{AllocError, Global};
 use std::thread::Threads;
 use sym_edges::{OutOfMemory, Stop};
 use sym_records::{ByteText, SymFile, SymLine};
-use unit_workers::Gate;
+use unit_workers::{Crew, Gate};
 
 /// The records that are counted.
 #[derive(Clone, Copy, Debug)]
@@ -83,17 +84,15 @@ fn counts_line(
 
 /// The counts of an image without faults after it.
 fn count_records<R: Threads + Sync>(
-    rt: &R,
-    alloc: Global,
+    crew: &Crew<'_, R>,
     image: &Image<'_>,
     debug: &DebugRead<'_>,
-    workers: usize,
 ) -> Result<Judgement, OutOfMemory>
     requires found { IsDebugRead image.now debug.now }
-    requires workers { (1 ≤ workers) × (workers ≤ 64) }
     ensures { IfOk result (λ j. CountsParts j image.now) }
 {
-    let dumped = assemble(rt, alloc, image, debug, b"", false, workers)?;
+    let alloc = crew.alloc();
+    let dumped = assemble(crew, image, debug, b"", false)?;
     let file = read_back(alloc, &dumped.file)?;
     let units = debug.units.as_slice().len();
     let text = counts_line(alloc, units, &file, dumped.omitted)?;
@@ -106,18 +105,17 @@ fn count_records<R: Threads + Sync>(
 
 /// The counts of an image.
 fn count_image<R: Threads + Sync, G: Gate + Sync>(
-    rt: &R,
-    alloc: Global,
+    watched: &WatchedCrew<'_, R, G>,
     image: &Image<'_>,
-    gate: &G,
-    workers: usize,
 ) -> Result<Judgement, OutOfMemory>
-    requires workers { (1 ≤ workers) × (workers ≤ 64) }
     ensures { IfOk result (λ j. CountsParts j image.now) }
 {
-    match read_debug(rt, alloc, image, gate, workers) {
-        Ok(debug) => count_records(rt, alloc, image, &debug, workers),
-        Err(Stop::Fault(fault)) => Ok(refuse(Message::Made(debug_line(alloc, fault)?))),
+    match read_debug(&watched.crew, image, watched.gate) {
+        Ok(debug) => count_records(&watched.crew, image, &debug),
+        Err(Stop::Fault(fault)) => Ok(refuse(Message::Made(debug_line(
+            watched.crew.alloc(),
+            fault,
+        )?))),
         Err(Stop::NoMemory) => Err(OutOfMemory),
     }
 }
@@ -125,18 +123,15 @@ fn count_image<R: Threads + Sync, G: Gate + Sync>(
 /// The counts of a file's bytes.
 #[tactic(auto, using(crate::proofs::SampleLemmas::parts_counted, crate::proofs::SampleLemmas::fault_counted))]
 fn count_bytes<R: Threads + Sync, G: Gate + Sync>(
-    rt: &R,
-    alloc: Global,
+    watched: &WatchedCrew<'_, R, G>,
     bytes: &[u8],
-    gate: &G,
-    workers: usize,
 ) -> Result<Judgement, OutOfMemory>
     requires few { length bytes.now ≤ LIMIT }
-    requires workers { (1 ≤ workers) × (workers ≤ 64) }
     ensures { IfOk result (λ j. CountsBytes j bytes.now) }
 {
+    let alloc = watched.crew.alloc();
     match read_image(alloc, bytes) {
-        Ok(image) => count_image(rt, alloc, &image, gate, workers),
+        Ok(image) => count_image(watched, &image),
         Err(Stop::Fault(fault)) => Ok(refuse(Message::Made(fault_line(alloc, fault)?))),
         Err(Stop::NoMemory) => Err(OutOfMemory),
     }
@@ -145,16 +140,12 @@ fn count_bytes<R: Threads + Sync, G: Gate + Sync>(
 /// The counts of a made file of so many units.
 #[tactic(auto, using(crate::proofs::SampleLemmas::sample_counted))]
 pub fn judge_sample<R: Threads + Sync, G: Gate + Sync>(
-    rt: &R,
-    alloc: Global,
+    watched: &WatchedCrew<'_, R, G>,
     units: u32,
-    gate: &G,
-    workers: usize,
 ) -> Result<Judgement, OutOfMemory>
     requires few { units ≤ 20000 }
-    requires workers { (1 ≤ workers) × (workers ≤ 64) }
     ensures { IfOk result (λ j. CountsSample j units) }
 {
-    let file = make(alloc, units)?;
-    count_bytes(rt, alloc, file.as_slice(), gate, workers)
+    let file = make(watched.crew.alloc(), units)?;
+    count_bytes(watched, file.as_slice())
 }

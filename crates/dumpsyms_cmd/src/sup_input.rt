@@ -16,6 +16,7 @@ use crate::commands::{answer_line, answer_stop, judge_image, refuse};
 use crate::judgement::{Answer, Judgement, Message};
 use crate::refusals::{sup_fault_line, sup_line, unread_line};
 use crate::symbol_input::answer_judged;
+use crate::watched_crew::WatchedCrew;
 use crate::words::{DebugPlace, ElfPlace};
 use debug_pair::{SupFault, SupLink, find_sup_link, is_linked, sup_path};
 use elf_sections::{ElfFault, Image};
@@ -23,7 +24,7 @@ use full_image::{Inflations, PackedSup, inflate_supplement, read_packed_sup};
 use std::alloc::Global;
 use std::thread::Threads;
 use sym_edges::{FILE_LIMIT, OutOfMemory, Stop, Store, read_all};
-use unit_workers::Gate;
+use unit_workers::{Crew, Gate};
 
 /// An image, and the link to its supplementary file.
 #[derive(Drop)]
@@ -41,17 +42,14 @@ struct OpenedSup<'a> {
 
 /// Reads the tables of a supplementary file, and its compressed sections.
 fn open_sup<'a, R: Threads + Sync>(
-    rt: &R,
-    alloc: Global,
+    crew: &Crew<'_, R>,
     bytes: &'a [u8],
-    workers: usize,
 ) -> Result<OpenedSup<'a>, Stop<ElfFault>>
-    requires workers { (1 ≤ workers) × (workers ≤ 64) }
     ensures { MatchStop result (λ o. (o.packed ≡ bytes.now) × (o.inflated ≡ outcomes_of (record { full = true; file = o.packed }))) (λ fault. sup_image bytes.now ≡ Err fault) (Unit {0}) }
 {
-    match read_packed_sup(alloc, bytes) {
+    match read_packed_sup(crew.alloc(), bytes) {
         Ok(packed) => {
-            let inflated = inflate_supplement(rt, alloc, &packed, workers)?;
+            let inflated = inflate_supplement(crew, &packed)?;
             Ok(OpenedSup { packed, inflated })
         }
         Err(stop) => Err(stop),
@@ -61,64 +59,55 @@ fn open_sup<'a, R: Threads + Sync>(
 /// A dump of an image with that of its supplementary file.
 #[tactic(auto, using(crate::proofs::SupLemmas::joined_judged, crate::proofs::SupLemmas::joined_refused))]
 fn judge_joined<R: Threads + Sync, G: Gate + Sync>(
-    rt: &R,
-    alloc: Global,
+    watched: &WatchedCrew<'_, R, G>,
     linked: Linked<'_>,
     sup: &Image<'_>,
     source: &ElfPlace<'_>,
-    gate: &G,
-    workers: usize,
 ) -> Result<Judgement, OutOfMemory>
-    requires workers { (1 ≤ workers) × (workers ≤ 64) }
     ensures { IfOk result (λ j. JudgesGiven j (source_view source.now) (joined linked.entry.image (sup_link_view linked.entry.link) sup.now)) }
 {
     let Linked { image, link } = linked;
     if is_linked(&link, sup) {
-        judge_image(rt, alloc, &image.with_sup(sup), source, gate, workers)
+        judge_image(watched, &image.with_sup(sup), source)
     } else {
-        Ok(refuse(Message::Made(sup_line(alloc, SupFault::BuildId)?)))
+        Ok(refuse(Message::Made(sup_line(watched.crew.alloc(), SupFault::BuildId)?)))
     }
 }
 
 /// The same by a supplementary file whose tables were read.
 #[tactic(auto, using(crate::proofs::SupLemmas::sup_judged, crate::proofs::SupLemmas::sup_refused))]
 fn judge_opened<R: Threads + Sync, G: Gate + Sync>(
-    rt: &R,
-    alloc: Global,
+    watched: &WatchedCrew<'_, R, G>,
     linked: Linked<'_>,
     opened: OpenedSup<'_>,
     source: &ElfPlace<'_>,
-    gate: &G,
-    workers: usize,
 ) -> Result<Judgement, OutOfMemory>
     requires inflated { opened.inflated ≡ outcomes_of (record { full = true; file = opened.packed }) }
-    requires workers { (1 ≤ workers) × (workers ≤ 64) }
     ensures { IfOk result (λ j. JudgesSup j (source_view source.now) linked.entry.image (sup_link_view linked.entry.link) (sup_image opened.entry.packed)) }
 {
     let OpenedSup { packed, inflated } = opened;
     match packed.unpack(&inflated) {
-        Ok(sup) => judge_joined(rt, alloc, linked, &sup, source, gate, workers),
-        Err(fault) => Ok(refuse(Message::Made(sup_fault_line(alloc, fault)?))),
+        Ok(sup) => judge_joined(watched, linked, &sup, source),
+        Err(fault) => Ok(refuse(Message::Made(sup_fault_line(watched.crew.alloc(), fault)?))),
     }
 }
 
 /// The same over the bytes of the supplementary file.
 #[tactic(auto, using(crate::proofs::SupLemmas::sup_opened, crate::proofs::SupLemmas::sup_refused))]
 fn judge_sup<R: Threads + Sync, G: Gate + Sync>(
-    rt: &R,
-    alloc: Global,
+    watched: &WatchedCrew<'_, R, G>,
     linked: Linked<'_>,
     bytes: &[u8],
     source: &ElfPlace<'_>,
-    gate: &G,
-    workers: usize,
 ) -> Result<Judgement, OutOfMemory>
-    requires workers { (1 ≤ workers) × (workers ≤ 64) }
     ensures { IfOk result (λ j. JudgesSup j (source_view source.now) linked.entry.image (sup_link_view linked.entry.link) (sup_image bytes.now)) }
 {
-    match open_sup(rt, alloc, bytes, workers) {
-        Ok(opened) => judge_opened(rt, alloc, linked, opened, source, gate, workers),
-        Err(Stop::Fault(fault)) => Ok(refuse(Message::Made(sup_fault_line(alloc, fault)?))),
+    match open_sup(&watched.crew, bytes) {
+        Ok(opened) => judge_opened(watched, linked, opened, source),
+        Err(Stop::Fault(fault)) => Ok(refuse(Message::Made(sup_fault_line(
+            watched.crew.alloc(),
+            fault,
+        )?))),
         Err(Stop::NoMemory) => Err(OutOfMemory),
     }
 }
@@ -154,35 +143,24 @@ fn find_sup(
 /// memory is taken after a file failed.
 #[tactic(auto, using(crate::proofs::SupLemmas::sup_read, crate::proofs::SupLemmas::sup_stopped, crate::proofs::SourceLemmas::all_asked, crate::proofs::SourceLemmas::stop_asked, crate::proofs::SourceLemmas::none_asked, crate::proofs::SteadyLemmas::stop_steady, crate::proofs::SteadyLemmas::any_steady))]
 fn answer_sup_file<R: Threads + Sync, S: Store, G: Gate + Sync>(
-    rt: &R,
-    alloc: Global,
+    watched: &WatchedCrew<'_, R, G>,
     linked: Linked<'_>,
     path: &str,
     source: &ElfPlace<'_>,
-    workers: usize,
     store: &mut S,
-    gate: &G,
 ) -> Answer
-    requires workers { (1 ≤ workers) × (workers ≤ 64) }
     ensures asked { AsksAll result (path.now ∷ []) (S.asked store.old) (S.asked store.new) }
     ensures files { S.files store.new ≡ S.files store.old }
     ensures faults { S.faults store.old ≤ S.faults store.new }
     ensures steady { IsSteadyAnswer result (S.faults store.old) (S.faults store.new) }
     ensures answered { AnswersImage result (with_sup_file source.now.full linked.entry.image (sup_link_view linked.entry.link) path.now) (source_view source.now) (S.files store.old) (S.asked store.new) (S.faults store.old) (S.faults store.new) }
 {
+    let alloc = watched.crew.alloc();
     let Ok(unread) = unread_line(alloc, source.full, path.as_bytes()) else {
         return Answer::NoMemory;
     };
     match read_all(alloc, store, path, FILE_LIMIT) {
-        Ok(bytes) => answer_judged(judge_sup(
-            rt,
-            alloc,
-            linked,
-            bytes.as_slice(),
-            source,
-            gate,
-            workers,
-        )),
+        Ok(bytes) => answer_judged(judge_sup(watched, linked, bytes.as_slice(), source)),
         Err(stop) => answer_stop(stop, unread),
     }
 }
@@ -190,33 +168,21 @@ fn answer_sup_file<R: Threads + Sync, S: Store, G: Gate + Sync>(
 /// The answer by an image whose supplementary file is still to be found.
 #[tactic(auto, using(crate::proofs::SupLemmas::place_answered, crate::proofs::SourceLemmas::path_asked, crate::proofs::SupLemmas::place_refused, crate::proofs::SourceLemmas::no_path_asked, crate::proofs::SourceLemmas::none_asked, crate::proofs::SteadyLemmas::any_steady))]
 fn answer_link<R: Threads + Sync, S: Store, G: Gate + Sync>(
-    rt: &R,
-    alloc: Global,
+    watched: &WatchedCrew<'_, R, G>,
     linked: Linked<'_>,
     name: &str,
     source: &ElfPlace<'_>,
-    workers: usize,
     store: &mut S,
-    gate: &G,
 ) -> Answer
-    requires workers { (1 ≤ workers) × (workers ≤ 64) }
     ensures asked { AsksAll result (path_names (sup_place (source_view source.now).debug name.now (sup_link_view linked.entry.link))) (S.asked store.old) (S.asked store.new) }
     ensures files { S.files store.new ≡ S.files store.old }
     ensures faults { S.faults store.old ≤ S.faults store.new }
     ensures steady { IsSteadyAnswer result (S.faults store.old) (S.faults store.new) }
     ensures answered { AnswersImage result (then_path (with_sup_file source.now.full linked.entry.image (sup_link_view linked.entry.link)) (sup_place (source_view source.now).debug name.now (sup_link_view linked.entry.link))) (source_view source.now) (S.files store.old) (S.asked store.new) (S.faults store.old) (S.faults store.new) }
 {
+    let alloc = watched.crew.alloc();
     match find_sup(alloc, source, name, &linked.link) {
-        Ok(path) => answer_sup_file(
-            rt,
-            alloc,
-            linked,
-            path.as_str(),
-            source,
-            workers,
-            store,
-            gate,
-        ),
+        Ok(path) => answer_sup_file(watched, linked, path.as_str(), source, store),
         Err(Stop::Fault(fault)) => answer_line(sup_line(alloc, fault)),
         Err(Stop::NoMemory) => Answer::NoMemory,
     }
@@ -226,16 +192,12 @@ fn answer_link<R: Threads + Sync, S: Store, G: Gate + Sync>(
 /// supplementary file, it is read too.
 #[tactic(auto, using(crate::proofs::SupLemmas::plain_answered, crate::proofs::SupLemmas::plain_asked, crate::proofs::SupLemmas::alone_answered, crate::proofs::SupLemmas::alone_asked, crate::proofs::SupLemmas::link_answered, crate::proofs::SupLemmas::link_asked, crate::proofs::SupLemmas::link_refused, crate::proofs::SupLemmas::bad_link_asked, crate::proofs::SteadyLemmas::any_steady))]
 pub fn answer_image<R: Threads + Sync, S: Store, G: Gate + Sync>(
-    rt: &R,
-    alloc: Global,
+    watched: &WatchedCrew<'_, R, G>,
     image: Image<'_>,
     name: &str,
     source: &ElfPlace<'_>,
-    workers: usize,
     store: &mut S,
-    gate: &G,
 ) -> Answer
-    requires workers { (1 ≤ workers) × (workers ≤ 64) }
     ensures asked { AsksAll result (sup_names (source_view source.now) name.now image.entry) (S.asked store.old) (S.asked store.new) }
     ensures files { S.files store.new ≡ S.files store.old }
     ensures faults { S.faults store.old ≤ S.faults store.new }
@@ -243,20 +205,11 @@ pub fn answer_image<R: Threads + Sync, S: Store, G: Gate + Sync>(
     ensures answered { AnswersImage result (then_sup (source_view source.now) name.now image.entry) (source_view source.now) (S.files store.old) (S.asked store.new) (S.faults store.old) (S.faults store.new) }
 {
     if !source.full {
-        return answer_judged(judge_image(rt, alloc, &image, source, gate, workers));
+        return answer_judged(judge_image(watched, &image, source));
     }
     match find_sup_link(&image) {
-        Ok(None) => answer_judged(judge_image(rt, alloc, &image, source, gate, workers)),
-        Ok(Some(link)) => answer_link(
-            rt,
-            alloc,
-            Linked { image, link },
-            name,
-            source,
-            workers,
-            store,
-            gate,
-        ),
-        Err(fault) => answer_line(sup_line(alloc, fault)),
+        Ok(None) => answer_judged(judge_image(watched, &image, source)),
+        Ok(Some(link)) => answer_link(watched, Linked { image, link }, name, source, store),
+        Err(fault) => answer_line(sup_line(watched.crew.alloc(), fault)),
     }
 }

@@ -7,8 +7,8 @@ ghost use Rattle.dumpsyms_cmd.specs.Words.{source_view, command_view, command_of
 use memchr::memrchr;
 use state_file::hex_value;
 
-/// The workers of a dump where the words name no number of them.
-const USUAL_WORKERS: usize = 4;
+/// The workers of a dump, where the words name no number of them, and of `judge`.
+pub const USUAL_WORKERS: usize = 4;
 
 /// The most workers that words may name.
 const MOST_WORKERS: usize = 64;

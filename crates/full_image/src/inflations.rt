@@ -12,7 +12,7 @@ use std::alloc::{AllocError, Global};
 use std::marker::Model;
 use std::thread::Threads;
 use sym_edges::{ByteRun, ListOf, OutOfMemory, Stop};
-use unit_workers::{NoGate, UnitJob, run_all};
+use unit_workers::{Crew, NoGate, UnitJob};
 
 /// What the data of each section gives, by the number of the section: nothing where it is not compressed, and none where it is bad.
 pub type Inflations = ListOf<Option<ByteRun>>;
@@ -134,47 +134,38 @@ fn turned_back(
 
 /// Inflates data of sections, the longest first.
 fn inflate_streams<R: Threads + Sync>(
-    rt: &R,
-    alloc: Global,
+    crew: &Crew<'_, R>,
     streams: &[Option<Stream<'_>>],
-    workers: usize,
 ) -> Result<Inflations, OutOfMemory>
     requires few { length streams.now < 2 ^ 16 }
-    requires workers { (1 ≤ workers) × (workers ≤ 64) }
     ensures { IfOk result (λ i. i ≡ map outcome_of (map (option_map stream_view) streams.now)) }
 {
     let first = longest(streams);
-    let turned = turned(alloc, streams, first)?;
+    let turned = turned(crew.alloc(), streams, first)?;
     let inflater = Inflater::of(&turned);
-    let outs = run_all(rt, alloc, &inflater, &NoGate, turned.len(), workers)?;
+    let outs = crew.run(&inflater, &NoGate, turned.len())?;
     let place = outs.len() - first;
     Ok(Inflations::of(turned_back(outs, place)?))
 }
 
-/// Inflates the compressed sections of a file by `workers` workers, 1 to 64, the longest first.
+/// Inflates the compressed sections of a file by a crew of workers, the longest first.
 #[tactic(auto, unfolding(crate::specs::FullImage::outcomes_of))]
 pub fn inflate_sections<R: Threads + Sync>(
-    rt: &R,
-    alloc: Global,
+    crew: &Crew<'_, R>,
     packed: &PackedImage<'_>,
-    workers: usize,
 ) -> Result<Inflations, OutOfMemory>
-    requires workers { (1 ≤ workers) × (workers ≤ 64) }
     ensures { IfOk result (λ i. i ≡ outcomes_of packed.now) }
 {
-    inflate_streams(rt, alloc, packed.streams(), workers)
+    inflate_streams(crew, packed.streams())
 }
 
 /// The same for a supplementary file.
 #[tactic(auto, unfolding(crate::specs::FullImage::outcomes_of))]
 pub fn inflate_supplement<R: Threads + Sync>(
-    rt: &R,
-    alloc: Global,
+    crew: &Crew<'_, R>,
     packed: &PackedSup<'_>,
-    workers: usize,
 ) -> Result<Inflations, OutOfMemory>
-    requires workers { (1 ≤ workers) × (workers ≤ 64) }
     ensures { IfOk result (λ i. i ≡ outcomes_of (record { full = true; file = packed.now })) }
 {
-    inflate_streams(rt, alloc, packed.streams(), workers)
+    inflate_streams(crew, packed.streams())
 }

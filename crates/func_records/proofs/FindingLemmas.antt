@@ -22,6 +22,7 @@ use Rattle.func_flatten.specs.Pieces.{piece_run, ArePieces}
 use Rattle.func_flatten.specs.LineRuns.{path_run, unit_paths, AreLineRuns}
 use Rattle.inline_chain.specs.InlineRuns.{InlineParts, AreInlineRuns}
 use Rattle.func_records.specs.FuncRecords.{Part, pieces_of, path_in, call_path, number_in, numbered_lines, file_lines, origin_lines, extent, func_record, line_record, inline_record, part_lines, AreLined, AreInlined, BeginAbove, EndBelow, names_path, names_origin, AreFuncRecords}
+use Rattle.func_records.proofs.FoundLemmas.{Numbers, file_numbers, origin_numbers}
 use Rattle.func_records.proofs.ListLemmas.{or_left, or_right}
 use Rattle.func_records.proofs.ChainLemmas.{AllRanges, AllOfRuns, Good, copies_good}
 use Rattle.func_records.proofs.CallLemmas.{below}
@@ -47,25 +48,15 @@ over_parts P base paths names units (p ∷ parts) behind func inline line is =
     (over_parts P base paths names units parts behind func inline line is))))
 
 -- each number is given once
-files_above : (n k : ℕ) (paths : List (List ℕ)) (rest : List SymLine) → n < k → list_any (is_file n) rest ≡ false → list_any (is_file n) (file_lines k paths ++ rest) ≡ false
-files_above n k [] rest above none = none
-files_above n k (path ∷ paths) rest above none =
+numbers_above : {is : ℕ → SymLine → Bool} {made : ℕ → List ℕ → SymLine} {said : SymLine → List ℕ} → Numbers is made said → (n k : ℕ) (texts : List (List ℕ)) (rest : List SymLine) → n < k → list_any (is n) rest ≡ false → list_any (is n) (numbered_lines made k texts ++ rest) ≡ false
+numbers_above numbers n k [] rest above none = none
+numbers_above {is} {made} numbers n k (text ∷ texts) rest above none =
     let other : (k == n) ≡ false = grind (arith, nat_tests) in
-    ap (λ b. b || list_any (is_file n) (file_lines (k + 1) paths ++ rest)) other ∙ files_above n (k + 1) paths rest (omega arith) none
+    ap (λ b. b || list_any (is n) (numbered_lines made (k + 1) texts ++ rest)) (numbers.tells n k text ∙ other) ∙ numbers_above numbers n (k + 1) texts rest (omega arith) none
 
-files_once : (k : ℕ) (paths : List (List ℕ)) (rest : List SymLine) → ((n : ℕ) → list_any (is_file n) rest ≡ false) → AreGivenOnce rest → AreGivenOnce (file_lines k paths ++ rest)
-files_once k [] rest none once = once
-files_once k (path ∷ paths) rest none once = (files_above k (k + 1) paths rest (omega arith) (none k), files_once (k + 1) paths rest none once)
-
-origins_above : (n k : ℕ) (names : List (List ℕ)) (rest : List SymLine) → n < k → list_any (is_origin n) rest ≡ false → list_any (is_origin n) (origin_lines k names ++ rest) ≡ false
-origins_above n k [] rest above none = none
-origins_above n k (name ∷ names) rest above none =
-    let other : (k == n) ≡ false = grind (arith, nat_tests) in
-    ap (λ b. b || list_any (is_origin n) (origin_lines (k + 1) names ++ rest)) other ∙ origins_above n (k + 1) names rest (omega arith) none
-
-origins_once : (k : ℕ) (names : List (List ℕ)) (rest : List SymLine) → ((n : ℕ) → list_any (is_origin n) rest ≡ false) → AreGivenOnce rest → AreGivenOnce (origin_lines k names ++ rest)
-origins_once k [] rest none once = once
-origins_once k (name ∷ names) rest none once = (origins_above k (k + 1) names rest (omega arith) (none k), origins_once (k + 1) names rest none once)
+numbers_once : {is : ℕ → SymLine → Bool} {made : ℕ → List ℕ → SymLine} {said : SymLine → List ℕ} → Numbers is made said → ((k : ℕ) (text : List ℕ) (rest : List SymLine) → list_any (is k) rest ≡ false → AreGivenOnce rest → AreGivenOnce (made k text ∷ rest)) → (k : ℕ) (texts : List (List ℕ)) (rest : List SymLine) → ((n : ℕ) → list_any (is n) rest ≡ false) → AreGivenOnce rest → AreGivenOnce (numbered_lines made k texts ++ rest)
+numbers_once numbers more k [] rest none once = once
+numbers_once numbers more k (text ∷ texts) rest none once = more k text _ (numbers_above numbers k (k + 1) texts rest (omega arith) (none k)) (numbers_once numbers more (k + 1) texts rest none once)
 
 origins_no_file : (n k : ℕ) (names : List (List ℕ)) (rest : List SymLine) → list_any (is_file n) (origin_lines k names ++ rest) ≡ list_any (is_file n) rest
 origins_no_file n k [] rest = refl
@@ -77,8 +68,8 @@ all_once base units paths names parts front behind file origin last_file last_or
     let files : HaveNoFile functions = over_parts (λ (l : List SymLine). HaveNoFile l) base paths names units parts behind (λ p later is. (tt, is)) (λ unit r later is. (tt, is)) (λ unit r later is. (tt, is)) last_file in
     let origins : HaveNoOrigin functions = over_parts (λ (l : List SymLine). HaveNoOrigin l) base paths names units parts behind (λ p later is. (tt, is)) (λ unit r later is. (tt, is)) (λ unit r later is. (tt, is)) last_origin in
     once_behind front (file_lines 0 paths ++ (origin_lines 0 names ++ functions)) file origin
-    (files_once 0 paths (origin_lines 0 names ++ functions) (λ n. origins_no_file n 0 names functions ∙ no_file n functions files)
-    (origins_once 0 names functions (λ n. no_origin n functions origins) (none_given functions files origins)))
+    (numbers_once file_numbers (λ k text rest none once. (none, once)) 0 paths (origin_lines 0 names ++ functions) (λ n. origins_no_file n 0 names functions ∙ no_file n functions files)
+    (numbers_once origin_numbers (λ k text rest none once. (none, once)) 0 names functions (λ n. no_origin n functions origins) (none_given functions files origins)))
 
 -- a test that all records pass
 numbered_all : (q : SymLine → Bool) (made : ℕ → List ℕ → SymLine) (k : ℕ) (texts : List (List ℕ)) → ((n : ℕ) (text : List ℕ) → q (made n text) ≡ true) → list_all q (numbered_lines made k texts) ≡ true

@@ -1,5 +1,5 @@
 //! Inlined copies, their names and all paths, found share by share.
-ghost use Rattle.std.specs.Prelude.{◌≡◌, ◌≤◌, length, IfOk};
+ghost use Rattle.std.specs.Prelude.{◌≡◌, length, IfOk};
 ghost use Rattle.func_records.specs.internal.Gathering.{AreHeld};
 ghost use Rattle.unit_workers.specs.Shares.{share};
 ghost use Rattle.func_records.specs.internal.Shares.{IsFound, AreFound};
@@ -16,7 +16,7 @@ use std::alloc::Global;
 use std::marker::Model;
 use std::thread::Threads;
 use sym_edges::OutOfMemory;
-use unit_workers::{NoGate, UnitJob, run_all, share_of};
+use unit_workers::{Crew, NoGate, UnitJob, share_of};
 
 /// The inlined copies of some pieces, each.
 fn find_copies(
@@ -125,20 +125,17 @@ impl<'t, 'u, 'a> UnitJob for ShareFinder<'t, 'u, 'a> {
     }
 }
 
-/// What is found of all pieces by `workers` workers, 1 to 64.
+/// What is found of all pieces by a crew of workers.
 pub fn find_shares<R: Threads + Sync>(
-    rt: &R,
-    alloc: Global,
+    crew: &Crew<'_, R>,
     units: &Units<'_>,
     pieces: &[Piece],
-    workers: usize,
 ) -> Result<Vec<FoundShare>, OutOfMemory>
-    requires workers { (1 ≤ workers) × (workers ≤ 64) }
     ensures { IfOk result (λ shares. AreFound units.now pieces.now shares.items) }
 {
-    let trees = InlineTrees::of(rt, alloc, units, workers)?;
+    let trees = InlineTrees::of(crew, units)?;
     let finder = ShareFinder::of(&trees, units, pieces);
     let count = share_count(pieces.len())?;
-    let shares = run_all(rt, alloc, &finder, &NoGate, count, workers)?;
+    let shares = crew.run(&finder, &NoGate, count)?;
     Ok(shares)
 }

@@ -1,5 +1,5 @@
 //! The records of all functions of a file.
-ghost use Rattle.std.specs.Prelude.{◌≤◌, IfOk};
+ghost use Rattle.std.specs.Prelude.{IfOk};
 ghost use Rattle.sym_records.specs.Spelled.{text_bytes};
 ghost use Rattle.debug_units.specs.CleanPaths.{HaveCleanPaths};
 ghost use Rattle.func_records.specs.Adding.{AddsFunctions};
@@ -17,43 +17,41 @@ use crate::text_ranks::ranked_texts;
 use crate::writer::FuncWriter;
 use debug_units::Units;
 use func_flatten::Piece;
-use std::alloc::Global;
 use std::thread::Threads;
 use sym_edges::OutOfMemory;
 use sym_records::TextPieces;
+use unit_workers::Crew;
 
 /// Adds to a text, which is given back, the records of functions (Breakpad's symbol_files.md): a FILE record for each path that a line record or a call
 /// names, and an INLINE_ORIGIN record for each name of a function that was inlined, both sorted by bytes and numbered from 0; then for
 /// each piece its FUNC record, an INLINE record for each inlined copy on the chains of its addresses, and a line record for each run
 /// of its lines. The base is taken off all addresses. Inlined copies are held from the first pass to the second; line runs are made
-/// where they are spelled and not kept. Copies with what they name are found, paths numbered, and records spelled, by `workers` workers,
-/// 1 to 64, whose number changes nothing.
+/// where they are spelled and not kept. Copies with what they name are found, paths numbered, and records spelled, by a crew of
+/// workers, whose number changes nothing.
 pub fn add_functions<R: Threads + Sync>(
-    rt: &R,
-    alloc: Global,
+    crew: &Crew<'_, R>,
     base: u64,
     units: &Units<'_>,
     pieces: &[Piece],
-    workers: usize,
     front: TextPieces,
 ) -> Result<TextPieces, OutOfMemory>
     requires clean { HaveCleanPaths units.now }
-    requires workers { (1 ≤ workers) × (workers ≤ 64) }
     ensures { IfOk result (λ text. AddsFunctions base units.now pieces.now (text_bytes front) (text_bytes text)) }
 {
-    let found = find_shares(rt, alloc, units, pieces, workers)?;
+    let alloc = crew.alloc();
+    let found = find_shares(crew, units, pieces)?;
     let shares = found.as_slice();
     let used = path_texts(alloc, units, shares)?;
     let ranked_paths = ranked_texts(alloc, used.as_slice())?;
     let paths = ranked_paths.sorted.as_slice();
-    let named = gather_names(rt, alloc, units, shares, workers)?;
+    let named = gather_names(crew, units, shares)?;
     let DistinctNames { texts, places } = distinct_names(alloc, named.as_slice())?;
     let ranked_names = ranked_texts(alloc, texts.as_slice())?;
     let names = ranked_names.sorted.as_slice();
     if paths.len() > u32::MAX as usize || names.len() > u32::MAX as usize {
         return Err(OutOfMemory);
     }
-    let rows = number_rows(rt, alloc, units, paths, workers)?;
+    let rows = number_rows(crew, units, paths)?;
     let guesses = ranked_names.guesses.as_slice();
     let known = numbers_of(alloc, names, texts.as_slice(), guesses)?;
     let numbers = numbers_at(alloc, known.as_slice(), places.as_slice())?;
@@ -74,6 +72,6 @@ pub fn add_functions<R: Threads + Sync>(
         shares,
         numbers: numbers.as_slice(),
     };
-    let text = add_shares(rt, alloc, &writer, spelled, workers, text)?;
+    let text = add_shares(crew, &writer, spelled, text)?;
     Ok(text)
 }

@@ -1,5 +1,5 @@
 //! The names of the functions that were inlined.
-ghost use Rattle.std.specs.Prelude.{◌≡◌, ◌≤◌, map, IfOk};
+ghost use Rattle.std.specs.Prelude.{◌≡◌, map, IfOk};
 ghost use Rattle.std.specs.List.{flat_map};
 ghost use Rattle.func_records.specs.internal.Origins.{made_name};
 ghost use Rattle.unit_workers.specs.Shares.{share};
@@ -14,7 +14,7 @@ use std::alloc::Global;
 use std::marker::Model;
 use std::thread::Threads;
 use sym_edges::OutOfMemory;
-use unit_workers::{NoGate, UnitJob, run_all, share_of};
+use unit_workers::{Crew, NoGate, UnitJob, share_of};
 
 /// The entries that were found, share after share.
 fn join_refs(alloc: Global, shares: &[FoundShare]) -> Result<Vec<NameRef>, OutOfMemory>
@@ -106,36 +106,30 @@ fn join_names<'a>(
     Ok(texts)
 }
 
-/// The names that entries give, cleaned, made by `workers` workers, 1 to 64.
+/// The names that entries give, cleaned, made by a crew of workers.
 fn make_all_names<'a, R: Threads + Sync>(
-    rt: &R,
-    alloc: Global,
+    crew: &Crew<'_, R>,
     units: &Units<'a>,
     refs: &[NameRef],
-    workers: usize,
 ) -> Result<Vec<MadeName<'a>>, OutOfMemory>
-    requires workers { (1 ≤ workers) × (workers ≤ 64) }
     ensures { IfOk result (λ texts. texts.items ≡ map (made_name units.now) refs.now) }
 {
     let maker = NameMaker::of(units, refs);
     let count = share_count(refs.len())?;
-    let shares = run_all(rt, alloc, &maker, &NoGate, count, workers)?;
-    let texts = join_names(alloc, shares, refs.len())?;
+    let shares = crew.run(&maker, &NoGate, count)?;
+    let texts = join_names(crew.alloc(), shares, refs.len())?;
     Ok(texts)
 }
 
-/// The names of the functions that were inlined, entry after entry and share after share, made by `workers` workers, 1 to 64.
+/// The names of the functions that were inlined, entry after entry and share after share, made by a crew of workers.
 pub fn gather_names<'a, R: Threads + Sync>(
-    rt: &R,
-    alloc: Global,
+    crew: &Crew<'_, R>,
     units: &Units<'a>,
     shares: &[FoundShare],
-    workers: usize,
 ) -> Result<Vec<MadeName<'a>>, OutOfMemory>
-    requires workers { (1 ≤ workers) × (workers ≤ 64) }
     ensures { IfOk result (λ names. names.items ≡ map (made_name units.now) (all_refs shares.now)) }
 {
-    let refs = join_refs(alloc, shares)?;
-    let names = make_all_names(rt, alloc, units, refs.as_slice(), workers)?;
+    let refs = join_refs(crew.alloc(), shares)?;
+    let names = make_all_names(crew, units, refs.as_slice())?;
     Ok(names)
 }

@@ -1,5 +1,5 @@
 //! The numbers of the paths of all units, unit by unit.
-ghost use Rattle.std.specs.Prelude.{◌≡◌, ◌<◌, ◌≤◌, ◌^◌, Some, map, length, slice_get, IfOk};
+ghost use Rattle.std.specs.Prelude.{◌≡◌, ◌<◌, ◌^◌, Some, map, length, slice_get, IfOk};
 ghost use Rattle.std.specs.List.Sorted.{IsStrictlySortedBy};
 ghost use Rattle.line_program.specs.LineMaps.{LineMap};
 ghost use Rattle.func_records.specs.internal.Texts.{text_cmp};
@@ -14,7 +14,7 @@ use std::alloc::Global;
 use std::marker::Model;
 use std::thread::Threads;
 use sym_edges::{ListOf, OutOfMemory};
-use unit_workers::{NoGate, UnitJob, run_all};
+use unit_workers::{Crew, NoGate, UnitJob};
 
 /// The numbers of the paths of a unit.
 fn number_row(
@@ -91,17 +91,14 @@ impl<'s, 'a> UnitJob for RowMaker<'s, 'a> {
     }
 }
 
-/// The numbers of the paths of all units, found by `workers` workers, 1 to 64.
+/// The numbers of the paths of all units, found by a crew of workers.
 pub fn number_rows<R: Threads + Sync>(
-    rt: &R,
-    alloc: Global,
+    crew: &Crew<'_, R>,
     units: &Units<'_>,
     sorted: &[&[u8]],
-    workers: usize,
 ) -> Result<Vec<ListOf<u32>>, OutOfMemory>
     requires sorted { IsStrictlySortedBy text_cmp sorted.now }
     requires few { length sorted.now < 2 ^ 32 }
-    requires workers { (1 ≤ workers) × (workers ≤ 64) }
     ensures { IfOk result (λ rows. rows.items ≡ unit_numbers (bytes_of sorted.now) units.now) }
 {
     let count = units.as_slice().len();
@@ -109,6 +106,6 @@ pub fn number_rows<R: Threads + Sync>(
         return Err(OutOfMemory);
     }
     let maker = RowMaker::of(units, sorted);
-    let rows = run_all(rt, alloc, &maker, &NoGate, count, workers)?;
+    let rows = crew.run(&maker, &NoGate, count)?;
     Ok(rows)
 }

@@ -1,5 +1,5 @@
 //! The records of functions, spelled share by share.
-ghost use Rattle.std.specs.Prelude.{◌≡◌, ◌≤◌, ◌++◌, [], map, length, IfOk};
+ghost use Rattle.std.specs.Prelude.{◌≡◌, ◌++◌, [], map, length, IfOk};
 ghost use Rattle.std.specs.List.{flat_map};
 ghost use Rattle.sym_records.specs.Spelled.{text_bytes};
 ghost use Rattle.func_records.specs.internal.Origins.{ref_numbers, all_numbers};
@@ -18,7 +18,7 @@ use std::marker::Model;
 use std::thread::Threads;
 use sym_edges::OutOfMemory;
 use sym_records::TextPieces;
-use unit_workers::{NoGate, UnitJob, run_all, share_of};
+use unit_workers::{Crew, NoGate, UnitJob, share_of};
 
 /// Room for the text of a share, which is then not copied as it grows. What it does not take is given back.
 const ROOM: usize = 1 << 20;
@@ -137,16 +137,13 @@ pub struct FoundPieces<'s> {
     pub numbers: &'s [u32],
 }
 
-/// Adds the records of pieces, their inlined copies and their lines, spelled by `workers` workers, 1 to 64.
+/// Adds the records of pieces, their inlined copies and their lines, spelled by a crew of workers.
 pub fn add_shares<R: Threads + Sync>(
-    rt: &R,
-    alloc: Global,
+    crew: &Crew<'_, R>,
     writer: &FuncWriter<'_, '_, '_>,
     found: FoundPieces<'_>,
-    workers: usize,
     front: TextPieces,
 ) -> Result<TextPieces, OutOfMemory>
-    requires workers { (1 ≤ workers) × (workers ≤ 64) }
     requires found { AreFound writer.now.units.now found.pieces.now found.shares.now }
     requires numbered { found.numbers.now ≡ ref_numbers writer.now.numbers writer.now.units.now (all_refs found.shares.now) }
     ensures { IfOk result (λ text. AddsParts writer.now.base writer.now.numbers writer.now.units.now found.entry.pieces.now (all_held found.entry.shares.now) (text_bytes front) (text_bytes text)) }
@@ -156,9 +153,9 @@ pub fn add_shares<R: Threads + Sync>(
         shares,
         numbers,
     } = found;
-    let split = split_numbers(alloc, writer, shares, numbers)?;
+    let split = split_numbers(crew.alloc(), writer, shares, numbers)?;
     let speller = Speller::of(writer, pieces, shares, split.as_slice());
-    let texts = run_all(rt, alloc, &speller, &NoGate, shares.len(), workers)?;
+    let texts = crew.run(&speller, &NoGate, shares.len())?;
     let text = join_shares(front, texts)?;
     Ok(text)
 }

@@ -1,5 +1,5 @@
 //! Which inlined copies stand directly in each entry.
-ghost use Rattle.std.specs.Prelude.{◌≡◌, ℕ, ◌<◌, ◌≤◌, ◌^◌, length, Some, IfOk, OnOk};
+ghost use Rattle.std.specs.Prelude.{◌≡◌, ℕ, ◌<◌, ◌^◌, length, Some, IfOk, OnOk};
 ghost use Rattle.step_maps.specs.SpanStretches.{AreFit};
 ghost use Rattle.std.specs.List.{slice_get};
 ghost use Rattle.std.specs.Option.{option_copied};
@@ -19,7 +19,7 @@ use std::marker::Model;
 use std::thread::Threads;
 use step_maps::{Cover, Stretch};
 use sym_edges::OutOfMemory;
-use unit_workers::{NoGate, UnitJob, run_all};
+use unit_workers::{Crew, NoGate, UnitJob};
 
 /// The units of a file, and which inlined copies stand directly in each of their entries, by address.
 #[derive(Drop)]
@@ -41,17 +41,14 @@ impl<'u, 'a> Model for InlineTrees<'u, 'a> {
 }
 
 impl<'u, 'a> InlineTrees<'u, 'a> {
-    /// Finds which inlined copies stand directly in each entry, once for all pieces, by `workers` workers, 1 to 64.
+    /// Finds which inlined copies stand directly in each entry, once for all pieces, by a crew of workers.
     pub fn of<R: Threads + Sync>(
-        rt: &R,
-        alloc: Global,
+        crew: &Crew<'_, R>,
         units: &'u Units<'a>,
-        workers: usize,
     ) -> Result<InlineTrees<'u, 'a>, OutOfMemory>
-        requires workers { (1 ≤ workers) × (workers ≤ 64) }
         ensures { IfOk result (λ trees. trees ≡ units.now) }
     {
-        let trees = all_trees(rt, alloc, units, workers)?;
+        let trees = all_trees(crew, units)?;
         Ok(InlineTrees { units, trees })
     }
 
@@ -125,17 +122,14 @@ impl<'u, 'a> UnitJob for TreeMaker<'u, 'a> {
 
 /// The trees of all units.
 fn all_trees<R: Threads + Sync>(
-    rt: &R,
-    alloc: Global,
+    crew: &Crew<'_, R>,
     units: &Units<'_>,
-    workers: usize,
 ) -> Result<Vec<FlatLists<Cover>>, OutOfMemory>
-    requires workers { (1 ≤ workers) × (workers ≤ 64) }
     ensures { IfOk result (λ trees. AreTrees units.now trees.items) }
 {
     let maker = TreeMaker::of(units);
     let count = units.as_slice().len();
-    let trees = run_all(rt, alloc, &maker, &NoGate, count, workers)?;
+    let trees = crew.run(&maker, &NoGate, count)?;
     Ok(trees)
 }
 

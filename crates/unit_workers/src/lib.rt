@@ -2,7 +2,8 @@
 //!
 //! A [`UnitJob`] turns a number into a result and says, by its relation `gives`, which results stand for which number.
 //! [`run_all`] runs a job at each number below a count, by some workers, and answers the list of results: it has as many
-//! members as the count says, and member k stands in the job's relation for k. Who drew which number is not in it.
+//! members as the count says, and member k stands in the job's relation for k. Who drew which number is not in it. A [`Crew`] is
+//! what a run takes to do so, as one value.
 //!
 //! The workers share one word, and their only step on it is an addition of 1, which draws the number of the next unit. No lock
 //! is taken and no call waits. [`open_tickets`] makes the word with a first [`Hand`], which may draw; `split` makes further
@@ -38,9 +39,10 @@
 //! number below the count once: this is the clause of `close`.
 //!
 //! To read: `job` first, then `lot`, `view` and `rule` with `specs/Drawing.antt`, then `tickets`, `worker`, `results` and
-//! `runner`; `shares` stands alone.
+//! `runner` and `crew`; `shares` stands alone.
 #![tactic(auto)]
 
+mod crew;
 mod job;
 pub mod laws;
 mod lot;
@@ -52,6 +54,7 @@ mod tickets;
 mod view;
 mod worker;
 
+pub use crew::Crew;
 pub use job::{Gate, NoGate, UnitJob};
 pub use runner::run_all;
 pub use shares::{share_bounds, share_of};

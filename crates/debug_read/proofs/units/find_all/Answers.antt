@@ -15,8 +15,8 @@ of-job-requires g c =
       shared = c.in_ok-shared.ensures;
     }
 
-pub run_all-requires-clause-count : goal.run_all-requires-clause-count
-run_all-requires-clause-count g c κs within =
+pub run-requires-clause-count : goal.run-requires-clause-count
+run-requires-clause-count g c κs within =
     let few : length (read_units c.args.headers.now) ≤ 2 ^ 32 = units_few c.args.sections.now.info c.args.headers.now c.requires.headers c.requires.small in
     omega (arith, few, ap length c.in_ok-read.ensures, c.len.ensures)
 

@@ -1,0 +1,68 @@
+//! Who does the work: threads, memory, and how many workers there are.
+ghost use Rattle.std.specs.Prelude.{◌≡◌, ◌^◌, ◌≤◌, IfOk, vec_len};
+ghost use Rattle.unit_workers.specs.Working.{AreInOrder};
+
+use crate::job::{Gate, UnitJob};
+use crate::runner::run_all;
+use std::alloc::Global;
+use std::marker::Model;
+use std::thread::Threads;
+use sym_edges::OutOfMemory;
+
+/// Some workers, 1 to 64, with what starts their threads and gives them memory.
+#[derive(Drop)]
+pub struct Crew<'c, R: Threads + Sync> {
+    rt: &'c R,
+    alloc: Global,
+    workers: usize,
+}
+
+impl<'c, R: Threads + Sync> Model for Crew<'c, R> {
+    ghost use Rattle.std.specs.Prelude.{◌≤◌, ℕ};
+
+    ghost Value = { ℕ };
+
+    ghost view = { λ c. c.workers };
+
+    ghost invariant = { λ c. (1 ≤ c.workers) × (c.workers ≤ 64) };
+}
+
+impl<'c, R: Threads + Sync> Crew<'c, R> {
+    /// So many workers.
+    pub fn new(rt: &'c R, alloc: Global, workers: usize) -> Crew<'c, R>
+        requires { (1 ≤ workers) × (workers ≤ 64) }
+        ensures { result ≡ workers }
+    {
+        Crew { rt, alloc, workers }
+    }
+
+    /// How many they are.
+    pub fn workers(&self) -> usize
+        ensures number { result ≡ self.now }
+        ensures range { (1 ≤ result) × (result ≤ 64) }
+    {
+        self.workers
+    }
+
+    /// What gives them memory.
+    pub fn alloc(&self) -> Global {
+        self.alloc
+    }
+
+    /// Runs the job at each number below `count` by these workers ([`run_all`]).
+    pub fn run<J: UnitJob + Sync, G: Gate + Sync>(
+        &self,
+        job: &J,
+        gate: &G,
+        count: usize,
+    ) -> Result<Vec<J::Out>, OutOfMemory>
+    where
+        J::Out: Send,
+        J::Scratch: Send,
+        requires count { count ≤ 2 ^ 32 }
+        ensures count { IfOk result (λ outs. vec_len outs ≡ count) }
+        ensures each { IfOk result (λ outs. AreInOrder (J.gives job.now) outs.items) }
+    {
+        run_all(self.rt, self.alloc, job, gate, count, self.workers)
+    }
+}
