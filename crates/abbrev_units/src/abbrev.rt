@@ -76,10 +76,7 @@ fn read_behind(
         Err(fault) => return Err(Stop::Fault(fault)),
     };
     let from = lists.specs.len();
-    match read_specs(&mut lists.specs, cursor, forms) {
-        Ok(()) => {}
-        Err(stop) => return Err(stop),
-    }
+    read_specs(&mut lists.specs, cursor, forms)?;
     let head = lists.add(from, code, tag, children)?;
     Ok(Some(head))
 }

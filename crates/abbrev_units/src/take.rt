@@ -117,7 +117,7 @@ fn take_of(spec: &Spec, row: FormRow, bytes: u32, slot: Slot) -> Option<Take>
     }
 }
 
-/// The bytes in front, and those of an operand of fixed size that goes to no slot.
+/// The bytes to pass: those in front, and those of an operand of fixed size that goes to no slot.
 fn joined(bytes: u32, slot: Slot, layout: Kind) -> Option<u32>
     ensures { IfSome result (λ sum. Joins slot layout bytes sum) }
 {

@@ -152,10 +152,7 @@ fn read_upto<'a>(
         (λ c. (core_fault bytes.now ≡ None) × (c ≡ parts_upto limit bytes.now))
         (λ fault. core_fault bytes.now ≡ Some fault) (Unit {0}) }
 {
-    let parts = match read_parts(alloc, bytes, limit) {
-        Ok(parts) => parts,
-        Err(stop) => return Err(stop),
-    };
+    let parts = read_parts(alloc, bytes, limit)?;
     let Listing {
         modules,
         pages: _,

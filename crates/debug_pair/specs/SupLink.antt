@@ -27,7 +27,7 @@ or_bad (Err fault) = Err Link
 abbrev pub all_ahead : List ℕ → Ahead
 all_ahead bytes = record { bytes = bytes; at = 0 }
 
--- the fields of `.debug_sup` in front: whether its version is 5, and its second field, which says whether the file is itself supplementary,
+-- the first two fields of `.debug_sup`: whether the version is 5 and the second field, which says whether the file is itself supplementary,
 -- is this one
 unfoldable pub sup_front_at : ℕ → Ahead → Result (Bool × Ahead) SupFault
 sup_front_at kind c =

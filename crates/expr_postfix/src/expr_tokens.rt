@@ -177,10 +177,7 @@ pub fn rule_tokens(
         (λ why. (why ≡ Expression) × (rule_tokens start fetch expr.now ≡ None))
         (Unit {0}) }
 {
-    let mut words = match words_of(alloc, expr, start) {
-        Ok(words) => words,
-        Err(stop) => return Err(stop),
-    };
+    let mut words = words_of(alloc, expr, start)?;
     if fetch {
         words.push(Token::Fetch)?;
     }

@@ -50,7 +50,7 @@ wide_behind which at c =
     if is_eh which then Err (record { kind = Format64; section = which; at = at }) else
     (or_length which at (fixed_at 8 c) >>= λ count. entry_at which at true count.0 count.1)
 
--- after a length: a zero is no entry, and ends `.eh_frame`
+-- what stands behind a length: a length of 0 is no entry, and ends `.eh_frame`
 unfoldable pub mark_behind : Sect → ℕ → ℕ → Ahead → Result (Mark × Ahead) (Located FrameKind)
 mark_behind which at count c =
     if count == 0 then Ok (if is_eh which then Terminator else Padding, c) else

@@ -339,7 +339,7 @@ impl<'c> Machine<'c> {
         Ok(())
     }
 
-    /// Takes the row that was remembered last away.
+    /// Removes the row that was remembered last.
     fn pop(&mut self) -> Option<Row>
         ensures popped { MatchOption result (has_remembered self.old.stack ≡ false) (λ row. self.old.stack ≡ row ∷ self.new.stack) }
         ensures kept { (self.new.address ≡ self.old.address) × (self.new.row ≡ self.old.row) }

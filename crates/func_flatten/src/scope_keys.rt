@@ -64,7 +64,7 @@ fn place_of(unit: u32, entry: u32) -> u64
     u64::from(unit) * 0x1_0000_0000 + u64::from(entry)
 }
 
-/// Lets what an entry puts in front follow the text of a key.
+/// Adds to the text of a key what an entry puts in front of the names inside it.
 fn add_front(
     blocks: &mut NameBlocks,
     key: &mut NameKey,

@@ -219,6 +219,7 @@ pub fn ranges_of(
 }
 
 /// Where the list of an entry stands.
+#[inline(always)]
 #[tactic(auto, unfolding(crate::specs::EntryRanges::place_of_list))]
 fn place_of_list(
     sections: &Sections<'_>,
@@ -252,6 +253,7 @@ pub fn counts_at(table: &DieTable<'_>, entry: u32) -> bool
 /// Where the list of an entry stands in its section, by the entry's number in the table: `None` where the
 /// entry does not count, has no list, or its place has a fault, and after the last entry. Entries of one unit
 /// whose lists stand at one place have one set: [`lists_at_one_place`](crate::laws::lists_at_one_place).
+#[inline(always)]
 pub fn listed_at(
     sections: &Sections<'_>,
     unit: &Unit,

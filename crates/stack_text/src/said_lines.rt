@@ -9,7 +9,7 @@ use std::collections::BTreeSet;
 use sym_edges::OutOfMemory;
 use sym_records::ByteText;
 
-/// Lines, of which each is said where it first comes.
+/// Lines, each of which is written only where it first occurs.
 #[derive(Drop)]
 pub(crate) struct SaidLines {
     text: Vec<u8>,

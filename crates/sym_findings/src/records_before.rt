@@ -1,4 +1,4 @@
-//! What is kept of the records before one, and known of all.
+//! What is kept of the records before a record, and what is known of all records.
 use crate::met_ranges::MetRanges;
 use crate::numbers::{GivenNumbers, KnownNumbers};
 use sym_records::Extent;

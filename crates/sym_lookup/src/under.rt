@@ -20,7 +20,7 @@ use sym_records::SymLine;
 /// How the line record at an address is found.
 #[derive(Drop)]
 pub enum LineFinder {
-    /// By halves: the line records stand from a place to an end, rise and do not meet.
+    /// By halves, since the line records from a place up to an end rise and do not meet.
     Rising { first: u32, end: u32 },
     /// By a map of them.
     Map { map: PlaceMap },
