@@ -11,10 +11,7 @@ use sym_records::{ByteSink, SymFile, SymText};
 fn bytes_of(alloc: Global, text: &SymText) -> Result<Vec<u8>, OutOfMemory>
     ensures { IfOk result (λ bytes. reading bytes.items ≡ Ok text.now) }
 {
-    let mut sink = ByteSink {
-        bytes: Vec::new(alloc),
-        faults: 0,
-    };
+    let mut sink = ByteSink::new(alloc);
     match text.write(&mut sink) {
         Ok(()) => {}
         Err(Failed) => return Err(OutOfMemory),

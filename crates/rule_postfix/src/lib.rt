@@ -14,8 +14,8 @@
 //!
 //! The instructions of a CIE are carried out once for all of its entries: `cie_states` has the states that they leave.
 //!
-//! A rule of a DWARF expression is spelled by `expr_postfix` from the bytes at its place. Its words may be longer than the line in which the
-//! other rules are made, so a record with such a rule is spelled by `long_rules`, at the end of a text that grows.
+//! Records are spelled backward, into a line that has room for all rules (`rules`). The words of a DWARF expression, which `expr_postfix`
+//! gives, may be longer, so the rules of a record with one are made in memory and spelled forward, as records that were read are (`long_rules`).
 //!
 //! Entries are translated in shares, side by side, each share as if no range were taken before it; one of whose ranges is taken is translated anew, in turn.
 //!

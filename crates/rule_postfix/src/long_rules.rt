@@ -1,5 +1,6 @@
-//! Rules with expressions, which may be longer than a line: they are spelled at the end of a text that grows.
-ghost use Rattle.std.specs.Prelude.{◌≡◌, ◌≤◌, ◌++◌, ◌∷◌, [], length, drop, IfOk, OnOk};
+//! Rules with expressions, which may be longer than a line: they are made in memory, and spelled forward.
+ghost use Rattle.std.specs.Prelude.{◌≡◌, ◌++◌, ◌∷◌, [], IfOk, OnOk};
+ghost use Rattle.std.specs.Option.{option_to_list};
 ghost use Rattle.sym_rules.specs.declared.rules.Target.TheVariants.{Cfa};
 ghost use Rattle.sym_rules.specs.Rules.{spelled_rules};
 ghost use Rattle.frame_rows.specs.Rows.{expr_bytes};
@@ -7,8 +8,8 @@ ghost use Rattle.sym_records.specs.Canon.{canon_text};
 ghost use Rattle.expr_postfix.specs.ExprTokens.{rule_tokens};
 ghost use Rattle.rule_postfix.specs.RowParts.{cfa_part, column_part, rule_at};
 ghost use Rattle.rule_postfix.specs.FrameLines.{change};
-ghost use Rattle.rule_postfix.specs.RowRules.{unruled_tokens, own_name, rule_spelled, cfa_tokens, spelled, rules_of, registers, if_other, if_changed, row_rules, changed_rules, some_becomes_unspecified};
-ghost use Rattle.rule_postfix.specs.internal.Backward.{column_of, target_of, rule_text};
+ghost use Rattle.rule_postfix.specs.RowRules.{unruled_tokens, own_name, rule_spelled, cfa_tokens, spelled, rule_of, if_other, row_rules, changed_rules, some_becomes_unspecified};
+ghost use Rattle.rule_postfix.specs.internal.Backward.{column_of, target_of};
 
 use crate::column_target::ColumnTarget;
 use crate::parts::{
@@ -21,11 +22,8 @@ use frame_entries::Fde;
 use frame_rows::{CfaRule, Row, Rule};
 use std::alloc::Global;
 use sym_edges::{OutOfMemory, Stop};
-use sym_records::write_change;
-use sym_rules::{RuleText, Target, Token, Tokens, add_rules};
-
-/// The most bytes that the front of a record of changes has.
-const FRONT: usize = 48;
+use sym_records::{SymLine, render, spell_rules};
+use sym_rules::{RuleText, Rules, Target, Token, Tokens};
 
 /// The words of an expression of an entry, where rule text can say it, with `^` behind them where it fetches.
 fn expression_words(
@@ -143,29 +141,30 @@ fn column_target(target: ColumnTarget) -> Target
     }
 }
 
-/// Adds a rule of a target, where it has words.
-#[tactic(auto, using(crate::proofs::LongLemmas::no_rule_added), unfolding(crate::specs::internal::Backward::rule_text))]
-fn add_rule(text: &mut Vec<u8>, target: Target, words: Option<Tokens>) -> Result<(), OutOfMemory>
-    ensures { OnOk result (text.new.items ≡ text.old.items ++ rule_text target words) }
+/// Adds the rule of a target, where it has words.
+#[tactic(auto, using(crate::proofs::LongLemmas::no_rule_added))]
+fn push_rule(
+    rules: &mut Vec<RuleText>,
+    target: Target,
+    words: Option<Tokens>,
+) -> Result<(), OutOfMemory>
+    ensures { OnOk result (rules.new.items ≡ rules.old.items ++ option_to_list (rule_of target words)) }
 {
-    match words {
-        Some(tokens) => {
-            let rules = [RuleText { target, tokens }];
-            add_rules(text, &rules)
-        }
-        None => Ok(()),
+    if let Some(tokens) = words {
+        rules.push(RuleText { target, tokens })?;
     }
+    Ok(())
 }
 
 /// Adds the rule of a column, where two rows differ in it.
 #[tactic(auto, using(crate::proofs::LongLemmas::nothing_added))]
-fn add_column(
+fn push_column(
     alloc: Global,
-    text: &mut Vec<u8>,
+    rules: &mut Vec<RuleText>,
     target: ColumnTarget,
     rows: &Rows<'_, '_, '_>,
 ) -> Result<(), OutOfMemory>
-    ensures { OnOk result (text.new.items ≡ text.old.items ++ rule_text (target_of target) (if_other rows.now.fde.now (target_of target) (column_part (column_of target) (rule_at rows.now.before.now (column_of target))) (column_part (column_of target) (rule_at rows.now.after.now (column_of target))))) }
+    ensures { OnOk result (rules.new.items ≡ rules.old.items ++ option_to_list (rule_of (target_of target) (if_other rows.now.fde.now (target_of target) (column_part (column_of target) (rule_at rows.now.before.now (column_of target))) (column_part (column_of target) (rule_at rows.now.after.now (column_of target)))))) }
 {
     let column = target.column();
     let part = column_part(column, rule_at(rows.after, column));
@@ -173,13 +172,17 @@ fn add_column(
         return Ok(());
     }
     let words = part_words(alloc, rows.fde, target, part)?;
-    add_rule(text, column_target(target), words)
+    push_rule(rules, column_target(target), words)
 }
 
 /// Adds the rule of the CFA, where two rows differ in it.
 #[tactic(auto, using(crate::proofs::LongLemmas::nothing_added), unfolding(crate::specs::RowRules::spelled))]
-fn add_cfa(alloc: Global, text: &mut Vec<u8>, rows: &Rows<'_, '_, '_>) -> Result<(), OutOfMemory>
-    ensures { OnOk result (text.new.items ≡ text.old.items ++ rule_text Cfa (if_other rows.now.fde.now Cfa (cfa_part rows.now.before.now.cfa) (cfa_part rows.now.after.now.cfa))) }
+fn push_cfa(
+    alloc: Global,
+    rules: &mut Vec<RuleText>,
+    rows: &Rows<'_, '_, '_>,
+) -> Result<(), OutOfMemory>
+    ensures { OnOk result (rules.new.items ≡ rules.old.items ++ option_to_list (rule_of Cfa (if_other rows.now.fde.now Cfa (cfa_part rows.now.before.now.cfa) (cfa_part rows.now.after.now.cfa)))) }
 {
     if same_part(cfa_part(rows.before.cfa), cfa_part(rows.after.cfa)) {
         return Ok(());
@@ -188,36 +191,21 @@ fn add_cfa(alloc: Global, text: &mut Vec<u8>, rows: &Rows<'_, '_, '_>) -> Result
         Some(cfa) => cfa_words(alloc, rows.fde, cfa)?,
         None => None,
     };
-    add_rule(text, Target::Cfa, words)
+    push_rule(rules, Target::Cfa, words)
 }
 
-/// Adds the rules of the registers in which two rows differ, by number.
-#[tactic(auto, using(crate::proofs::LongLemmas::one_added, crate::proofs::LongLemmas::none_added))]
-fn add_registers(
-    alloc: Global,
-    text: &mut Vec<u8>,
-    rows: &Rows<'_, '_, '_>,
-) -> Result<(), OutOfMemory>
-    ensures { OnOk result (text.new.items ≡ text.old.items ++ spelled_rules (rules_of (if_changed rows.now.fde.now rows.now.before.now rows.now.after.now) (registers 16))) }
+/// The rules of the targets in which two rows of an entry differ.
+#[tactic(auto, using(crate::proofs::LongLemmas::first_two, crate::proofs::LongLemmas::one_added, crate::proofs::LongLemmas::all_added))]
+fn changed_rules(alloc: Global, rows: &Rows<'_, '_, '_>) -> Result<Vec<RuleText>, OutOfMemory>
+    ensures { IfOk result (λ rules. rules.items ≡ changed_rules rows.now.fde.now rows.now.before.now rows.now.after.now) }
 {
+    let mut rules = Vec::new(alloc);
+    push_cfa(alloc, &mut rules, rows)?;
+    push_column(alloc, &mut rules, ColumnTarget::Ra, rows)?;
     'registers: for number in 0..16u8 {
-        add_column(alloc, text, ColumnTarget::Reg(number), rows)?;
+        push_column(alloc, &mut rules, ColumnTarget::Reg(number), rows)?;
     }
-    Ok(())
-}
-
-/// Adds the rules of the targets in which two rows of an entry differ.
-#[tactic(auto, using(crate::proofs::LongLemmas::all_added))]
-fn add_changes(
-    alloc: Global,
-    text: &mut Vec<u8>,
-    rows: &Rows<'_, '_, '_>,
-) -> Result<(), OutOfMemory>
-    ensures { OnOk result (text.new.items ≡ text.old.items ++ spelled_rules (changed_rules rows.now.fde.now rows.now.before.now rows.now.after.now)) }
-{
-    add_cfa(alloc, text, rows)?;
-    add_column(alloc, text, ColumnTarget::Ra, rows)?;
-    add_registers(alloc, text, rows)
+    Ok(rules)
 }
 
 /// Adds the rules that a row of an entry has, and the end of their line.
@@ -235,17 +223,10 @@ pub fn add_row_rules(
         before: &empty_row(),
         after: row,
     };
-    add_changes(alloc, text, &rows)?;
+    let rules = changed_rules(alloc, &rows)?;
+    let spelled = spell_rules(alloc, rules.as_slice())?;
+    text.extend_from_slice(spelled.as_slice())?;
     text.push(b'\n')?;
-    Ok(())
-}
-
-/// Adds what stands in a line from a place on.
-pub fn add_end(text: &mut Vec<u8>, line: &[u8], at: usize) -> Result<(), OutOfMemory>
-    requires { at ≤ length line.now }
-    ensures { OnOk result (text.new.items ≡ text.old.items ++ drop at line.now) }
-{
-    text.extend_from_slice(line.split_at(at).1)?;
     Ok(())
 }
 
@@ -259,17 +240,16 @@ pub fn add_change_record(
 ) -> Result<(), OutOfMemory>
     ensures { OnOk result (text.new.items ≡ text.old.items ++ canon_text (change address (changed_rules rows.now.fde.now rows.now.before.now rows.now.after.now))) }
 {
-    let mut rules = Vec::new(alloc);
-    add_changes(alloc, &mut rules, rows)?;
-    let spelled = rules.as_slice();
-    if spelled.is_empty() {
+    let rules = changed_rules(alloc, rows)?;
+    if rules.is_empty() {
         return Ok(());
     }
-    let mut line = [0; FRONT];
-    let at = write_change(address, &mut line, FRONT);
-    add_end(text, &line, at)?;
-    text.extend_from_slice(spelled)?;
-    text.push(b'\n')?;
+    let record = SymLine::Change {
+        address,
+        rules: Rules::of(rules),
+    };
+    let spelled = render(alloc, &record)?;
+    text.extend_from_slice(spelled.as_slice())?;
     Ok(())
 }
 

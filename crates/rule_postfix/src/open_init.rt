@@ -12,7 +12,7 @@ ghost use Rattle.rule_postfix.specs.internal.Writing.{Open, with_row, lines_of};
 ghost use Rattle.rule_postfix.specs.internal.Spelling.{IsSpelled, lacks_rule};
 
 use crate::change_record::write_change_line;
-use crate::long_rules::{add_change_record, add_end, add_row_rules, lose_column};
+use crate::long_rules::{add_change_record, add_row_rules, lose_column};
 use crate::rules::{LINE, Rows, Unwritten, write_row_rules};
 use frame_entries::Fde;
 use frame_rows::{Columns, Row, Stepper};
@@ -41,6 +41,15 @@ impl OpenInit {
             line: [0; LINE],
         }
     }
+}
+
+/// Adds what stands in a line from a place on.
+fn add_end(text: &mut Vec<u8>, line: &[u8], at: usize) -> Result<(), OutOfMemory>
+    requires { at ≤ length line.now }
+    ensures { OnOk result (text.new.items ≡ text.old.items ++ drop at line.now) }
+{
+    text.extend_from_slice(line.split_at(at).1)?;
+    Ok(())
 }
 
 /// An INIT begins at a row of an entry.

@@ -1,14 +1,24 @@
 -- Records spelled at the end of a text.
-use Rattle.std.proofs.Common.{◌≡◌, ℕ, ◌≤◌, ◌∷◌, ◌++◌, Bool, List, [], length, drop, codes, Result, Ok, Err, OnOk, refl, ap, sym, ◌∙◌, append_assoc, append-nil, arith, take, ◌-◌, length-drop}
+use Rattle.std.proofs.Common.{◌≡◌, ℕ, ◌+◌, ◌<◌, ◌≤◌, ◌∷◌, ◌++◌, Bool, List, [], length, drop, codes, Result, Ok, Err, OnOk, refl, ap, sym, ◌∙◌, append_assoc, append-nil, arith, take, ◌-◌, length-drop, get_or}
 use Rattle.std.proofs.lemmas.List.{drop_all, take_all}
 use Rattle.std.specs.List.{flat_map}
 use Rattle.std.specs.Fmt.{decimal}
 use Rattle.sym_rules.specs.Rules.{spelled_rules}
+use Rattle.sym_rules.proofs.BufferLemmas.{pieces_more}
 use Rattle.sym_rules.specs.declared.rules.RuleText.{RuleText}
 use Rattle.sym_records.specs.Canon.{body, canon, init_front, change_front}
 use Rattle.sym_records.specs.Fields.{hex, mark, spelled_range}
 use Rattle.sym_records.specs.declared.line.Extent.{Extent}
 use Rattle.sym_records.specs.declared.line.SymLine.TheVariants as line
+
+-- one more piece of a list
+pub adds_piece : {X : Type 0} (f : X → List ℕ) (xs : List X) (i : ℕ) (d : X) (old text new : List ℕ) → i < length xs → d ≡ get_or xs i d → text ≡ old ++ flat_map f (take i xs) → new ≡ text ++ f d → new ≡ old ++ flat_map f (take (i + 1) xs)
+adds_piece f xs i d old text new within is first second =
+    second ∙ ap (λ l. l ++ f d) first ∙ append_assoc old (flat_map f (take i xs)) (f d) ∙ ap (λ l. old ++ l) (sym (pieces_more f xs i d within is))
+
+-- all pieces
+pub adds_all : {X : Type 0} (f : X → List ℕ) (xs : List X) (i : ℕ) (old text : List ℕ) → length xs ≤ i → text ≡ old ++ flat_map f (take i xs) → text ≡ old ++ flat_map f xs
+adds_all f xs i old text past is = is ∙ ap (λ l. old ++ flat_map f l) (take_all i xs past)
 
 -- pieces that were written one in front of another
 two_before : (a b old behind now : List ℕ) → behind ≡ b ++ old → now ≡ a ++ behind → now ≡ (a ++ b) ++ old

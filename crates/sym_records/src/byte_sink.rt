@@ -1,14 +1,42 @@
 //! A sink that keeps what it takes, for spelling into memory.
-ghost use Rattle.std.specs.Prelude.{◌≡◌, ◌≤◌, ◌<◌, ◌++◌, length, take, Some, Ok, IfOk, OnErr};
+ghost use Rattle.std.specs.Prelude.{◌≡◌, ◌≤◌, ◌<◌, ◌++◌, [], length, take, Some, Ok, IfOk, OnErr};
 ghost use Rattle.sym_edges.specs.Outside.{append_told, Rose};
 
-use sym_edges::{Failed, Sink};
+use std::alloc::Global;
+use sym_edges::{Failed, OutOfMemory, Sink};
+use sym_rules::{ByteText, Waiting, hand_on};
 
 /// A sink that keeps what it takes. It fails where memory runs out.
 #[derive(Drop)]
 pub struct ByteSink {
     pub bytes: Vec<u8>,
     pub faults: u64,
+}
+
+impl ByteSink {
+    /// Nothing is taken yet.
+    pub fn new(alloc: Global) -> ByteSink
+        ensures { result.bytes.items ≡ [] }
+    {
+        ByteSink {
+            bytes: Vec::new(alloc),
+            faults: 0,
+        }
+    }
+
+    /// What was taken, and behind it what waits.
+    pub(crate) fn into_text<const N: usize>(
+        self,
+        waiting: &mut Waiting<N>,
+    ) -> Result<ByteText, OutOfMemory>
+        ensures { IfOk result (λ t. t ≡ self.bytes.items ++ waiting.old) }
+    {
+        let mut sink = self;
+        match hand_on(&mut sink, waiting) {
+            Ok(()) => Ok(ByteText::of(sink.bytes)),
+            Err(Failed) => Err(OutOfMemory),
+        }
+    }
 }
 
 impl Sink for ByteSink {

@@ -50,7 +50,7 @@ pub use line::{Binary, BoxedBinary, Extent, Extents, SymLine, SymLines};
 pub use listed::FieldList;
 pub use pieces::TextPieces;
 pub use place::Place;
-pub use rendered::render;
+pub use rendered::{render, spell_rules};
 pub use sym_rules::{
     ByteText, RuleName, RuleText, Rules, Target, TextFault, TextKind, Token, Tokens,
 };

@@ -1,4 +1,4 @@
-//! Spelling a record into a sink.
+//! Spelling a record that is in memory into a sink, forward, through a buffer in front of it.
 ghost use Rattle.std.specs.Prelude.{◌≡◌, ◌<◌, ◌∷◌, ◌++◌, length};
 ghost use Rattle.std.specs.Fmt.{decimal};
 ghost use Rattle.std.specs.List.{flat_map};
@@ -157,24 +157,21 @@ fn put_worded<O: Sink, const N: usize>(
     put_fields(sink, waiting, fields)
 }
 
-/// Puts a line record without the end of its line.
-fn put_line<O: Sink, const N: usize>(
+/// Puts a hexadecimal number, and fields after it, with one space in front of each.
+fn put_numbered<O: Sink, const N: usize>(
     sink: &mut O,
     waiting: &mut Waiting<N>,
-    address: u64,
-    size: u64,
-    line: u32,
-    file: u32,
+    number: u64,
+    fields: &[Field<'_>],
 ) -> Result<(), Failed>
-    ensures { Hands result (O.taken sink.old) (O.faults sink.old) waiting.old (body (SymLine.Line address size line file)) (O.taken sink.new) (O.faults sink.new) waiting.new }
+    ensures { Hands result (O.taken sink.old) (O.faults sink.old) waiting.old (hex number ++ flat_map (λ f. spelled_field (said f)) fields.now) (O.taken sink.new) (O.faults sink.new) waiting.new }
 {
-    let start = HexText::of(address);
-    let rest = [Field::Hex(size), Field::Decimal(line), Field::Decimal(file)];
+    let start = HexText::of(number);
     match put(sink, waiting, start.as_slice()) {
         Ok(()) => {}
         Err(Failed) => return Err(Failed),
     }
-    put_fields(sink, waiting, &rest)
+    put_fields(sink, waiting, fields)
 }
 
 /// Puts a record without the end of its line.
@@ -191,7 +188,14 @@ fn put_body<O: Sink, const N: usize>(
             size,
             line,
             file,
-        } => put_line(sink, waiting, *address, *size, *line, *file),
+        } => {
+            let rest = [
+                Field::Hex(*size),
+                Field::Decimal(*line),
+                Field::Decimal(*file),
+            ];
+            put_numbered(sink, waiting, *address, &rest)
+        }
         _ => put_worded(sink, waiting, line),
     }
 }

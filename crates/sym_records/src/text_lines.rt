@@ -1,4 +1,4 @@
-//! Adding records to a text without making them.
+//! Adding records to a text without making them: numbers are written backward, into a line that has room for them.
 ghost use Rattle.std.specs.Prelude.{◌≡◌, ◌+◌, ◌≤◌, [], ◌∷◌, ◌++◌, length, drop, OnOk};
 ghost use Rattle.std.specs.Fmt.{decimal};
 ghost use Rattle.std.specs.List.{flat_map};
@@ -10,7 +10,7 @@ ghost use Rattle.sym_records.specs.declared.line.SymLine.TheVariants as line;
 use crate::line::Extent;
 use clean_names::add_cleaned;
 use sym_edges::OutOfMemory;
-use sym_rules::{add_word, write_byte, write_bytes, write_decimal, write_hex, write_last};
+use sym_rules::{write_byte, write_bytes, write_decimal, write_hex, write_last};
 
 /// Room for the numbers of a line, with their spaces and its words.
 const LINE: usize = 64;
@@ -66,6 +66,15 @@ fn begin(text: &mut Vec<u8>, words: &[u8], room: usize) -> Result<(), OutOfMemor
 {
     text.reserve(room.saturating_add(ROOM))?;
     text.extend_from_slice(words)?;
+    Ok(())
+}
+
+/// Adds a word after one space.
+fn add_word(text: &mut Vec<u8>, word: &[u8]) -> Result<(), OutOfMemory>
+    ensures { OnOk result (text.new.items ≡ text.old.items ++ 32 ∷ word.now) }
+{
+    text.push(b' ')?;
+    text.extend_from_slice(word)?;
     Ok(())
 }
 
@@ -125,7 +134,7 @@ fn add_range(text: &mut Vec<u8>, range: Extent) -> Result<(), OutOfMemory>
     Ok(())
 }
 
-#[tactic(auto, using(sym_rules::proofs::AddingLemmas::adds_piece, sym_rules::proofs::AddingLemmas::adds_all))]
+#[tactic(auto, using(crate::proofs::AddingLemmas::adds_piece, crate::proofs::AddingLemmas::adds_all))]
 fn add_ranges(text: &mut Vec<u8>, ranges: &[Extent]) -> Result<(), OutOfMemory>
     ensures { OnOk result (text.new.items ≡ text.old.items ++ flat_map spelled_range ranges.now) }
 {

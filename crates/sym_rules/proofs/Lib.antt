@@ -10,7 +10,6 @@ pub mod BufferLemmas
 pub mod LengthLemmas
 pub mod SpellingLemmas
 pub mod PlainLemmas
-pub mod AddingLemmas
 pub mod LastLemmas
 pub mod Computing
 pub mod DigitsLemmas

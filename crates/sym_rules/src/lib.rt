@@ -2,8 +2,9 @@
 //!
 //! A rule says how a register of the caller is found: it has a target, whose name ends with `:`, and the words of a
 //! postfix expression (Breakpad's symbol_files.md). `are_rules` tests whether a line can carry rules, `rules_length` says
-//! how long they are, `add_rules` spells them at the end of a text, and `put_rules` through a buffer in front of a sink. The `write_`
-//! calls write numbers and names into a line from its end to its front. `cut_word` and the calls beside it cut a line into its fields.
+//! how long they are. There are two ways to spell: `put_rules` and the calls beside it hand rules that are in memory to a sink, forward, through
+//! a buffer, and take no memory; the `write_` calls write numbers and names into a line that has room for them, from its end to its front.
+//! `cut_word` and the calls beside it cut a line into its fields.
 #![tactic(auto)]
 
 // The rules, and what may be wrong with a text that has them.
@@ -21,7 +22,6 @@ mod registers;
 mod backward;
 mod sink_buffer;
 mod sink_rules;
-mod text_end;
 mod waiting_bytes;
 mod words;
 
@@ -31,7 +31,6 @@ pub use registers::{register_name, register_named, register_of, write_register};
 pub use rules::{ByteText, RuleName, RuleText, Rules, Target, Token, Tokens};
 pub use sink_buffer::{hand_on, put, put_word};
 pub use sink_rules::put_rules;
-pub use text_end::{add_rules, add_word};
 pub use text_fault::{TextFault, TextKind};
 pub use validity::{are_rules, are_unparted};
 pub use waiting_bytes::Waiting;

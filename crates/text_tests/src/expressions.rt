@@ -6,7 +6,8 @@ use std::alloc::Global;
 use std::mem::size_of;
 use std::test::Fail;
 use sym_edges::{OutOfMemory, Reason, Stop};
-use sym_rules::{RuleText, Target, Tokens, add_rules};
+use sym_records::spell_rules;
+use sym_rules::{ByteText, RuleText, Target, Tokens};
 
 const _: () = prove!(size_of::<Place>() == 12);
 
@@ -19,14 +20,12 @@ fn words_or_none(alloc: Global, words: Result<Tokens, Stop<Reason>>) -> Tokens {
 }
 
 /// The words of a rule of the CFA.
-fn spelled(alloc: Global, words: Tokens) -> Result<Vec<u8>, OutOfMemory> {
+fn spelled(alloc: Global, words: Tokens) -> Result<ByteText, OutOfMemory> {
     let rule = RuleText {
         target: Target::Cfa,
         tokens: words,
     };
-    let mut text = Vec::new(alloc);
-    add_rules(&mut text, Vec::from_array(alloc, [rule])?.as_slice())?;
-    Ok(text)
+    spell_rules(alloc, Vec::from_array(alloc, [rule])?.as_slice())
 }
 
 #[test]
@@ -35,11 +34,11 @@ fn expressions_are_spelled(rt: HostRuntime) -> Result<(), Fail> {
     let words = tokens(rt.alloc(), &linkers, false);
     let text = spelled(rt.alloc(), words_or_none(rt.alloc(), words))?;
     let wanted = b" .cfa: $rsp 8 + $rip 0 + 16 % 5 + 16 / 8 * +".as_slice();
-    same(&rt, "a linker's table of jumps", &text, wanted);
+    same(&rt, "a linker's table of jumps", text.as_slice(), wanted);
     let words = rule_tokens(rt.alloc(), &[0x77, 0x78], true, true);
     let text = spelled(rt.alloc(), words_or_none(rt.alloc(), words))?;
     let wanted = b" .cfa: $rsp -8 + ^".as_slice();
-    same(&rt, "a saved register", &text, wanted);
+    same(&rt, "a saved register", text.as_slice(), wanted);
     Ok(())
 }
 

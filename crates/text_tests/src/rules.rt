@@ -4,10 +4,8 @@ use std::alloc::Global;
 use std::mem::size_of;
 use std::test::Fail;
 use sym_edges::{CallList, MemSink, OutOfMemory};
-use sym_rules::{
-    ByteText, RuleName, RuleText, Target, Token, Tokens, Waiting, add_rules, add_word, hand_on,
-    put_rules,
-};
+use sym_records::spell_rules;
+use sym_rules::{ByteText, RuleName, RuleText, Target, Token, Tokens, Waiting, hand_on, put_rules};
 
 const _: () = prove!(size_of::<Token>() == 16);
 
@@ -46,10 +44,8 @@ const RULES: &[u8] = b" .cfa: $rsp 8 + .ra: .cfa -8 + ^ $rbp: $rbp $xmm0: .ra .u
 #[test]
 fn rules_are_spelled(rt: HostRuntime) -> Result<(), Fail> {
     let rules = some_rules(rt.alloc())?;
-    let mut text = Vec::new(rt.alloc());
-    add_word(&mut text, b"a")?;
-    add_rules(&mut text, rules.as_slice())?;
-    same(&rt, "at the end of a text", text.split_at(2).1, RULES);
+    let text = spell_rules(rt.alloc(), rules.as_slice())?;
+    same(&rt, "in memory", text.as_slice(), RULES);
     let none = CallList::of(Vec::new(rt.alloc()));
     let mut sink = MemSink::new(rt.alloc(), 100, 7, none)?;
     let mut waiting = Waiting::<4>::new();
