@@ -1,11 +1,16 @@
--- Names that cleaning leaves as they are (for whole_name of die_names, and for the texts of func_records).
-use Rattle.std.proofs.Common.{◌≡◌, ◌≢◌, ℕ, zero, suc, ◌≤◌, ◌==◌, Bool, true, false, nat_lt, nat_eq, ◌||◌, cond, min, get_or, List, [], ◌∷◌, map, take, length, codes, refl, sym, ap, ◌∙◌, arith}
+-- Names that cleaning leaves as they are (for is_clean, and for the texts of func_records).
+use Rattle.std.proofs.Common.{◌≡◌, ◌≢◌, ℕ, zero, suc, ◌<◌, ◌≤◌, ◌==◌, Bool, true, false, nat_lt, nat_eq, ◌||◌, cond, min, get_or, List, [], ◌∷◌, map, take, length, codes, refl, sym, ap, subst, ◌∙◌, arith}
 use Rattle.std.specs.List.{list_all}
+use Rattle.std.specs.Str.{bytes_eq}
+use Rattle.std.specs.Bool.{Decides}
+use Rattle.std.proofs.lemmas.Bool.Decides.{nat_tests}
+use Rattle.std.proofs.lemmas.Slice.Eq.{bytes_eq-Decides}
 use Rattle.std.proofs.lemmas.List.{length-take, take_all}
 use Rattle.clean_names.specs.Names.{is_space, skip}
 use Rattle.clean_names.specs.Cleaning.{shown_byte, or_omitted, cleaned_upto, cleaned}
 use Rattle.clean_names.proofs.SkipLemmas.{skip_here, Begins, begins_skip}
-use Rattle.clean_names.proofs.CleaningLemmas.{begins_take, cleaned_some, all_same}
+use Rattle.clean_names.proofs.BoolLemmas.{both}
+use Rattle.clean_names.proofs.CleaningLemmas.{begins_take, cleaned_some, cleaned_short, all_same}
 
 -- a byte that is shown is shown as it is
 shown_by : (b : ℕ) (control : Bool) → (nat_lt b 32 || nat_eq b 127) ≡ control → shown_byte (cond control 63 b) ≡ cond control 63 b
@@ -84,3 +89,66 @@ clean_upto limit (b ∷ bytes) some short first all =
 pub clean_already : (bytes : List ℕ) → length bytes ≢ 0 → length bytes ≤ 65536 → get_or bytes 0 0 ≢ 32 → list_all (λ b. shown_byte b == b) bytes ≡ true → cleaned bytes ≡ bytes
 unfolding cleaned
 clean_already bytes some short first all = clean_upto 65536 bytes some short first all
+
+-- and bytes that cleaning changes: the test is true exactly where both are the same
+same_test : {P : Type 0} (t b : Bool) → Decides t P → (b ≡ true → P) → (P → b ≡ true) → b ≡ t
+same_test true b is there back = back (is.0 refl)
+same_test false true is there back = sym (is.1 (there refl))
+same_test false false is there back = refl
+
+changes : (bytes : List ℕ) → (cleaned bytes ≡ bytes → ⊥) → false ≡ bytes_eq (cleaned bytes) bytes
+changes bytes other = same_test (bytes_eq (cleaned bytes) bytes) false (bytes_eq-Decides (cleaned bytes) bytes) (λ is. cc) (λ is. absurd (other is))
+
+all_fixed : (bytes : List ℕ) → AreShown bytes → list_all (λ b. shown_byte b == b) bytes ≡ true
+all_fixed [] shown = refl
+all_fixed (b ∷ bytes) shown = both (let here : (shown_byte b == b) ≡ true = grind (arith, nat_tests, shown.0) in here) (all_fixed bytes shown.1)
+
+omitted_fixed : (front : List ℕ) → AreShown front → list_all (λ b. shown_byte b == b) (or_omitted front) ≡ true
+omitted_fixed [] shown = refl
+omitted_fixed (b ∷ front) shown = all_fixed (b ∷ front) shown
+
+upto_fixed : (limit : ℕ) (bytes : List ℕ) → list_all (λ b. shown_byte b == b) (cleaned_upto limit bytes) ≡ true
+unfolding cleaned_upto
+upto_fixed limit bytes =
+    omitted_fixed (take limit (skip is_space (map shown_byte bytes))) (shown_take limit (skip is_space (map shown_byte bytes)) (shown_skip (map shown_byte bytes) (shown_map bytes)))
+
+omitted_begins : (front : List ℕ) → Begins front → Begins (or_omitted front)
+omitted_begins [] begins = refl
+omitted_begins (b ∷ front) begins = begins
+
+upto_begins : (limit : ℕ) (bytes : List ℕ) → Begins (cleaned_upto limit bytes)
+unfolding cleaned_upto
+upto_begins limit bytes = omitted_begins (take limit (skip is_space (map shown_byte bytes))) (begins_take limit (skip is_space (map shown_byte bytes)) (begins_skip (map shown_byte bytes)))
+
+omitted_some : (front : List ℕ) → length (or_omitted front) ≢ 0
+omitted_some [] = omega arith
+omitted_some (b ∷ front) = omega arith
+
+upto_some : (limit : ℕ) (bytes : List ℕ) → length (cleaned_upto limit bytes) ≢ 0
+unfolding cleaned_upto
+upto_some limit bytes = omitted_some (take limit (skip is_space (map shown_byte bytes)))
+
+is_not : true ≡ false → ⊥
+is_not is = cc
+
+begins_not : (bytes : List ℕ) → length bytes ≢ 0 → get_or bytes 0 0 ≡ 32 → Begins bytes → ⊥
+begins_not [] some space begins = some refl
+begins_not (b ∷ bytes) some space begins = let here : (b == 32) ≡ true = grind (arith, nat_tests) in is_not (sym here ∙ begins)
+
+pub none_changes : (bytes : List ℕ) → length bytes ≡ 0 → false ≡ bytes_eq (cleaned bytes) bytes
+unfolding cleaned
+none_changes bytes none = changes bytes (λ is. upto_some 65536 bytes (ap length is ∙ none))
+
+pub long_changes : (bytes : List ℕ) → 65536 < length bytes → false ≡ bytes_eq (cleaned bytes) bytes
+unfolding cleaned
+long_changes bytes long = changes bytes (λ is. let short : length (cleaned_upto 65536 bytes) ≤ 65536 = cleaned_short 65536 bytes (omega arith) in omega (arith, short, ap length is, long))
+
+pub spaced_changes : (bytes : List ℕ) → length bytes ≢ 0 → get_or bytes 0 0 ≡ 32 → false ≡ bytes_eq (cleaned bytes) bytes
+unfolding cleaned
+spaced_changes bytes some space = changes bytes (λ is. begins_not bytes some space (subst Begins is (upto_begins 65536 bytes)))
+
+pub is_left : (bytes : List ℕ) (all : Bool) → length bytes ≢ 0 → length bytes ≤ 65536 → get_or bytes 0 0 ≢ 32 → all ≡ list_all (λ b. shown_byte b == b) bytes → all ≡ bytes_eq (cleaned bytes) bytes
+unfolding cleaned
+is_left bytes all some short first are =
+    same_test (bytes_eq (cleaned bytes) bytes) all (bytes_eq-Decides (cleaned bytes) bytes) (λ is. clean_already bytes some short first (sym are ∙ is))
+    (λ is. are ∙ ap (list_all (λ b. shown_byte b == b)) (sym is) ∙ upto_fixed 65536 bytes)

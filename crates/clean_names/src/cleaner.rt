@@ -1,6 +1,7 @@
 //! The cleaning of names.
 ghost use Rattle.std.specs.Prelude.{◌≡◌, ◌≤◌, ◌==◌, ◌++◌, codes, map, length, true, IfOk, OnOk, take};
 ghost use Rattle.std.specs.List.{list_all};
+ghost use Rattle.std.specs.Str.{bytes_eq};
 ghost use Rattle.clean_names.specs.Names.{is_space, skip, is_name};
 ghost use Rattle.clean_names.specs.Cleaning.{shown_byte, cleaned, cleaned_upto};
 
@@ -60,6 +61,23 @@ fn shown(alloc: Global, bytes: &[u8]) -> Result<Vec<u8>, AllocError>
         name[at] = shown_byte(name[at]);
     }
     Ok(name)
+}
+
+/// Whether cleaning leaves a name as it is.
+#[tactic(auto, using(crate::proofs::CleanLemmas::is_left, crate::proofs::CleanLemmas::none_changes, crate::proofs::CleanLemmas::long_changes, crate::proofs::CleanLemmas::spaced_changes))]
+pub fn is_clean(bytes: &[u8]) -> bool
+    ensures { result ≡ bytes_eq (cleaned bytes.now) bytes.now }
+{
+    if bytes.is_empty() {
+        return false;
+    }
+    if bytes.len() > NAME_LIMIT {
+        return false;
+    }
+    if bytes[0] == b' ' {
+        return false;
+    }
+    are_shown(bytes)
 }
 
 /// Adds the bytes with `?` for each control byte.

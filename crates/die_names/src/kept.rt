@@ -1,13 +1,11 @@
 //! Names as records carry them.
-ghost use Rattle.std.specs.Prelude.{◌≡◌, ◌==◌, true, IfSome};
-ghost use Rattle.std.specs.List.{list_all};
-ghost use Rattle.std.specs.Option.{option_copied};
-ghost use Rattle.clean_names.specs.Cleaning.{cleaned, shown_byte};
+ghost use Rattle.std.specs.Prelude.{◌≡◌, IfSome};
+ghost use Rattle.clean_names.specs.Cleaning.{cleaned};
 ghost use Rattle.die_names.specs.NameRefs.{name_bytes};
 
 use crate::joined_name::name_slice;
 use crate::name_source::NameRef;
-use clean_names::NAME_LIMIT;
+use clean_names::is_clean;
 use debug_units::Units;
 use std::marker::Model;
 use sym_edges::ByteRun;
@@ -61,29 +59,6 @@ impl<'a> EntryNameText<'a> {
             KeptName::Made(text) => text.as_slice(),
         }
     }
-}
-
-/// Whether no byte is a control byte.
-fn are_shown(bytes: &[u8]) -> bool
-    ensures { result ≡ list_all (λ b. shown_byte b == b) bytes.now }
-{
-    bytes.iter().all(|b| *b >= 0x20 && *b != 0x7f)
-}
-
-/// Whether a name is clean as it is.
-fn is_clean(bytes: &[u8]) -> bool
-    ensures { result ≡ true → cleaned bytes.now ≡ bytes.now }
-{
-    if bytes.is_empty() {
-        return false;
-    }
-    if bytes.len() > NAME_LIMIT {
-        return false;
-    }
-    if bytes[0] == b' ' {
-        return false;
-    }
-    are_shown(bytes)
 }
 
 /// The bytes of a name that stands in the file as a record may carry it. Takes no memory.
