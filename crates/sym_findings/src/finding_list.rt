@@ -3,7 +3,7 @@ ghost use Rattle.std.specs.Prelude.{◌≡◌, IfOk, [], ◌<◌};
 ghost use Rattle.sym_findings.specs.Findings.{findings};
 ghost use Rattle.sym_findings.specs.internal.Preceding.{Knows, Keeps};
 
-use crate::judgement::judge;
+use crate::judgement::{Notes, judge};
 use crate::kind::{Finding, FindingList};
 use crate::met_ranges::MetRanges;
 use crate::numbers::{GivenNumbers, KnownNumbers, numbers_in};
@@ -43,11 +43,15 @@ fn found_in(alloc: Global, known: &Known, lines: &[SymLine]) -> Result<Vec<Findi
     ensures { IfOk result (λ found. found.items ≡ findings lines.now) }
 {
     let mut kept = none_kept(alloc);
-    let mut out = Vec::new(alloc);
+    let mut notes = Notes {
+        list: Vec::new(alloc),
+        index: 0,
+    };
     for (index, line) in lines.iter().enumerate() {
-        judge(alloc, &mut out, known, &mut kept, index, line)?;
+        notes.index = index;
+        judge(alloc, &mut notes, known, &mut kept, line)?;
     }
-    Ok(out)
+    Ok(notes.list)
 }
 
 /// What a checker finds in the records of a file, by record and then kind. n log n turns at worst for n records and

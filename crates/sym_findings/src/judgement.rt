@@ -1,9 +1,11 @@
 //! The findings at one record.
-ghost use Rattle.std.specs.Prelude.{◌≡◌, ℕ, ◌&&◌, ◌||◌, ◌==◌, not, false, List, [], ◌∷◌, ◌++◌, None, OnOk};
+ghost use Rattle.std.specs.Prelude.{◌≡◌, ℕ, Bool, ◌&&◌, ◌||◌, ◌==◌, not, false, List, [], ◌∷◌, ◌++◌, None, OnOk};
 ghost use Rattle.std.specs.List.{list_all};
 ghost use Rattle.std.specs.Option.{is_some, option_map, option_map_or};
 ghost use Rattle.sym_records.specs.declared.line.Extent.{Extent};
 ghost use Rattle.sym_records.specs.declared.line.SymLine.{SymLine};
+ghost use Rattle.sym_records.specs.declared.line.SymLine.TheVariants as record_line;
+ghost use Rattle.sym_rules.specs.declared.rules.RuleText.{RuleText};
 ghost use Rattle.sym_meaning.specs.Findings.{run_of, is_sized, meet, holds_run};
 ghost use Rattle.sym_findings.specs.Findings.{goes_on, finding_if};
 ghost use Rattle.sym_findings.specs.internal.Numbers.{has_number};
@@ -18,20 +20,28 @@ use std::alloc::Global;
 use sym_edges::OutOfMemory;
 use sym_records::{Extent, SymLine};
 
-/// Lists a finding, where there is one.
-#[inline]
-fn note(
-    out: &mut Vec<Finding>,
-    found: bool,
-    kind: FindingKind,
-    index: usize,
-) -> Result<(), OutOfMemory>
-    ensures { OnOk result (out.new.items ≡ out.old.items ++ finding_if found kind index) }
-{
-    if found {
-        out.push(Finding { kind, index })?;
+/// The findings so far, and the index of the record that is looked at.
+#[derive(Drop)]
+pub struct Notes {
+    pub list: Vec<Finding>,
+    pub index: usize,
+}
+
+impl Notes {
+    /// Lists a finding at the record, where there is one.
+    #[inline]
+    fn note(&mut self, found: bool, kind: FindingKind) -> Result<(), OutOfMemory>
+        ensures list { OnOk result (self.new.list.items ≡ self.old.list.items ++ finding_if found kind self.old.index) }
+        ensures index { self.new.index ≡ self.old.index }
+    {
+        if found {
+            self.list.push(Finding {
+                kind,
+                index: self.index,
+            })?;
+        }
+        Ok(())
     }
-    Ok(())
 }
 
 /// Not empty, and the end is at most 2^64 - 1.
@@ -85,81 +95,12 @@ fn leaves_open(func: Option<Extent>, run: &Extent) -> bool
     }
 }
 
-/// A `FILE` or an `INLINE_ORIGIN`.
-fn judge_number(
-    out: &mut Vec<Finding>,
-    given: &mut GivenNumbers,
-    number: u32,
-    index: usize,
-) -> Result<(), OutOfMemory>
-    ensures found { OnOk result (out.new.items ≡ out.old.items ++ finding_if (has_number given.old number) FindingKind.GivenAgain index) }
-    ensures more { OnOk result ((n : ℕ) → has_number given.new n ≡ (has_number given.old n || number == n)) }
+/// Whether a function is open, and something else holds.
+#[inline]
+fn is_open_and(func: Option<Extent>, holds: bool) -> bool
+    ensures { result ≡ (is_some func && holds) }
 {
-    let again = given.give(number)?;
-    note(out, again, FindingKind::GivenAgain, index)?;
-    Ok(())
-}
-
-/// A `FUNC` or a `STACK CFI INIT`.
-fn judge_run(
-    out: &mut Vec<Finding>,
-    earlier: &mut MetRanges,
-    kind: FindingKind,
-    run: Extent,
-    index: usize,
-) -> Result<(), OutOfMemory>
-    ensures found { OnOk result (out.new.items ≡ out.old.items ++ finding_if (not (is_sized run)) FindingKind.BadSize index ++ finding_if (is_met earlier.old run) kind index) }
-    ensures more { OnOk result ((e : Extent) → is_met earlier.new e ≡ (is_met earlier.old e || meet e run)) }
-{
-    let met = earlier.put(run.address, run.size)?;
-    note(out, !is_sized(&run), FindingKind::BadSize, index)?;
-    note(out, met, kind, index)?;
-    Ok(())
-}
-
-/// An `INLINE`.
-fn judge_inline(
-    out: &mut Vec<Finding>,
-    known: &Known,
-    func: Option<Extent>,
-    file: u32,
-    origin: u32,
-    runs: &[Extent],
-    index: usize,
-) -> Result<(), OutOfMemory>
-    ensures { OnOk result (out.new.items ≡ out.old.items ++ finding_if (not (has_number known.now.files file)) FindingKind.NoFile index ++ finding_if (not (has_number known.now.origins origin)) FindingKind.NoOrigin index ++ finding_if (not (list_all is_sized runs.now)) FindingKind.BadSize index ++ finding_if (leaves_open runs.now func) FindingKind.LeavesFunc index) }
-{
-    note(out, !known.files.has(file), FindingKind::NoFile, index)?;
-    note(
-        out,
-        !known.origins.has(origin),
-        FindingKind::NoOrigin,
-        index,
-    )?;
-    note(out, !are_sized(runs), FindingKind::BadSize, index)?;
-    note(out, leave_open(func, runs), FindingKind::LeavesFunc, index)?;
-    Ok(())
-}
-
-/// A line record.
-fn judge_line(
-    out: &mut Vec<Finding>,
-    known: &Known,
-    func: Option<Extent>,
-    lines: &mut MetRanges,
-    run: Extent,
-    file: u32,
-    index: usize,
-) -> Result<(), OutOfMemory>
-    ensures found { OnOk result (out.new.items ≡ out.old.items ++ finding_if (not (has_number known.now.files file)) FindingKind.NoFile index ++ finding_if (not (is_sized run)) FindingKind.BadSize index ++ finding_if (leaves_open (run ∷ []) func) FindingKind.LeavesFunc index ++ finding_if (is_some func && is_met lines.old run) FindingKind.LineMeets index) }
-    ensures more { OnOk result ((e : Extent) → is_met lines.new e ≡ (is_met lines.old e || meet e run)) }
-{
-    let met = lines.put(run.address, run.size)?;
-    note(out, !known.files.has(file), FindingKind::NoFile, index)?;
-    note(out, !is_sized(&run), FindingKind::BadSize, index)?;
-    note(out, leaves_open(func, &run), FindingKind::LeavesFunc, index)?;
-    note(out, func.is_some() && met, FindingKind::LineMeets, index)?;
-    Ok(())
+    func.is_some() && holds
 }
 
 /// Whether a `STACK CFI` goes on with the `STACK CFI INIT` that is open.
@@ -197,40 +138,148 @@ fn close(kept: &mut Preceding)
     kept.init = None;
 }
 
+/// A `FILE`.
+fn judge_file(notes: &mut Notes, kept: &mut Preceding, number: u32) -> Result<(), OutOfMemory>
+    ensures { OnOk result ((all before : List SymLine) (name : List ℕ) → Keeps before kept.old → Judged all before notes.old.index (record_line.File number name) notes.old.list.items notes.new.list.items kept.new) }
+{
+    let again = kept.files.give(number)?;
+    notes.note(again, FindingKind::GivenAgain)?;
+    kept.func = None;
+    kept.init = None;
+    Ok(())
+}
+
+/// An `INLINE_ORIGIN`.
+fn judge_origin(notes: &mut Notes, kept: &mut Preceding, number: u32) -> Result<(), OutOfMemory>
+    ensures { OnOk result ((all before : List SymLine) (name : List ℕ) → Keeps before kept.old → Judged all before notes.old.index (record_line.Origin number name) notes.old.list.items notes.new.list.items kept.new) }
+{
+    let again = kept.origins.give(number)?;
+    notes.note(again, FindingKind::GivenAgain)?;
+    kept.func = None;
+    kept.init = None;
+    Ok(())
+}
+
+/// The addresses of a `FUNC` or of a `STACK CFI INIT`.
+fn judge_run(
+    notes: &mut Notes,
+    earlier: &mut MetRanges,
+    run: Extent,
+    kind: FindingKind,
+) -> Result<(), OutOfMemory>
+    ensures found { OnOk result (notes.new.list.items ≡ (notes.old.list.items ++ finding_if (not (is_sized run)) FindingKind.BadSize notes.old.index) ++ finding_if (is_met earlier.old run) kind notes.old.index) }
+    ensures more { OnOk result ((e : Extent) → is_met earlier.new e ≡ (is_met earlier.old e || meet e run)) }
+{
+    let met = earlier.put(run.address, run.size)?;
+    notes.note(!is_sized(&run), FindingKind::BadSize)?;
+    notes.note(met, kind)?;
+    Ok(())
+}
+
+/// A `FUNC`.
+fn judge_func(
+    alloc: Global,
+    notes: &mut Notes,
+    kept: &mut Preceding,
+    run: Extent,
+) -> Result<(), OutOfMemory>
+    ensures { OnOk result ((all before : List SymLine) (many : Bool) (params : ℕ) (name : List ℕ) → Keeps before kept.old → Judged all before notes.old.index (record_line.Func many run.address run.size params name) notes.old.list.items notes.new.list.items kept.new) }
+{
+    judge_run(notes, &mut kept.functions, run, FindingKind::FuncMeets)?;
+    kept.func = Some(run);
+    kept.lines = MetRanges::new(alloc);
+    kept.init = None;
+    Ok(())
+}
+
+/// What an `INLINE` says of a call: its file, the function's origin and the addresses.
+#[derive(Clone, Copy)]
+struct Call<'r> {
+    file: u32,
+    origin: u32,
+    runs: &'r [Extent],
+}
+
+/// An `INLINE`.
+fn judge_inline(
+    notes: &mut Notes,
+    known: &Known,
+    kept: &mut Preceding,
+    call: &Call<'_>,
+) -> Result<(), OutOfMemory>
+    ensures { OnOk result ((all before : List SymLine) (level line : ℕ) → Knows all known.now → Keeps before kept.old → Judged all before notes.old.index (record_line.Inline level line call.now.file call.now.origin call.now.runs.now) notes.old.list.items notes.new.list.items kept.new) }
+{
+    notes.note(!known.files.has(call.file), FindingKind::NoFile)?;
+    notes.note(!known.origins.has(call.origin), FindingKind::NoOrigin)?;
+    notes.note(!are_sized(call.runs), FindingKind::BadSize)?;
+    notes.note(leave_open(kept.func, call.runs), FindingKind::LeavesFunc)?;
+    kept.init = None;
+    Ok(())
+}
+
+/// A line record.
+fn judge_line(
+    notes: &mut Notes,
+    known: &Known,
+    kept: &mut Preceding,
+    run: Extent,
+    file: u32,
+) -> Result<(), OutOfMemory>
+    ensures { OnOk result ((all before : List SymLine) (line : ℕ) → Knows all known.now → Keeps before kept.old → Judged all before notes.old.index (record_line.Line run.address run.size line file) notes.old.list.items notes.new.list.items kept.new) }
+{
+    let met = kept.lines.put(run.address, run.size)?;
+    notes.note(!known.files.has(file), FindingKind::NoFile)?;
+    notes.note(!is_sized(&run), FindingKind::BadSize)?;
+    notes.note(leaves_open(kept.func, &run), FindingKind::LeavesFunc)?;
+    notes.note(is_open_and(kept.func, met), FindingKind::LineMeets)?;
+    kept.init = None;
+    Ok(())
+}
+
+/// A `STACK CFI INIT`.
+fn judge_init(notes: &mut Notes, kept: &mut Preceding, run: Extent) -> Result<(), OutOfMemory>
+    ensures { OnOk result ((all before : List SymLine) (rules : List RuleText) → Keeps before kept.old → Judged all before notes.old.index (record_line.Init run.address run.size rules) notes.old.list.items notes.new.list.items kept.new) }
+{
+    judge_run(notes, &mut kept.inits, run, FindingKind::InitMeets)?;
+    kept.func = None;
+    kept.init = Some(OpenInit {
+        init: run,
+        last: run.address,
+    });
+    Ok(())
+}
+
+/// A `STACK CFI`.
+fn judge_change(notes: &mut Notes, kept: &mut Preceding, address: u64) -> Result<(), OutOfMemory>
+    ensures { OnOk result ((all before : List SymLine) (rules : List RuleText) → Keeps before kept.old → Judged all before notes.old.index (record_line.Change address rules) notes.old.list.items notes.new.list.items kept.new) }
+{
+    notes.note(!goes_on(kept.init, address), FindingKind::ChangeOutside)?;
+    kept.func = None;
+    kept.init = moved(kept.init, address);
+    Ok(())
+}
+
+fn run_of(address: u64, size: u64) -> Extent
+    ensures { result ≡ run_of address size }
+{
+    Extent { address, size }
+}
+
 /// Lists the findings at a record, and keeps what it says.
 pub fn judge(
     alloc: Global,
-    out: &mut Vec<Finding>,
+    notes: &mut Notes,
     known: &Known,
     kept: &mut Preceding,
-    index: usize,
     line: &SymLine,
 ) -> Result<(), OutOfMemory>
-    ensures { OnOk result ((all before : List SymLine) → Knows all known.now → Keeps before kept.old → Judged all before index line.now out.old.items out.new.items kept.new) }
+    ensures { OnOk result ((all before : List SymLine) → Knows all known.now → Keeps before kept.old → Judged all before notes.old.index line.now notes.old.list.items notes.new.list.items kept.new) }
 {
     match line {
-        SymLine::File { number, .. } => {
-            judge_number(out, &mut kept.files, *number, index)?;
-            kept.func = None;
-            kept.init = None;
-            Ok(())
-        }
-        SymLine::Origin { number, .. } => {
-            judge_number(out, &mut kept.origins, *number, index)?;
-            kept.func = None;
-            kept.init = None;
-            Ok(())
-        }
+        SymLine::File { number, .. } => judge_file(notes, kept, *number),
+        SymLine::Origin { number, .. } => judge_origin(notes, kept, *number),
         SymLine::Func { address, size, .. } => {
-            let run = Extent {
-                address: *address,
-                size: *size,
-            };
-            judge_run(out, &mut kept.functions, FindingKind::FuncMeets, run, index)?;
-            kept.func = Some(run);
-            kept.lines = MetRanges::new(alloc);
-            kept.init = None;
-            Ok(())
+            judge_func(alloc, notes, kept, run_of(*address, *size))
         }
         SymLine::Inline {
             call_file,
@@ -238,54 +287,22 @@ pub fn judge(
             ranges,
             ..
         } => {
-            let runs = ranges.as_slice();
-            judge_inline(out, known, kept.func, *call_file, *origin, runs, index)?;
-            kept.init = None;
-            Ok(())
+            let call = Call {
+                file: *call_file,
+                origin: *origin,
+                runs: ranges.as_slice(),
+            };
+            judge_inline(notes, known, kept, &call)
         }
         SymLine::Line {
             address,
             size,
             file,
             ..
-        } => {
-            let run = Extent {
-                address: *address,
-                size: *size,
-            };
-            judge_line(out, known, kept.func, &mut kept.lines, run, *file, index)?;
-            kept.init = None;
-            Ok(())
-        }
-        SymLine::Init { address, size, .. } => {
-            let run = Extent {
-                address: *address,
-                size: *size,
-            };
-            judge_run(out, &mut kept.inits, FindingKind::InitMeets, run, index)?;
-            kept.func = None;
-            kept.init = Some(OpenInit {
-                init: run,
-                last: *address,
-            });
-            Ok(())
-        }
-        SymLine::Change { address, .. } => {
-            let outside = !goes_on(kept.init, *address);
-            note(out, outside, FindingKind::ChangeOutside, index)?;
-            kept.func = None;
-            kept.init = moved(kept.init, *address);
-            Ok(())
-        }
-        SymLine::Module { .. } => {
-            close(kept);
-            Ok(())
-        }
-        SymLine::Info { .. } => {
-            close(kept);
-            Ok(())
-        }
-        SymLine::Public { .. } => {
+        } => judge_line(notes, known, kept, run_of(*address, *size), *file),
+        SymLine::Init { address, size, .. } => judge_init(notes, kept, run_of(*address, *size)),
+        SymLine::Change { address, .. } => judge_change(notes, kept, *address),
+        SymLine::Module { .. } | SymLine::Info { .. } | SymLine::Public { .. } => {
             close(kept);
             Ok(())
         }

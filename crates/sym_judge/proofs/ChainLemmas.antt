@@ -1,5 +1,5 @@
 -- Lemmas on chains of calls by their numbers, for `chains` and `names`.
-use Rattle.std.proofs.Common.{◌≡◌, ◌<◌, ◌≤◌, ◌^◌, ◌&&◌, nat_le, nat_eq, ℕ, zero, suc, Bool, true, false, cond, List, [], ◌∷◌, ◌++◌, map, length, take, drop, get_or, Option, None, Some, IfSome, refl, sym, ap, subst, ◌∙◌, arith, ◌⊎◌, inl, inr}
+use Rattle.std.proofs.Common.{◌≡◌, ◌<◌, ◌≤◌, ◌^◌, ◌&&◌, nat_le, nat_eq, ℕ, suc, Bool, true, false, cond, List, [], ◌∷◌, ◌++◌, map, length, take, drop, get_or, Option, None, Some, IfSome, refl, sym, ap, subst, ◌∙◌, arith, ◌⊎◌, inl, inr}
 use Rattle.std.specs.Prelude.{slice_get}
 use Rattle.std.specs.Bool.{OnTrue}
 use Rattle.std.specs.Option.{option_map_or, is_some}
@@ -7,6 +7,7 @@ use Rattle.std.proofs.lemmas.Bool.{cases_lt}
 use Rattle.std.proofs.lemmas.Bool.Decides.{nat_tests}
 use Rattle.std.proofs.lemmas.Option.{slice_get-get_or, slice_get_past}
 use Rattle.std.proofs.lemmas.List.{take-append-drop}
+use Rattle.std.proofs.lemmas.List.Elements.{All-push}
 use Rattle.std.specs.List.Sorted.{IsNonDecreasingBy}
 use Rattle.sym_edges.proofs.RisingLemmas.{rises_sorted}
 use Rattle.sym_records.specs.declared.line.SymLine.{SymLine}
@@ -21,10 +22,10 @@ use Rattle.sym_lookup.specs.declared.answers.PlaceRun.{PlaceRun}
 use Rattle.sym_meaning.specs.TextNames.{Call}
 use Rattle.std.specs.Str.{bytes_eq}
 use Rattle.sym_judge.specs.Alike.{same_option, same_list, same_call}
-use Rattle.sym_judge.specs.declared.meetings.FuncMeetings.{FuncMeetings}
+use Rattle.sym_judge.specs.declared.function_pairs.FuncMeetings.{FuncMeetings}
 use Rattle.sym_judge.specs.declared.names.CallSpot.{CallSpot}
-use Rattle.sym_judge.specs.declared.numbers.Entry.{Entry}
-use Rattle.sym_judge.specs.declared.numbers.Entry.TheVariants as entry
+use Rattle.sym_judge.specs.declared.chain_numbers.Entry.{Entry}
+use Rattle.sym_judge.specs.declared.chain_numbers.Entry.TheVariants as entry
 use Rattle.sym_judge.specs.declared.chains.FuncChains.{FuncChains}
 use Rattle.sym_judge.specs.declared.chains.ChainPart.{ChainPart}
 use Rattle.sym_judge.specs.declared.chains.ChainPart.TheVariants.{Nothing, Whole, Ended, Unlike}
@@ -81,9 +82,6 @@ two_chains own old new (Some n) i j c d keeps is p q = record {
 nothing_behind : (xs : List Shown) → xs ++ [] ≡ xs
 nothing_behind [] = refl
 nothing_behind (x ∷ xs) = ap (λ ys. x ∷ ys) (nothing_behind xs)
-
-pub ended_behind : (own : List SymLine) (entries : List Entry) (n : ℕ) (c d : List Shown) (g : Bool) → Means own entries n c → IsPart own entries d g Nothing → IsPart own entries (c ++ d) g (Ended n)
-ended_behind own entries n c d g m is = (subst (Means own entries n) (sym (ap (λ ys. c ++ ys) is.0 ∙ nothing_behind c)) m, is.1)
 
 pub whole_behind : (own : List SymLine) (old new : List Entry) (number : Option ℕ) (part : ChainPart) (i j : ℕ) (c d : List Shown) (g : Bool) → Keeps old new → IfSome number (λ n. slice_get new n ≡ Some (entry.Joined i j))
     → ((own : List SymLine) (entries : List Entry) (calls : List Shown) → IfSome number (λ n. Means own entries n calls) → IsPart own entries calls true part) → Means own old i c → IsPart own old d g (Whole j) → IsPart own new (c ++ d) g part
@@ -177,9 +175,6 @@ pub record AreMappedTo (own lines : List SymLine) (entries : List Entry) (levels
 
 abbrev pub IsSet : ℕ → ChainPart → Stepping ChainPart → Stepping ChainPart → Type 0
 IsSet from part old new = (before : ChainPart) (a : ℕ) → value_at before new a ≡ cond (nat_le from a) part (value_at before old a)
-
-pub nothing_mapped : (own lines : List SymLine) (entries : List Entry) (levels : Levels) (steps : Stepping ChainPart) → AreMappedTo own lines entries levels 0 steps
-nothing_mapped own lines entries levels steps = record { parts = λ x l fits. absurd (omega arith) }
 
 one_run_more : (own lines : List SymLine) (old new : List Entry) (levels : Levels) (address : ℕ) (end : Option ℕ) (part : ChainPart) (steps more : Stepping ChainPart) → Keeps old new → IsSet address part steps more → AreMappedTo own lines old levels address steps
     → ((x : ℕ) → address ≤ x → x < 2 ^ 64 → IsBefore end x → IsPart own new (shown_calls lines (chain_in levels x)) (is_full levels x) part)
@@ -290,29 +285,18 @@ same_calls a b number true (inl whole) told = λ own entries c d f g p q. (let o
 same_calls a b number true (inr ended) told = λ own entries c d f g p q. (let one : IsPart own entries c f (Ended number) = subst (IsPart own entries c f) ended p in one_chain own entries number c d one.0 (told own entries d g q))
 
 -- the maps of some functions
-pub func_joined : (own lines : List SymLine) (entries : List Entry) (funcs : List FuncChains) (f : FuncChains) → AreFuncChains own lines entries funcs → IsChainMap own lines entries f.func f.chains → AreFuncChains own lines entries (funcs ++ f ∷ [])
-func_joined own lines entries [] f are is = (is, tt)
-func_joined own lines entries (g ∷ funcs) f are is = (are.0, func_joined own lines entries funcs f are.1 is)
-
-func_among : (own lines : List SymLine) (entries : List Entry) (funcs : List FuncChains) (at : ℕ) (d : FuncChains) → AreFuncChains own lines entries funcs → at < length funcs → IsChainMap own lines entries (get_or funcs at d).func (get_or funcs at d).chains
-func_among own lines entries [] at d are l = absurd (omega arith)
-func_among own lines entries (f ∷ funcs) zero d are l = are.0
-func_among own lines entries (f ∷ funcs) (suc at) d are l = func_among own lines entries funcs at d are.1 (omega arith)
-
 pub func_there : (funcs : List FuncChains) (at func : ℕ) (f : FuncChains) → f ≡ get_or funcs at f → at < length funcs → f.func ≡ func → (own lines : List SymLine) (entries : List Entry) → AreFuncChains own lines entries funcs → IsChainMap own lines entries func f.chains
-func_there funcs at func f is l named own lines entries are = subst (λ n. IsChainMap own lines entries n f.chains) named (subst (λ (g : FuncChains). IsChainMap own lines entries g.func g.chains) (sym is) (func_among own lines entries funcs at f are l))
+func_there funcs at func f is l named own lines entries are = subst (λ n. IsChainMap own lines entries n f.chains) named (subst (λ (g : FuncChains). IsChainMap own lines entries g.func g.chains) (sym is) (are at f l))
 
 pub kept_funcs : (own lines : List SymLine) (old new : List Entry) (funcs : List FuncChains) → Keeps old new → AreFuncChains own lines old funcs → AreFuncChains own lines new funcs
-kept_funcs own lines old new [] keeps are = tt
-kept_funcs own lines old new (f ∷ funcs) keeps are = (
-  record { parts = λ x l. (let p : IsPartOf own old (shown_calls lines (chain_places lines f.func x)) (value_at Nothing f.chains x) = are.0.parts x l in record { full = p.full; is = kept_part own old new _ p.full (value_at Nothing f.chains x) keeps p.is }) },
-  kept_funcs own lines old new funcs keeps are.1,
-)
+kept_funcs own lines old new funcs keeps are = λ at d l. record {
+  parts = λ x fits. (let p : IsPartOf own old (shown_calls lines (chain_places lines (get_or funcs at d).func x)) (value_at Nothing (get_or funcs at d).chains x) = (are at d l).parts x fits in record { full = p.full; is = kept_part own old new _ p.full _ keeps p.is });
+}
 
 pub one_more_func : (own lines : List SymLine) (old new : List Entry) (levels : Levels) (funcs more : List FuncChains) (f : FuncChains) → Keeps old new → more ≡ funcs ++ f ∷ [] → AreFuncChains own lines old funcs
     → ((x : ℕ) → x < 2 ^ 64 → chain_in levels x ≡ chain_places lines f.func x) → AreMapped own lines new levels f.chains → AreFuncChains own lines new more
 one_more_func own lines old new levels funcs more f keeps is are chain mapped =
-    subst (AreFuncChains own lines new) (sym is) (func_joined own lines new funcs f (kept_funcs own lines old new funcs keeps are) (map_of_func own lines new levels f.func f.chains chain mapped))
+    subst (AreFuncChains own lines new) (sym is) (All-push (λ (g : FuncChains). IsChainMap own lines new g.func g.chains) funcs f (kept_funcs own lines old new funcs keeps are) (map_of_func own lines new levels f.func f.chains chain mapped))
 
 -- calls that are shown alike are the same
 same_calls_shown : (a b : Call) → shown a ≡ shown b → same_call a b ≡ true

@@ -38,10 +38,6 @@ moved_none : (r : Result ℕ Cause) → ((v : ℕ) → r ≡ Ok v → v < 2 ^ 64
 moved_none (Err why) small = refl
 moved_none (Ok v) small = ap Ok (sym (ap (λ n. n % 2 ^ 64) (add-zero v) ∙ mod-eq_of_lt (small v refl)))
 
--- a value on top of others, where it may fail
-then_pushed : (rest : Result (List ℕ) Cause) (r s : Result ℕ Cause) → r ≡ s → (rest >>= pushed r) ≡ (rest >>= pushed s)
-then_pushed rest r s same = ap (λ v. rest >>= pushed v) same
-
 on_top : (rest : Result (List ℕ) Cause) (r : Result ℕ Cause) (word : List ℕ → Result (List ℕ) Cause) (next : Result ℕ Cause) → ((stack : List ℕ) → (pushed r stack >>= word) ≡ pushed next stack) → ((rest >>= pushed r) >>= word) ≡ (rest >>= pushed next)
 on_top (Err why) r word next step = refl
 on_top (Ok stack) r word next step = step stack

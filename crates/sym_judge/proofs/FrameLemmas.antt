@@ -1,5 +1,5 @@
 -- Lemmas on the frame rules of two files at an address.
-use Rattle.std.proofs.Common.{◌≡◌, ℕ, zero, suc, ◌+◌, ◌-◌, ◌<◌, ◌≤◌, Bool, true, false, List, [], ◌∷◌, ◌++◌, map, get_or, drop, Option, None, Some, Result, Ok, Err, refl, sym, ap, subst, ◌∙◌, arith}
+use Rattle.std.proofs.Common.{◌≡◌, ℕ, zero, suc, ◌+◌, ◌-◌, ◌<◌, ◌≤◌, Bool, true, false, List, [], ◌∷◌, ◌++◌, map, get_or, drop, Option, None, Some, Result, Ok, Err, refl, sym, ap, ◌∙◌, arith}
 use Rattle.std.specs.List.{find, range_with_len}
 use Rattle.std.specs.Result.{IfOk}
 use Rattle.std.specs.Option.{MatchOption}
@@ -16,7 +16,7 @@ use Rattle.std.proofs.lemmas.List.Quantifiers.{position-Some}
 use Rattle.cfi_eval.specs.TextRules.{rule_for, changes_until, text_rules}
 use Rattle.sym_judge.specs.declared.ruling.Aspect.{Aspect}
 use Rattle.sym_judge.specs.declared.ruling.Aspect.TheVariants.{Func, Chain, Line, Init, Cfa, Ra, Reg}
-use Rattle.sym_judge.specs.declared.tables.RuleTable.{RuleTable}
+use Rattle.sym_judge.specs.declared.rule_tables.RuleTable.{RuleTable}
 use Rattle.sym_judge.specs.Forms.{form_by, rule_form, same_words, same_form}
 use Rattle.sym_judge.specs.Alike.{same_option, same_rules, both, agrees, differs, rule_aspects, frame_aspects}
 use Rattle.sym_judge.specs.declared.ruling.Half.TheVariants.{Frames}
@@ -168,8 +168,6 @@ pub alone_is : (own other : List SymLine) (x : ℕ) (init : Option ℕ) (found :
 alone_is own other x None found p q is = is ∙ nowhere own other x p (sym q)
 alone_is own other x (Some place) found p q is = is ∙ other_alone own other x place p (sym q)
 
-pub covered_is : {E : Type 0} (own other first second : List SymLine) (x : ℕ) (a b : RuleTable) (found : Result (Option Aspect) E) → first ≡ own → second ≡ other → IsTableAt own x a → IsTableAt other x b
-    → ((x : ℕ) → IsTableAt first x a → IsTableAt second x b → IfOk found (λ f. f ≡ find (differs first second x) rule_aspects)) → IfOk found (λ f. f ≡ first_in Frames own other x)
-covered_is own other first second x a b found r s here there finds =
-    let told : IfOk found (λ f. f ≡ find (differs first second x) rule_aspects) = finds x (subst (λ lines. IsTableAt lines x a) (sym r) here) (subst (λ lines. IsTableAt lines x b) (sym s) there) in
-    then_behind found told (ap (λ lines. find (differs lines second x) rule_aspects) r ∙ ap (λ lines. find (differs own lines x) rule_aspects) s ∙ both_covered own other x a b (find (differs own other x) rule_aspects) here there refl)
+pub covered_is : {E : Type 0} (own other : List SymLine) (x : ℕ) (a b : RuleTable) (found : Result (Option Aspect) E) → IsTableAt own x a → IsTableAt other x b
+    → ((x : ℕ) → IsTableAt own x a → IsTableAt other x b → IfOk found (λ f. f ≡ find (differs own other x) rule_aspects)) → IfOk found (λ f. f ≡ first_in Frames own other x)
+covered_is own other x a b found here there finds = then_behind found (finds x here there) (both_covered own other x a b (find (differs own other x) rule_aspects) here there refl)

@@ -10,11 +10,11 @@ pub mod NameLemmas
 pub mod AliasLemmas
 pub mod HeldFormLemmas
 pub mod RuleAliasLemmas
-pub mod BothLemmas
+pub mod FilePairLemmas
 pub mod BlockLemmas
 pub mod ClearLemmas
 pub mod ChainLemmas
-pub mod MeetingLemmas
+pub mod FunctionPairLemmas
 pub mod DoubtLemmas
 pub mod SteadyLemmas
 pub mod StopListLemmas

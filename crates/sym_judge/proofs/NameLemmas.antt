@@ -70,10 +70,6 @@ pub owners_at : (own other : List SymLine) (x i j : ℕ) (same : Bool) → func_
     → same ≡ same_option bytes_eq (owner_of own (answer_of own x)) (owner_of other (answer_of other x))
 owners_at own other x i j same h k is = is ∙ sym (same_both (same_option bytes_eq) _ _ _ _ (owner_at own x i h) (owner_at other x j k))
 
-pub owners_told : (own other first second : List SymLine) (a b : Answer) (p q : Option (List ℕ)) (same : Bool) → first ≡ own → second ≡ other → p ≡ owner_of first a → q ≡ owner_of second b → same ≡ same_option bytes_eq p q
-    → same ≡ same_option bytes_eq (owner_of own a) (owner_of other b)
-owners_told own other first second a b p q same e f g h is = is ∙ same_both (same_option bytes_eq) p q (owner_of own a) (owner_of other b) (g ∙ ap (λ lines. owner_of lines a) e) (h ∙ ap (λ lines. owner_of lines b) f)
-
 -- two functions: their names, their chains and their lines in turn
 told_in_turn : (own other : List SymLine) (i j : ℕ) (c d : List ℕ) (l m : Option ℕ) (p q r : Bool) → bytes_eq (func_name_at own i) (func_name_at other j) ≡ p → same_list same_call (map (call_at own) c) (map (call_at other) d) ≡ q
     → same_option same_line (line_at own l) (line_at other m) ≡ r → cond p (cond q (cond r None (Some Line)) (Some Chain)) (Some Func) ≡ first_named own (answer.Function i c l) other (answer.Function j d m)

@@ -20,10 +20,10 @@ use Rattle.step_maps.specs.declared.stretch.FirstItem.{FirstItem}
 use Rattle.step_maps.specs.Covers.{reaches, first_at, first_item, AreStretches}
 use Rattle.step_maps.specs.Stepping.{Stepping, value_at}
 use Rattle.step_maps.proofs.StretchLemmas.{stretches_push}
-use Rattle.sym_judge.specs.declared.tables.RulePlace.{RulePlace}
+use Rattle.sym_judge.specs.declared.rule_tables.RulePlace.{RulePlace}
 use Rattle.sym_judge.specs.declared.rule_maps.RuleMaps.{RuleMaps}
 use Rattle.sym_judge.specs.internal.Tables.{rules_of, rules_or, rules_at, words_at, words_in, IsTableAt}
-use Rattle.sym_judge.specs.internal.RuleMaps.{place_of, place_in, rule_in, last_rule, with_rule, with_rules, AreLast, counted, IsRuleMap, register_rule, AreRegisterMaps, AreRegisterRules, AreRuleMaps, AreAllRuleMaps}
+use Rattle.sym_judge.specs.internal.RuleMaps.{place_of, place_in, rule_in, last_rule, with_rule, with_rules, AreLast, counted, IsRuleMap, register_rule, AreRegisterMaps, AreRegisterRules, AreRuleMaps}
 use Rattle.sym_judge.proofs.TableLemmas.{words_there, change_there, no_change, record_there}
 
 abbrev Maps : Type 0
@@ -226,14 +226,3 @@ table_held lines x maps cfa ra registers fits c r regs are first = record {
 }
 
 -- the maps of all INITs
-pub maps_joined : (lines : List SymLine) (all : List RuleMaps) (maps : RuleMaps) → AreAllRuleMaps lines all → AreRuleMaps lines maps → AreAllRuleMaps lines (all ++ maps ∷ [])
-maps_joined lines [] maps are is = (is, tt)
-maps_joined lines (m ∷ all) maps are is = (are.0, maps_joined lines all maps are.1 is)
-
-maps_among : (lines : List SymLine) (all : List RuleMaps) (at : ℕ) (d : RuleMaps) → AreAllRuleMaps lines all → at < length all → AreRuleMaps lines (get_or all at d)
-maps_among lines [] at d are l = absurd (omega arith)
-maps_among lines (m ∷ all) zero d are l = are.0
-maps_among lines (m ∷ all) (suc at) d are l = maps_among lines all at d are.1 (omega arith)
-
-pub maps_there : (all : List RuleMaps) (at : ℕ) (maps : RuleMaps) → maps ≡ get_or all at maps → at < length all → (lines : List SymLine) → AreAllRuleMaps lines all → AreRuleMaps lines maps
-maps_there all at maps is l lines are = subst (AreRuleMaps lines) (sym is) (maps_among lines all at maps are l)

@@ -14,8 +14,8 @@ use Rattle.cfi_eval.specs.Inits.{init_place}
 use Rattle.cfi_eval.specs.TextRules.{same_target, rule_for, changes_until}
 use Rattle.cfi_eval.proofs.RuleLemmas.{rule_push}
 use Rattle.cfi_eval.proofs.InitLemmas.{init_rules}
-use Rattle.sym_judge.specs.declared.tables.RulePlace.{RulePlace}
-use Rattle.sym_judge.specs.declared.tables.RuleTable.{RuleTable}
+use Rattle.sym_judge.specs.declared.rule_tables.RulePlace.{RulePlace}
+use Rattle.sym_judge.specs.declared.rule_tables.RuleTable.{RuleTable}
 use Rattle.sym_judge.specs.internal.Tables.{rules_or, rules_at, words_at, words_in, IsTable, IsTableAt, IsTableUpTo}
 
 -- a target's rule is at a place

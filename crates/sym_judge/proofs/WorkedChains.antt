@@ -6,10 +6,10 @@ use Rattle.sym_records.specs.Reading.{reading}
 use Rattle.step_maps.specs.declared.stretch.FirstItem.{FirstItem}
 use Rattle.step_maps.specs.Stepping.{Stepping, held_from}
 use Rattle.sym_lookup.specs.AnswerTexts.{call_at}
-use Rattle.sym_judge.specs.declared.both.Numbered.TheVariants.{Files, Origins}
+use Rattle.sym_judge.specs.declared.aliases.Numbered.TheVariants.{Files, Origins}
 use Rattle.sym_judge.specs.declared.names.CallSpot.{CallSpot}
-use Rattle.sym_judge.specs.declared.numbers.Entry.{Entry}
-use Rattle.sym_judge.specs.declared.numbers.Entry.TheVariants.{Call, Joined}
+use Rattle.sym_judge.specs.declared.chain_numbers.Entry.{Entry}
+use Rattle.sym_judge.specs.declared.chain_numbers.Entry.TheVariants.{Call, Joined}
 use Rattle.sym_judge.specs.internal.Aliases.{name_of}
 use Rattle.sym_judge.proofs.Computing.{sym_judge_computes}
 use Rattle.sym_judge.specs.internal.Chains.{shown, shown_call, shown_calls, One, Two, calls_of_tree, IsNumberOf, is_full}

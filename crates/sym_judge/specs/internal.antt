@@ -7,5 +7,6 @@ pub mod Stacks
 pub mod Spots
 pub mod Blocks
 pub mod Aliases
+pub mod OneNames
 pub mod HeldForms
 pub mod Chains

@@ -1,19 +1,26 @@
 //! Which numbers have one name: each name is compared once, and then the numbers.
 ghost use Rattle.std.specs.Prelude.{◌≡◌, ℕ, List, true, IfOk, OnOk, IfSome};
 ghost use Rattle.std.specs.Bool.{OnTrue};
-ghost use Rattle.std.specs.Option.{option_copied};
+ghost use Rattle.std.specs.Option.{option_copied, option_and_then};
+ghost use Rattle.std.specs.Str.{bytes_eq};
 ghost use Rattle.sym_records.specs.declared.line.SymLine.{SymLine};
-ghost use Rattle.sym_judge.specs.declared.both.Numbered.{Numbered};
+ghost use Rattle.sym_judge.specs.Alike.{same_option};
+ghost use Rattle.sym_judge.specs.declared.aliases.Numbered.{Numbered};
 ghost use Rattle.sym_judge.specs.internal.Blocks.{same_name};
 ghost use Rattle.sym_judge.specs.internal.Aliases.{name_of, AreAliases, AreAliasesOf};
 
-use crate::both::Numbered;
-use crate::names::is_same_text;
-use crate::sides::Side;
+use crate::indexed_files::IndexedFile;
 use std::alloc::Global;
 use std::collections::BTreeMap;
 use sym_edges::OutOfMemory;
 use sym_records::SymLine;
+
+/// Records that are named by their numbers.
+#[derive(Clone, Copy)]
+pub(crate) enum Numbered {
+    Files,
+    Origins,
+}
 
 /// A number, and the first one under which the first file has the same name.
 #[derive(Clone, Copy)]
@@ -29,14 +36,36 @@ pub struct Aliases {
     pub theirs: Vec<Alias>,
 }
 
+/// Whether two texts are the same, or both are missing.
+pub(crate) fn is_same_text(a: Option<&[u8]>, b: Option<&[u8]>) -> bool
+    ensures { result ≡ same_option bytes_eq (option_copied a.entry) (option_copied b.entry) }
+{
+    a == b
+}
+
 /// The name under a number.
-pub(crate) fn name_of<'f>(numbered: Numbered, side: &Side<'f>, number: u32) -> Option<&'f [u8]>
+pub(crate) fn name_of<'f>(
+    numbered: Numbered,
+    side: &IndexedFile<'f>,
+    number: u32,
+) -> Option<&'f [u8]>
     ensures { option_copied result ≡ name_of numbered side.now number }
 {
     match numbered {
         Numbered::Files => side.path(number),
         Numbered::Origins => side.origin(number),
     }
+}
+
+/// The name under a number, where there is one.
+pub(crate) fn name_in<'f>(
+    numbered: Numbered,
+    side: &IndexedFile<'f>,
+    number: Option<u32>,
+) -> Option<&'f [u8]>
+    ensures { option_copied result ≡ option_and_then (name_of numbered side.now) number }
+{
+    name_of(numbered, side, number?)
 }
 
 /// The numbers of records, in their order.
@@ -66,16 +95,26 @@ fn ending_of(name: &[u8]) -> u64 {
     ending
 }
 
-/// The least number of each name.
-fn firsts_of<'f>(
+/// The least number of each name of a file.
+#[derive(Drop)]
+struct Firsts<'s, 'f> {
+    numbered: Numbered,
+    own: &'s IndexedFile<'f>,
+    numbers: BTreeMap<(u64, &'f [u8]), u32>,
+}
+
+fn firsts_of<'s, 'f>(
     alloc: Global,
     numbered: Numbered,
-    side: &Side<'f>,
+    own: &'s IndexedFile<'f>,
     numbers: &[u32],
-) -> Result<BTreeMap<(u64, &'f [u8]), u32>, OutOfMemory> {
+) -> Result<Firsts<'s, 'f>, OutOfMemory>
+    ensures numbered { IfOk result (λ firsts. firsts.numbered ≡ numbered) }
+    ensures own { IfOk result (λ firsts. firsts.own.now ≡ own.now) }
+{
     let mut firsts = BTreeMap::new(alloc);
     'numbers: for number in numbers {
-        let Some(name) = name_of(numbered, side, *number) else {
+        let Some(name) = name_of(numbered, own, *number) else {
             continue;
         };
         let key = (ending_of(name), name);
@@ -83,63 +122,59 @@ fn firsts_of<'f>(
             firsts.insert(key, *number)?;
         }
     }
-    Ok(firsts)
+    Ok(Firsts {
+        numbered,
+        own,
+        numbers: firsts,
+    })
 }
 
-/// Adds a number, where the first file has its name.
+/// The least number of the name under a number.
+fn first_of<'f>(firsts: &Firsts<'_, 'f>, name: Option<&'f [u8]>) -> Option<u32> {
+    let name = name?;
+    let key = (ending_of(name), name);
+    match firsts.numbers.get(&key) {
+        Some(first) => Some(*first),
+        None => None,
+    }
+}
+
+/// Adds a number of a file, where the first file has its name.
 fn push_alias<'f>(
     aliases: &mut Vec<Alias>,
-    numbered: Numbered,
-    own: &Side<'f>,
-    side: &Side<'f>,
+    firsts: &Firsts<'_, 'f>,
+    side: &IndexedFile<'f>,
     number: u32,
-    first: Option<u32>,
 ) -> Result<(), OutOfMemory>
-    requires { AreAliases numbered own.now side.now aliases.old.items }
-    ensures { OnOk result (AreAliases numbered own.now side.now aliases.new.items) }
+    requires { AreAliases firsts.now.numbered firsts.now.own.now side.now aliases.old.items }
+    ensures { OnOk result (AreAliases firsts.now.numbered firsts.now.own.now side.now aliases.new.items) }
 {
-    let Some(first) = first else {
+    let name = name_of(firsts.numbered, side, number);
+    let Some(first) = first_of(firsts, name) else {
         return Ok(());
     };
-    if !is_same_text(
-        name_of(numbered, own, first),
-        name_of(numbered, side, number),
-    ) {
+    if !is_same_text(name_of(firsts.numbered, firsts.own, first), name) {
         return Ok(());
     }
     aliases.push(Alias { number, first })?;
     Ok(())
 }
 
-/// The least number of the name under a number.
-fn first_of<'f>(firsts: &BTreeMap<(u64, &'f [u8]), u32>, name: Option<&'f [u8]>) -> Option<u32> {
-    let name = name?;
-    let key = (ending_of(name), name);
-    match firsts.get(&key) {
-        Some(first) => Some(*first),
-        None => None,
-    }
-}
-
-/// The numbers of a file that have a name of the first one.
+/// The numbers of a file that have a name of the first one, of numbers in their order.
 fn aliases_in<'f>(
     alloc: Global,
-    numbered: Numbered,
-    own: &Side<'f>,
-    side: &Side<'f>,
+    firsts: &Firsts<'_, 'f>,
+    side: &IndexedFile<'f>,
     numbers: &[u32],
-    firsts: &BTreeMap<(u64, &'f [u8]), u32>,
 ) -> Result<Vec<Alias>, OutOfMemory>
-    ensures { IfOk result (λ aliases. AreAliases numbered own.now side.now aliases.items) }
+    ensures { IfOk result (λ aliases. AreAliases firsts.now.numbered firsts.now.own.now side.now aliases.items) }
 {
     let mut aliases = Vec::new(alloc);
     'numbers: for at in 0..numbers.len() {
-        let number = numbers[at];
-        if at > 0 && numbers[at - 1] == number {
+        if at > 0 && numbers[at - 1] == numbers[at] {
             continue;
         }
-        let first = first_of(firsts, name_of(numbered, side, number));
-        push_alias(&mut aliases, numbered, own, side, number, first)?;
+        push_alias(&mut aliases, firsts, side, numbers[at])?;
     }
     Ok(aliases)
 }
@@ -167,16 +202,16 @@ pub(crate) fn copied(aliases: &Aliases) -> Result<Aliases, OutOfMemory>
 pub(crate) fn aliases_of<'f>(
     alloc: Global,
     numbered: Numbered,
-    own: &Side<'f>,
-    other: &Side<'f>,
+    own: &IndexedFile<'f>,
+    other: &IndexedFile<'f>,
 ) -> Result<Aliases, OutOfMemory>
     ensures { IfOk result (λ aliases. AreAliasesOf numbered own.now other.now aliases) }
 {
     let mine = numbers_of(alloc, numbered, own.lines())?;
     let theirs = numbers_of(alloc, numbered, other.lines())?;
     let firsts = firsts_of(alloc, numbered, own, mine.as_slice())?;
-    let mine = aliases_in(alloc, numbered, own, own, mine.as_slice(), &firsts)?;
-    let theirs = aliases_in(alloc, numbered, own, other, theirs.as_slice(), &firsts)?;
+    let mine = aliases_in(alloc, &firsts, own, mine.as_slice())?;
+    let theirs = aliases_in(alloc, &firsts, other, theirs.as_slice())?;
     Ok(Aliases { mine, theirs })
 }
 

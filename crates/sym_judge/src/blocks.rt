@@ -8,7 +8,8 @@ ghost use Rattle.sym_judge.specs.Alike.{same_list};
 ghost use Rattle.sym_judge.specs.internal.Blocks.{block_place, inside, is_inside, same_extent, same_rule_text, same_run, same_source, same_ranges, same_site, same_record, same_head, same_inside, AreSameBlocks};
 ghost use Rattle.sym_judge.specs.internal.Stops.{first_in};
 
-use crate::both::Both;
+use crate::aliases::Numbered;
+use crate::file_pair::FilePair;
 use crate::forms::are_same_words;
 use crate::ruling::Half;
 use sym_records::{Extent, SymLine};
@@ -82,10 +83,10 @@ fn is_same_run(address: u64, size: u64, start: u64, many: u64) -> bool
 }
 
 /// Whether two lines of a file are the same.
-fn is_same_source(both: &Both<'_>, line: u32, file: u32, number: u32, path: u32) -> bool
+fn is_same_source(both: &FilePair<'_>, line: u32, file: u32, number: u32, path: u32) -> bool
     ensures { result ≡ same_source both.now.own both.now.other line file number path }
 {
-    line == number && both.is_same_path(file, path)
+    line == number && both.is_same_name(Numbered::Files, file, path)
 }
 
 /// Whether two lists have the same ranges.
@@ -110,15 +111,16 @@ struct Site {
     origin: u32,
 }
 
-fn is_same_site(both: &Both<'_>, a: Site, b: Site) -> bool
+fn is_same_site(both: &FilePair<'_>, a: Site, b: Site) -> bool
     ensures { result ≡ same_site both.now.own both.now.other a.line a.file a.origin b.line b.file b.origin }
 {
-    is_same_source(both, a.line, a.file, b.line, b.file) && both.is_same_origin(a.origin, b.origin)
+    is_same_source(both, a.line, a.file, b.line, b.file)
+        && both.is_same_name(Numbered::Origins, a.origin, b.origin)
 }
 
 /// Whether a record is an `INLINE` of a level, a call and ranges.
 fn is_inline_like(
-    both: &Both<'_>,
+    both: &FilePair<'_>,
     level: u32,
     site: Site,
     ranges: &[Extent],
@@ -145,7 +147,7 @@ fn is_inline_like(
 }
 
 /// Whether it is a line record of some addresses, a line and a file.
-fn is_line_like(both: &Both<'_>, run: Extent, line: u32, file: u32, found: &SymLine) -> bool
+fn is_line_like(both: &FilePair<'_>, run: Extent, line: u32, file: u32, found: &SymLine) -> bool
     ensures { result ≡ same_record both.now.own both.now.other (record_line.Line run.address run.size line file) found.now }
 {
     let SymLine::Line {
@@ -176,7 +178,7 @@ fn is_change_like(address: u64, rules: &[RuleText], found: &SymLine) -> bool
 }
 
 /// Whether two records say the same of the same addresses.
-fn is_same_record(both: &Both<'_>, a: &SymLine, b: &SymLine) -> bool
+fn is_same_record(both: &FilePair<'_>, a: &SymLine, b: &SymLine) -> bool
     ensures { result ≡ same_record both.now.own both.now.other a.now b.now }
 {
     match a {
@@ -212,7 +214,7 @@ fn is_same_record(both: &Both<'_>, a: &SymLine, b: &SymLine) -> bool
 }
 
 /// Whether the records of two blocks behind their first say the same.
-fn are_same_inside(half: Half, both: &Both<'_>, front: &[SymLine], back: &[SymLine]) -> bool
+fn are_same_inside(half: Half, both: &FilePair<'_>, front: &[SymLine], back: &[SymLine]) -> bool
     ensures { result ≡ same_inside half both.now.own both.now.other front.now back.now }
 {
     let mut mine = front;
@@ -254,7 +256,7 @@ fn begins_at(line: &SymLine, start: u64) -> bool {
 }
 
 /// Whether blocks that cover an address say the same. They are compared where the first of them begins, so each is compared once.
-fn are_same_blocks(half: Half, both: &Both<'_>, i: usize, j: usize, address: u64) -> bool
+fn are_same_blocks(half: Half, both: &FilePair<'_>, i: usize, j: usize, address: u64) -> bool
     ensures { OnTrue result (AreSameBlocks half both.now.own both.now.other i j) }
 {
     let mine = both.own().lines();
@@ -272,7 +274,7 @@ fn are_same_blocks(half: Half, both: &Both<'_>, i: usize, j: usize, address: u64
 #[tactic(auto, using(crate::proofs::ClearLemmas::no_blocks, crate::proofs::ClearLemmas::same_blocks))]
 pub(crate) fn is_clear(
     half: Half,
-    both: &Both<'_>,
+    both: &FilePair<'_>,
     first: Option<usize>,
     second: Option<usize>,
     address: u64,

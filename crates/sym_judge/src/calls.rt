@@ -5,28 +5,27 @@ ghost use Rattle.std.specs.Option.{option_copied, option_and_then, unwrap_or};
 ghost use Rattle.sym_records.specs.declared.line.SymLine.{SymLine};
 ghost use Rattle.sym_meaning.specs.TextNames.{text_origin, text_path};
 ghost use Rattle.sym_lookup.specs.AnswerTexts.{call_at};
-ghost use Rattle.sym_judge.specs.declared.both.Numbered.TheVariants.{Files, Origins};
+ghost use Rattle.sym_judge.specs.declared.aliases.Numbered.TheVariants.{Files, Origins};
 ghost use Rattle.sym_judge.specs.internal.Aliases.{name_of, AreAliases};
 ghost use Rattle.sym_judge.specs.internal.Chains.{shown, shown_call};
 
-use crate::aliases::{Alias, first_in, name_of};
-use crate::both::Numbered;
-use crate::names::{CallSpot, Spot, call_at, name_or_omitted, origin_in};
-use crate::sides::Side;
+use crate::aliases::{Alias, Numbered, first_in, name_in, name_of};
+use crate::indexed_files::IndexedFile;
+use crate::names::{CallSpot, Spot, call_at, name_or_omitted};
 use clean_names::name_omitted;
 use std::marker::Model;
 
 /// A file, and for its numbers of names the least ones under which the first file has them. Contracts see the records of both.
 #[derive(Drop)]
 pub(crate) struct Calls<'b, 'f> {
-    own: &'b Side<'f>,
-    side: &'b Side<'f>,
+    own: &'b IndexedFile<'f>,
+    side: &'b IndexedFile<'f>,
     paths: Vec<Alias>,
     origins: Vec<Alias>,
 }
 
 impl<'b, 'f> Model for Calls<'b, 'f> {
-    ghost use Rattle.sym_judge.specs.declared.both.Numbered.TheVariants.{Files, Origins};
+    ghost use Rattle.sym_judge.specs.declared.aliases.Numbered.TheVariants.{Files, Origins};
     ghost use Rattle.sym_judge.specs.internal.Aliases.{AreAliases};
     ghost use Rattle.sym_judge.specs.internal.Blocks.{TwoFiles};
 
@@ -40,7 +39,7 @@ impl<'b, 'f> Model for Calls<'b, 'f> {
 /// The number under which the first file has the name of a number: none where there is no name. Nothing where it has another name.
 fn own_number(
     numbered: Numbered,
-    side: &Side<'_>,
+    side: &IndexedFile<'_>,
     aliases: &[Alias],
     number: Option<u32>,
 ) -> Option<Option<u32>>
@@ -66,10 +65,10 @@ fn is_omitted(name: Option<&[u8]>) -> bool
 }
 
 /// The number under which the first file has the origin of a number, or none where no name is shown.
-fn own_origin(side: &Side<'_>, origins: &[Alias], origin: Option<u32>) -> Option<Option<u32>>
+fn own_origin(side: &IndexedFile<'_>, origins: &[Alias], origin: Option<u32>) -> Option<Option<u32>>
     ensures { IfSome result (λ found. (own : List SymLine) → AreAliases Origins own side.now origins.now → unwrap_or (option_and_then (text_origin own) found) (codes "<name omitted>") ≡ unwrap_or (option_and_then (text_origin side.now) origin) (codes "<name omitted>")) }
 {
-    if is_omitted(origin_in(side, origin)) {
+    if is_omitted(name_in(Numbered::Origins, side, origin)) {
         return Some(None);
     }
     own_number(Numbered::Origins, side, origins, origin)
@@ -77,8 +76,8 @@ fn own_origin(side: &Side<'_>, origins: &[Alias], origin: Option<u32>) -> Option
 
 impl<'b, 'f> Calls<'b, 'f> {
     pub(crate) fn of(
-        own: &'b Side<'f>,
-        side: &'b Side<'f>,
+        own: &'b IndexedFile<'f>,
+        side: &'b IndexedFile<'f>,
         paths: Vec<Alias>,
         origins: Vec<Alias>,
     ) -> Calls<'b, 'f>
@@ -94,7 +93,7 @@ impl<'b, 'f> Calls<'b, 'f> {
         }
     }
 
-    pub(crate) fn side(&self) -> &Side<'f>
+    pub(crate) fn side(&self) -> &IndexedFile<'f>
         ensures { result.now ≡ self.now.other }
     {
         self.side

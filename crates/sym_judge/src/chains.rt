@@ -9,14 +9,14 @@ ghost use Rattle.step_maps.specs.declared.stretch.FirstItem.{FirstItem};
 ghost use Rattle.sym_lookup.specs.Answers.{chain_places};
 ghost use Rattle.sym_lookup.specs.PlaceMaps.{IsBefore};
 ghost use Rattle.sym_lookup.specs.UnderOf.{chain_in};
-ghost use Rattle.sym_judge.specs.declared.numbers.Entry.{Entry};
+ghost use Rattle.sym_judge.specs.declared.chain_numbers.Entry.{Entry};
 ghost use Rattle.sym_judge.specs.declared.chains.ChainPart.TheVariants.{Nothing};
 ghost use Rattle.sym_judge.specs.internal.Chains.{Keeps, Shown, Means, IsPart, calls_there, AreMapped, IsChainMap, AreFuncChains};
 
 use crate::calls::Calls;
-use crate::doubts::nearer;
-use crate::numbers::{Numbers, call_number, joined_number};
-use crate::sides::Side;
+use crate::chain_numbers::{Numbers, call_number, joined_number};
+use crate::doubtful_addresses::nearer;
+use crate::indexed_files::IndexedFile;
 use std::alloc::Global;
 use step_maps::{FirstItem, StepMap};
 use sym_edges::OutOfMemory;
@@ -229,7 +229,7 @@ fn chain_map(
 }
 
 /// The levels of a function with many.
-fn many_levels<'f>(side: &Side<'f>, func: usize) -> Option<&'f [LevelMap]>
+fn many_levels<'f>(side: &IndexedFile<'f>, func: usize) -> Option<&'f [LevelMap]>
     ensures some { IfSome result (λ levels. 0 < length levels.now) }
     ensures chain { IfSome result (λ levels. (x : ℕ) → x < 2 ^ 64 → chain_in levels.now x ≡ chain_places side.now func x) }
 {
@@ -241,7 +241,7 @@ fn many_levels<'f>(side: &Side<'f>, func: usize) -> Option<&'f [LevelMap]>
 }
 
 /// Whether a function has many levels.
-pub(crate) fn has_many(side: &Side<'_>, func: usize) -> bool {
+pub(crate) fn has_many(side: &IndexedFile<'_>, func: usize) -> bool {
     many_levels(side, func).is_some()
 }
 

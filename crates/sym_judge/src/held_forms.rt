@@ -8,7 +8,7 @@ ghost use Rattle.sym_judge.specs.internal.Stacks.{form_view};
 ghost use Rattle.sym_judge.specs.internal.Tables.{words_at, rules_at};
 
 use crate::forms::{Form, form_of, is_cfa};
-use crate::tables::{RulePlace, is_before, rules_of};
+use crate::rule_tables::{RulePlace, is_before, rules_of};
 use std::alloc::Global;
 use sym_edges::OutOfMemory;
 use sym_records::SymLine;

@@ -4,13 +4,13 @@ ghost use Rattle.sym_lookup.specs.IndexOf.{IsIndexOf};
 ghost use Rattle.sym_judge.specs.Rulings.{IsRuling};
 ghost use Rattle.sym_judge.specs.internal.Stops.{is_settled, with_found, with_stop, with_stops, sooner, Fits, IsHalfRuling};
 
-use crate::both::Both;
 use crate::copies::are_copies;
-use crate::doubts::doubts_of;
-use crate::pairs::Pair;
+use crate::doubtful_addresses::doubts_of;
+use crate::file_pair::FilePair;
+use crate::half_comparison::HalfComparison;
+use crate::indexed_files::IndexedFile;
+use crate::record_stops::half_stops;
 use crate::ruling::{Aspect, Half, Ruling};
-use crate::sides::Side;
-use crate::stops::half_stops;
 use std::alloc::Global;
 use sym_edges::OutOfMemory;
 use sym_lookup::Index;
@@ -39,7 +39,7 @@ fn with_found(ruling: Ruling, address: u64, found: Option<Aspect>) -> Ruling
 #[tactic(auto, unfolding(crate::specs::internal::Stops::with_stop))]
 fn with_stop(
     alloc: Global,
-    pair: &Pair<'_, '_>,
+    pair: &HalfComparison<'_, '_>,
     ruling: Ruling,
     address: u64,
 ) -> Result<Ruling, OutOfMemory>
@@ -54,7 +54,11 @@ fn with_stop(
 }
 
 /// What is known once some addresses are looked at.
-fn with_stops(alloc: Global, pair: &Pair<'_, '_>, stops: &[u64]) -> Result<Ruling, OutOfMemory>
+fn with_stops(
+    alloc: Global,
+    pair: &HalfComparison<'_, '_>,
+    stops: &[u64],
+) -> Result<Ruling, OutOfMemory>
     ensures is { IfOk result (λ r. r ≡ with_stops pair.now.half pair.now.own pair.now.other Ruling.Yes stops.now) }
     ensures fits { IfOk result Fits }
 {
@@ -66,7 +70,7 @@ fn with_stops(alloc: Global, pair: &Pair<'_, '_>, stops: &[u64]) -> Result<Rulin
 }
 
 /// The ruling of one half. The least address is looked at first, so at most one is found at which the files differ.
-fn half_ruling(alloc: Global, half: Half, both: &Both<'_>) -> Result<Ruling, OutOfMemory>
+fn half_ruling(alloc: Global, half: Half, both: &FilePair<'_>) -> Result<Ruling, OutOfMemory>
     ensures { IfOk result (λ r. IsHalfRuling half both.now.own both.now.other r) }
 {
     let doubts = doubts_of(alloc, half, both)?;
@@ -77,7 +81,7 @@ fn half_ruling(alloc: Global, half: Half, both: &Both<'_>) -> Result<Ruling, Out
         both.own().lines(),
         both.other().lines(),
     )?;
-    let pair = Pair::of(alloc, half, both, &doubts, stops.as_slice())?;
+    let pair = HalfComparison::of(alloc, half, both, &doubts, stops.as_slice())?;
     let ruling = with_stops(alloc, &pair, stops.as_slice())?;
     Ok(ruling)
 }
@@ -124,7 +128,11 @@ pub fn judge(alloc: Global, own: &SymFile, other: &SymFile) -> Result<Ruling, Ou
     }
     let first = index_of(alloc, own)?;
     let second = index_of(alloc, other)?;
-    let both = Both::of(alloc, Side::of(own, &first), Side::of(other, &second))?;
+    let both = FilePair::of(
+        alloc,
+        IndexedFile::of(own, &first),
+        IndexedFile::of(other, &second),
+    )?;
     let names = half_ruling(alloc, Half::Names, &both)?;
     let frames = half_ruling(alloc, Half::Frames, &both)?;
     Ok(sooner(names, frames))

@@ -9,37 +9,37 @@
 //! differ there does not say that their rules evaluate to other values. [`laws`] say that rules of one form give one outcome, what a yes means
 //! for look-up and unwinding, and that a file says the same as itself.
 //!
-//! To read: `specs/Forms.antt`, `specs/Alike.antt`, `specs/Rulings.antt` and `specs/SameMeaning.antt`; then `terms` and `forms`, `tables` (the
-//! rules that count at an address), `rule_maps` (the same by halves, of an INIT with many), `held_forms` (those of long rules), `rule_aliases`
-//! (long rules in the same words) and `frames`, `names`, `copies` (files of the same records), `blocks` and `doubts` (where records say the same
-//! in both files, nothing else is looked at), `numbers` (of chains of calls), `chains` and `meetings` (what is found out once for a function and
-//! for two), and `stops` (the addresses at which both are looked up) and `judgement`, on `sides` (a file with its index), `ruled` (with rule
-//! maps) and `both` (two files), with `aliases` (the numbers of one name) and `calls` (named by the numbers of the first file).
+//! To read: `specs/Forms.antt`, `specs/Alike.antt`, `specs/Rulings.antt` and `specs/SameMeaning.antt`; then `terms` and `forms`, `rule_tables`
+//! (the rules that count at an address), `rule_maps` (the same by halves, of an INIT with many), `held_forms` (those of long rules),
+//! `rule_aliases` (long rules in the same words), `file_rules` (a file with these) and `frames`; `aliases` (the numbers of one name) and `names`;
+//! `copies` (files of the same records), `blocks` and `doubtful_addresses` (where records say the same in both files, nothing else is looked at);
+//! `calls` (named by the numbers of the first file), `chain_numbers`, `chains` and `function_pairs` (what is found out once for a function and for
+//! two); and `record_stops` (the addresses at which both are looked up), `half_comparison` and `judgement`, on `indexed_files` and `file_pair`.
 #![tactic(auto)]
 
 mod aliases;
 mod blocks;
-mod both;
 mod calls;
+mod chain_numbers;
 mod chains;
 mod copies;
-mod doubts;
+mod doubtful_addresses;
+mod file_pair;
+mod file_rules;
 mod forms;
 mod frames;
+mod function_pairs;
+mod half_comparison;
 mod held_forms;
+mod indexed_files;
 mod judgement;
 pub mod laws;
-mod meetings;
 mod names;
-mod numbers;
-mod pairs;
+mod record_stops;
 mod rule_aliases;
 mod rule_maps;
-mod ruled;
+mod rule_tables;
 mod ruling;
-mod sides;
-mod stops;
-mod tables;
 mod terms;
 
 pub use judgement::judge;

@@ -13,11 +13,12 @@ ghost use Rattle.sym_judge.specs.declared.ruling.Half.TheVariants.{Names};
 ghost use Rattle.sym_judge.specs.internal.Stops.{first_in};
 ghost use Rattle.sym_judge.specs.internal.Spots.{spot_view, call_spot_of, first_named};
 
-use crate::both::Both;
+use crate::aliases::{Numbered, is_same_text, name_in};
 use crate::chains::{ChainPart, chains_of, have_one_number};
-use crate::meetings::{FuncMeetings, FuncPair, pair_of};
+use crate::file_pair::FilePair;
+use crate::function_pairs::{FuncMeetings, FuncPair, pair_of};
+use crate::indexed_files::IndexedFile;
 use crate::ruling::Aspect;
-use crate::sides::Side;
 use clean_names::name_omitted;
 use std::alloc::Global;
 use sym_edges::OutOfMemory;
@@ -90,44 +91,20 @@ fn line_of(answer: &Answer) -> Option<usize>
     }
 }
 
-/// Whether two texts are the same, or both are missing.
-pub(crate) fn is_same_text(a: Option<&[u8]>, b: Option<&[u8]>) -> bool
-    ensures { result ≡ same_option bytes_eq (option_copied a.entry) (option_copied b.entry) }
-{
-    a == b
-}
-
-/// The path under a number, where there is one.
-fn path_in<'f>(side: &Side<'f>, file: Option<u32>) -> Option<&'f [u8]>
-    ensures { option_copied result ≡ option_and_then (text_path side.now) file }
-{
-    match file {
-        None => None,
-        Some(file) => side.path(file),
-    }
-}
-
-/// The name of an origin under a number, where there is one.
-pub(crate) fn origin_in<'f>(side: &Side<'f>, origin: Option<u32>) -> Option<&'f [u8]>
-    ensures { option_copied result ≡ option_and_then (text_origin side.now) origin }
-{
-    match origin {
-        None => None,
-        Some(origin) => side.origin(origin),
-    }
-}
-
 /// Whether the paths under two numbers are the same.
-fn is_same_file(both: &Both<'_>, a: Option<u32>, b: Option<u32>) -> bool
+fn is_same_file(both: &FilePair<'_>, a: Option<u32>, b: Option<u32>) -> bool
     ensures { result ≡ same_option bytes_eq (option_and_then (text_path both.now.own) a) (option_and_then (text_path both.now.other) b) }
 {
     if let (Some(a), Some(b)) = (a, b) {
-        return both.is_same_path(a, b);
+        return both.is_same_name(Numbered::Files, a, b);
     }
-    is_same_text(path_in(both.own(), a), path_in(both.other(), b))
+    is_same_text(
+        name_in(Numbered::Files, both.own(), a),
+        name_in(Numbered::Files, both.other(), b),
+    )
 }
 
-fn is_same_spot(both: &Both<'_>, a: Spot, b: Spot) -> bool
+fn is_same_spot(both: &FilePair<'_>, a: Spot, b: Spot) -> bool
     ensures { result ≡ same_line (spot_view both.now.own a) (spot_view both.now.other b) }
 {
     is_same_file(both, a.file, b.file) && a.line == b.line
@@ -150,7 +127,7 @@ fn spot_of(line: &SymLine) -> Spot
 }
 
 /// Where the line record at a place is.
-fn spot_at(side: &Side<'_>, place: Option<usize>) -> Option<Spot>
+fn spot_at(side: &IndexedFile<'_>, place: Option<usize>) -> Option<Spot>
     ensures { option_map (spot_view side.now) result ≡ line_at side.now place }
 {
     match side.lines().get(place?) {
@@ -160,7 +137,7 @@ fn spot_at(side: &Side<'_>, place: Option<usize>) -> Option<Spot>
 }
 
 /// Whether two line records say the same.
-fn is_same_line(both: &Both<'_>, a: Option<usize>, b: Option<usize>) -> bool
+fn is_same_line(both: &FilePair<'_>, a: Option<usize>, b: Option<usize>) -> bool
     ensures { result ≡ same_option same_line (line_at both.now.own a) (line_at both.now.other b) }
 {
     match (spot_at(both.own(), a), spot_at(both.other(), b)) {
@@ -181,7 +158,7 @@ pub(crate) fn name_or_omitted(name: Option<&[u8]>) -> &[u8]
 }
 
 /// The call that the INLINE at a place says.
-pub(crate) fn call_at(side: &Side<'_>, place: usize) -> CallSpot
+pub(crate) fn call_at(side: &IndexedFile<'_>, place: usize) -> CallSpot
     ensures name { option_and_then (text_origin side.now) result.origin ≡ (call_at side.now place).name }
     ensures spot { spot_view side.now result.spot ≡ call_spot_of (call_at side.now place) }
 {
@@ -212,19 +189,20 @@ pub(crate) fn call_at(side: &Side<'_>, place: usize) -> CallSpot
 
 /// Whether the names of two inlined functions are the same.
 #[tactic(auto, using(crate::proofs::NameLemmas::one_origin))]
-fn is_same_origin(both: &Both<'_>, a: Option<u32>, b: Option<u32>) -> bool
+fn is_same_origin(both: &FilePair<'_>, a: Option<u32>, b: Option<u32>) -> bool
     ensures { result ≡ bytes_eq (unwrap_or (option_and_then (text_origin both.now.own) a) (codes "<name omitted>")) (unwrap_or (option_and_then (text_origin both.now.other) b) (codes "<name omitted>")) }
 {
     if let (Some(a), Some(b)) = (a, b) {
-        if both.is_same_origin(a, b) {
+        if both.is_same_name(Numbered::Origins, a, b) {
             return true;
         }
     }
-    name_or_omitted(origin_in(both.own(), a)) == name_or_omitted(origin_in(both.other(), b))
+    name_or_omitted(name_in(Numbered::Origins, both.own(), a))
+        == name_or_omitted(name_in(Numbered::Origins, both.other(), b))
 }
 
 /// Whether two inlined calls are the same.
-fn is_same_call(both: &Both<'_>, a: usize, b: usize) -> bool
+fn is_same_call(both: &FilePair<'_>, a: usize, b: usize) -> bool
     ensures { result ≡ same_call (call_at both.now.own a) (call_at both.now.other b) }
 {
     let first = call_at(both.own(), a);
@@ -233,7 +211,7 @@ fn is_same_call(both: &Both<'_>, a: usize, b: usize) -> bool
 }
 
 /// Whether two chains are the same.
-fn are_same_calls(both: &Both<'_>, a: &[usize], b: &[usize]) -> bool
+fn are_same_calls(both: &FilePair<'_>, a: &[usize], b: &[usize]) -> bool
     ensures { result ≡ same_list same_call (map (call_at both.now.own) a.now) (map (call_at both.now.other) b.now) }
 {
     let mut front = a;
@@ -252,7 +230,7 @@ fn are_same_calls(both: &Both<'_>, a: &[usize], b: &[usize]) -> bool
 }
 
 /// Whether the functions of two answers have one name.
-fn is_same_owner(both: &Both<'_>, a: &Answer, b: &Answer) -> bool
+fn is_same_owner(both: &FilePair<'_>, a: &Answer, b: &Answer) -> bool
     ensures { result ≡ same_option bytes_eq (owner_of both.now.own a.now) (owner_of both.now.other b.now) }
 {
     is_same_text(
@@ -263,7 +241,7 @@ fn is_same_owner(both: &Both<'_>, a: &Answer, b: &Answer) -> bool
 
 /// What two answers name differently, where it is known whether their functions have one name.
 #[tactic(auto, using(crate::proofs::NameLemmas::func_met, crate::proofs::NameLemmas::chain_met, crate::proofs::NameLemmas::line_met, crate::proofs::NameLemmas::none_met))]
-fn first_named(both: &Both<'_>, same_owner: bool, a: &Answer, b: &Answer) -> Option<Aspect>
+fn first_named(both: &FilePair<'_>, same_owner: bool, a: &Answer, b: &Answer) -> Option<Aspect>
     requires { same_owner ≡ same_option bytes_eq (owner_of both.now.own a.now) (owner_of both.now.other b.now) }
     ensures { result ≡ first_named both.now.own a.now both.now.other b.now }
 {
@@ -288,7 +266,7 @@ fn line_alone(same: bool) -> Option<Aspect>
 
 /// What two functions of one chain name differently at an address, where the line records are known.
 fn first_in_funcs(
-    both: &Both<'_>,
+    both: &FilePair<'_>,
     pair: &FuncPair,
     address: u64,
     a: Option<usize>,
@@ -326,7 +304,7 @@ fn have_one_chain(met: &FuncMeetings, pair: &FuncPair, address: u64) -> bool
 
 /// What two functions that are the first at an address name differently there, where their chains have one number.
 fn first_by_chains(
-    both: &Both<'_>,
+    both: &FilePair<'_>,
     met: &FuncMeetings,
     pair: &FuncPair,
     address: u64,
@@ -349,7 +327,7 @@ fn first_by_chains(
 #[tactic(auto, using(crate::proofs::NameLemmas::names_differ))]
 fn first_by_answers(
     alloc: Global,
-    both: &Both<'_>,
+    both: &FilePair<'_>,
     known: Option<bool>,
     address: u64,
 ) -> Result<Option<Aspect>, OutOfMemory>
@@ -366,7 +344,7 @@ fn first_by_answers(
 }
 
 /// The functions of both files at an address, and what is known of them.
-fn met_at<'p>(pairs: &'p [FuncPair], both: &Both<'_>, address: u64) -> Option<&'p FuncPair>
+fn met_at<'p>(pairs: &'p [FuncPair], both: &FilePair<'_>, address: u64) -> Option<&'p FuncPair>
     ensures own { IfSome result (λ pair. func_place both.now.own address ≡ Some pair.now.met.own) }
     ensures other { IfSome result (λ pair. func_place both.now.other address ≡ Some pair.now.met.other) }
     ensures is { IfSome result (λ pair. (mine theirs : List SymLine) → AreFuncPairs mine theirs pairs.now → IsFuncPair mine theirs pair.now) }
@@ -383,7 +361,7 @@ fn met_at<'p>(pairs: &'p [FuncPair], both: &Both<'_>, address: u64) -> Option<&'
 pub(crate) fn first_name_aspect(
     alloc: Global,
     met: &FuncMeetings,
-    both: &Both<'_>,
+    both: &FilePair<'_>,
     address: u64,
 ) -> Result<Option<Aspect>, OutOfMemory>
     requires { AreFuncMeetings both.now.own both.now.other met.now }

@@ -7,7 +7,7 @@ ghost use Rattle.sym_judge.specs.internal.Tables.{words_at, words_in};
 
 use crate::forms::are_same_words;
 use crate::held_forms::are_many;
-use crate::tables::{RulePlace, is_before, rules_of, words_of};
+use crate::rule_tables::{RulePlace, is_before, rules_of, words_of};
 use std::alloc::Global;
 use std::collections::BTreeMap;
 use sym_edges::OutOfMemory;
@@ -29,7 +29,14 @@ pub struct RuleAliases {
 }
 
 /// The first places of some lists of words, which are told by their numbers.
-type Firsts = BTreeMap<Vec<u64>, RulePlace>;
+type WordPlaces = BTreeMap<Vec<u64>, RulePlace>;
+
+/// The first place of the words of each long rule of a file.
+#[derive(Drop)]
+struct Firsts<'s> {
+    own: &'s [SymLine],
+    places: WordPlaces,
+}
 
 /// A number for the kind of a word, and another one for the word.
 fn numbers_of(word: &Token) -> (u64, u64) {
@@ -74,7 +81,7 @@ fn spelled(alloc: Global, words: &[Token]) -> Result<Vec<u64>, OutOfMemory> {
 /// Notes the long rules of the record at a place that are the first in their words.
 fn note_firsts(
     alloc: Global,
-    firsts: &mut Firsts,
+    firsts: &mut WordPlaces,
     rules: &[RuleText],
     line: usize,
 ) -> Result<(), OutOfMemory> {
@@ -91,13 +98,14 @@ fn note_firsts(
     Ok(())
 }
 
-/// The first place of the words of each long rule.
-fn firsts_of(alloc: Global, lines: &[SymLine]) -> Result<Firsts, OutOfMemory> {
-    let mut firsts = BTreeMap::new(alloc);
-    'lines: for line in 0..lines.len() {
-        note_firsts(alloc, &mut firsts, rules_of(&lines[line]), line)?;
+fn firsts_of<'s>(alloc: Global, own: &'s [SymLine]) -> Result<Firsts<'s>, OutOfMemory>
+    ensures { IfOk result (λ firsts. firsts.own.now ≡ own.now) }
+{
+    let mut places = BTreeMap::new(alloc);
+    'lines: for line in 0..own.len() {
+        note_firsts(alloc, &mut places, rules_of(&own[line]), line)?;
     }
-    Ok(firsts)
+    Ok(Firsts { own, places })
 }
 
 /// Adds a rule, where the rule at the first place is in the same words.
@@ -128,14 +136,13 @@ fn push_alias(
 fn push_aliases(
     alloc: Global,
     aliases: &mut Vec<RuleAlias>,
-    firsts: &Firsts,
-    own: &[SymLine],
+    firsts: &Firsts<'_>,
     lines: &[SymLine],
     line: usize,
 ) -> Result<(), OutOfMemory>
     requires within { line < length lines.now }
-    requires aliases { AreRuleAliases own.now lines.now aliases.old.items }
-    ensures { OnOk result (AreRuleAliases own.now lines.now aliases.new.items) }
+    requires aliases { AreRuleAliases firsts.now.own.now lines.now aliases.old.items }
+    ensures { OnOk result (AreRuleAliases firsts.now.own.now lines.now aliases.new.items) }
 {
     let rules = rules_of(&lines[line]);
     'rules: for rule in 0..rules.len() {
@@ -143,8 +150,8 @@ fn push_aliases(
         if !are_many(words) {
             continue;
         }
-        if let Some(first) = firsts.get(&spelled(alloc, words)?) {
-            push_alias(aliases, own, lines, RulePlace { line, rule }, *first)?;
+        if let Some(first) = firsts.places.get(&spelled(alloc, words)?) {
+            push_alias(aliases, firsts.own, lines, RulePlace { line, rule }, *first)?;
         }
     }
     Ok(())
@@ -153,15 +160,14 @@ fn push_aliases(
 /// The long rules of a file that are in the words of a rule of the first one.
 fn aliases_in(
     alloc: Global,
-    firsts: &Firsts,
-    own: &[SymLine],
+    firsts: &Firsts<'_>,
     lines: &[SymLine],
 ) -> Result<Vec<RuleAlias>, OutOfMemory>
-    ensures { IfOk result (λ aliases. AreRuleAliases own.now lines.now aliases.items) }
+    ensures { IfOk result (λ aliases. AreRuleAliases firsts.now.own.now lines.now aliases.items) }
 {
     let mut aliases = Vec::new(alloc);
     'lines: for line in 0..lines.len() {
-        push_aliases(alloc, &mut aliases, firsts, own, lines, line)?;
+        push_aliases(alloc, &mut aliases, firsts, lines, line)?;
     }
     Ok(aliases)
 }
@@ -185,8 +191,8 @@ pub(crate) fn rule_aliases(
     ensures { IfOk result (λ aliases. AreRuleAliasesOf own.now other.now aliases) }
 {
     let firsts = firsts_of(alloc, own)?;
-    let mine = aliases_in(alloc, &firsts, own, own)?;
-    let theirs = aliases_in(alloc, &firsts, own, other)?;
+    let mine = aliases_in(alloc, &firsts, own)?;
+    let theirs = aliases_in(alloc, &firsts, other)?;
     Ok(RuleAliases { mine, theirs })
 }
 

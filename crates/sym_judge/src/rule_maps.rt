@@ -8,7 +8,7 @@ ghost use Rattle.sym_judge.specs.internal.Tables.{words_at, rules_at, IsTableAt}
 ghost use Rattle.sym_judge.specs.internal.RuleMaps.{rule_in, last_rule, with_rule, with_rules, AreLast, IsRuleMap, register_rule, AreRegisterMaps, AreRegisterRules, AreRuleMaps, AreAllRuleMaps};
 
 use crate::blocks::is_same_target;
-use crate::tables::{RulePlace, RuleTable, rules_of};
+use crate::rule_tables::{RulePlace, RuleTable, rules_of};
 use std::alloc::Global;
 use step_maps::{FirstItem, StepMap, Stretch, first_items};
 use sym_edges::OutOfMemory;
@@ -177,7 +177,6 @@ pub(crate) fn all_maps(alloc: Global, lines: &[SymLine]) -> Result<Vec<RuleMaps>
 }
 
 /// Adds those of the INIT at a place.
-#[tactic(auto, using(crate::proofs::RuleMapLemmas::maps_joined))]
 fn push_maps(
     alloc: Global,
     all: &mut Vec<RuleMaps>,

@@ -13,8 +13,8 @@ use Rattle.step_maps.specs.Stepping.{Stepping, value_at}
 use Rattle.sym_lookup.specs.Answers.{func_place}
 use Rattle.sym_judge.specs.Alike.{same_option, same_list}
 use Rattle.sym_judge.specs.Forms.{same_words}
-use Rattle.sym_judge.specs.declared.both.Numbered.{Numbered}
-use Rattle.sym_judge.specs.declared.both.Numbered.TheVariants.{Files, Origins}
+use Rattle.sym_judge.specs.declared.aliases.Numbered.{Numbered}
+use Rattle.sym_judge.specs.declared.aliases.Numbered.TheVariants.{Files, Origins}
 use Rattle.sym_judge.specs.declared.ruling.Half.{Half}
 use Rattle.sym_judge.specs.declared.ruling.Half.TheVariants.{Names, Frames}
 use Rattle.sym_judge.specs.internal.Stops.{first_in}

@@ -1,5 +1,6 @@
 -- Chains of inlined calls by numbers, and what is known of two functions.
 use Rattle.std.specs.Prelude.{◌≡◌, ℕ, ◌<◌, ◌^◌, ◌++◌, Bool, true, false, List, [], ◌∷◌, map, codes, Option, Some, slice_get}
+use Rattle.std.specs.List.{All}
 use Rattle.std.specs.Option.{option_and_then, option_map_or, unwrap_or}
 use Rattle.std.specs.Str.{bytes_eq}
 use Rattle.sym_records.specs.declared.line.SymLine.{SymLine}
@@ -11,13 +12,13 @@ use Rattle.sym_lookup.specs.AnswerTexts.{call_at, call_name, func_name_at}
 use Rattle.sym_lookup.specs.PlaceMaps.{place_in}
 use Rattle.sym_lookup.specs.UnderOf.{chain_in}
 use Rattle.sym_judge.specs.declared.names.CallSpot.{CallSpot}
-use Rattle.sym_judge.specs.declared.numbers.Entry.{Entry}
-use Rattle.sym_judge.specs.declared.numbers.Entry.TheVariants as entry
+use Rattle.sym_judge.specs.declared.chain_numbers.Entry.{Entry}
+use Rattle.sym_judge.specs.declared.chain_numbers.Entry.TheVariants as entry
 use Rattle.sym_judge.specs.declared.chains.ChainPart.{ChainPart}
 use Rattle.sym_judge.specs.declared.chains.ChainPart.TheVariants.{Nothing, Whole, Ended, Unlike}
 use Rattle.sym_judge.specs.declared.chains.FuncChains.{FuncChains}
-use Rattle.sym_judge.specs.declared.meetings.FuncPair.{FuncPair}
-use Rattle.sym_judge.specs.declared.meetings.FuncMeetings.{FuncMeetings}
+use Rattle.sym_judge.specs.declared.function_pairs.FuncPair.{FuncPair}
+use Rattle.sym_judge.specs.declared.function_pairs.FuncMeetings.{FuncMeetings}
 use Rattle.sym_judge.specs.internal.Spots.{spot_view, call_spot_of}
 
 -- what is compared of a call: the name that is shown, and where it is
@@ -88,16 +89,14 @@ pub record IsChainMap (own lines : List SymLine) (entries : List Entry) (func : 
   pub parts : (x : ℕ) → x < 2 ^ 64 → IsPartOf own entries (shown_calls lines (chain_places lines func x)) (value_at Nothing map x)
 
 abbrev pub AreFuncChains : List SymLine → List SymLine → List Entry → List FuncChains → Type 0
-AreFuncChains own lines entries [] = Unit {0}
-AreFuncChains own lines entries (f ∷ funcs) = IsChainMap own lines entries f.func f.chains × AreFuncChains own lines entries funcs
+AreFuncChains own lines entries funcs = All (λ f. IsChainMap own lines entries f.func f.chains) funcs
 
 -- two functions have one name, or they do not
 pub record IsFuncPair (own other : List SymLine) (pair : FuncPair) : Type 0 where
   pub named : pair.same_name ≡ bytes_eq (func_name_at own pair.met.own) (func_name_at other pair.met.other)
 
 abbrev pub AreFuncPairs : List SymLine → List SymLine → List FuncPair → Type 0
-AreFuncPairs own other [] = Unit {0}
-AreFuncPairs own other (p ∷ pairs) = IsFuncPair own other p × AreFuncPairs own other pairs
+AreFuncPairs own other pairs = All (IsFuncPair own other) pairs
 
 -- the chains of functions of both files, by one numbering
 pub record AreNumbered (own other : List SymLine) (mine theirs : List FuncChains) : Type 0 where

@@ -1,5 +1,6 @@
 -- The forms of rules, by the places of the rules.
-use Rattle.std.specs.Prelude.{◌≡◌, List, [], ◌∷◌, Some}
+use Rattle.std.specs.Prelude.{◌≡◌, List, Some}
+use Rattle.std.specs.List.{All}
 use Rattle.sym_records.specs.declared.line.SymLine.{SymLine}
 use Rattle.sym_rules.specs.declared.rules.Token.{Token}
 use Rattle.sym_judge.specs.Forms.{form_of}
@@ -12,5 +13,4 @@ abbrev pub IsHeldForm : List SymLine → HeldForm → Type 0
 IsHeldForm lines held = (words : List Token) → words_at lines held.place ≡ Some words → form_view held.form ≡ form_of held.inside words
 
 abbrev pub AreHeldForms : List SymLine → List HeldForm → Type 0
-AreHeldForms lines [] = Unit {0}
-AreHeldForms lines (held ∷ forms) = IsHeldForm lines held × AreHeldForms lines forms
+AreHeldForms lines forms = All (IsHeldForm lines) forms

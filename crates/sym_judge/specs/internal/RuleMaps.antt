@@ -1,6 +1,6 @@
 -- The last rule of each target of an INIT and its changes, held as maps from addresses.
 use Rattle.std.specs.Prelude.{◌≡◌, ℕ, ◌+◌, ◌<◌, ◌^◌, nat_le, if◌then◌else◌, List, [], ◌∷◌, ◌++◌, length, drop, reverse, get_or, Option, None, slice_get}
-use Rattle.std.specs.List.{find}
+use Rattle.std.specs.List.{find, All}
 use Rattle.std.specs.Option.{option_map, option_and_then}
 use Rattle.sym_records.specs.declared.line.SymLine.{SymLine}
 use Rattle.sym_rules.specs.declared.rules.Target.{Target}
@@ -11,7 +11,7 @@ use Rattle.step_maps.specs.declared.stretch.Stretch.{Stretch}
 use Rattle.step_maps.specs.declared.stretch.FirstItem.{FirstItem}
 use Rattle.step_maps.specs.Covers.{reaches}
 use Rattle.step_maps.specs.Stepping.{Stepping, value_at}
-use Rattle.sym_judge.specs.declared.tables.RulePlace.{RulePlace}
+use Rattle.sym_judge.specs.declared.rule_tables.RulePlace.{RulePlace}
 use Rattle.sym_judge.specs.declared.rule_maps.RuleMaps.{RuleMaps}
 use Rattle.sym_judge.specs.internal.Tables.{rules_at, words_in}
 
@@ -67,5 +67,4 @@ pub record AreRuleMaps (lines : List SymLine) (maps : RuleMaps) : Type 0 where
   pub registers : AreRegisterMaps lines maps.init maps.registers.items
 
 abbrev pub AreAllRuleMaps : List SymLine → List RuleMaps → Type 0
-AreAllRuleMaps lines [] = Unit {0}
-AreAllRuleMaps lines (maps ∷ all) = AreRuleMaps lines maps × AreAllRuleMaps lines all
+AreAllRuleMaps lines all = All (AreRuleMaps lines) all

@@ -7,8 +7,8 @@ use Rattle.sym_rules.specs.declared.rules.Target.TheVariants as target
 use Rattle.sym_rules.specs.declared.rules.Token.{Token}
 use Rattle.sym_rules.specs.declared.rules.RuleText.{RuleText}
 use Rattle.cfi_eval.specs.TextRules.{rule_for, changes_until, text_rules}
-use Rattle.sym_judge.specs.declared.tables.RulePlace.{RulePlace}
-use Rattle.sym_judge.specs.declared.tables.RuleTable.{RuleTable}
+use Rattle.sym_judge.specs.declared.rule_tables.RulePlace.{RulePlace}
+use Rattle.sym_judge.specs.declared.rule_tables.RuleTable.{RuleTable}
 
 -- the rules of a record
 abbrev pub rules_of : SymLine → List RuleText

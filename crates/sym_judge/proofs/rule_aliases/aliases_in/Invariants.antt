@@ -2,4 +2,4 @@ use Rattle.sym_judge.specs.internal.RuleAliases.{AreRuleAliases}
 use Rattle.sym_judge.proofs.rule_aliases.aliases_in.Given as goal
 
 abbrev pub invariant-lines : goal.invariant-lines
-invariant-lines l = AreRuleAliases l.own l.lines l.aliases.items
+invariant-lines l = AreRuleAliases l.firsts.own.now l.lines l.aliases.items

@@ -2,4 +2,4 @@ use Rattle.sym_judge.specs.internal.RuleAliases.{AreRuleAliases}
 use Rattle.sym_judge.proofs.rule_aliases.push_aliases.Given as goal
 
 abbrev pub invariant-rules : goal.invariant-rules
-invariant-rules l = AreRuleAliases l.own l.lines l.aliases.items
+invariant-rules l = AreRuleAliases l.firsts.own.now l.lines l.aliases.items

@@ -1,7 +1,0 @@
-use Rattle.std.proofs.Common.{◌≡◌, true, sym, subst}
-use Rattle.sym_judge.specs.declared.both.Numbered.TheVariants.{Files}
-use Rattle.sym_judge.specs.internal.Blocks.{TwoFiles, same_path}
-use Rattle.sym_judge.proofs.both.Both.is_same_path.Goals as goal
-
-pub returns-then-have_one_name : goal.returns-then-have_one_name
-returns-then-have_one_name c = subst (λ (two : TwoFiles). true ≡ same_path two.own two.other c.args.a c.args.b) c.self.view_is (sym (c.if-have_one_name.ensures Files c.self.inside.own c.self.inside.other c.self.invariant.2))
