@@ -51,16 +51,6 @@ pub empty_met : (ranges : List Range) (address size : ℕ) → address + size �
 unfolding is_met
 empty_met ranges address size none = sym (ap (λ t. t && any_overlap (range_to address (address + size)) ranges) (le-ltb 0 size (omega (arith, none))))
 
-no_meet : (a s b t : ℕ) → b + t ≤ b → nat_lt (max a b) (min (a + s) (b + t)) ≡ false
-no_meet a s b t none = grind (arith, nat_tests)
-
-or_false_by : (x m : Bool) → m ≡ false → x ≡ (x || m)
-or_false_by true m is = refl
-or_false_by false m is = sym is
-
-pub empty_more : (ranges : List Range) (address size : ℕ) → address + size ≤ address → (e : Extent) → is_met ranges e ≡ (is_met ranges e || meet e (run_of address size))
-empty_more ranges address size none e = or_false_by (is_met ranges e) (meet e (run_of address size)) (no_meet e.address e.size address size none)
-
 -- one record more, which is not empty
 meet_is : (a s b t : ℕ) → b < b + t → nat_lt (max a b) (min (a + s) (b + t)) ≡ (nat_lt 0 s && (nat_lt a (b + t) && nat_lt b (a + s)))
 meet_is a s b t some = grind (arith, nat_tests)

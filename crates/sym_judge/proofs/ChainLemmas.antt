@@ -79,10 +79,6 @@ two_chains own old new (Some n) i j c d keeps is p q = record {
 }
 
 -- the levels in front all have calls, or the others do not count
-nothing_behind : (xs : List Shown) → xs ++ [] ≡ xs
-nothing_behind [] = refl
-nothing_behind (x ∷ xs) = ap (λ ys. x ∷ ys) (nothing_behind xs)
-
 pub whole_behind : (own : List SymLine) (old new : List Entry) (number : Option ℕ) (part : ChainPart) (i j : ℕ) (c d : List Shown) (g : Bool) → Keeps old new → IfSome number (λ n. slice_get new n ≡ Some (entry.Joined i j))
     → ((own : List SymLine) (entries : List Entry) (calls : List Shown) → IfSome number (λ n. Means own entries n calls) → IsPart own entries calls true part) → Means own old i c → IsPart own old d g (Whole j) → IsPart own new (c ++ d) g part
 whole_behind own old new number part i j c d g keeps is told m part_is =
