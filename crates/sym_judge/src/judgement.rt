@@ -39,32 +39,32 @@ fn with_found(ruling: Ruling, address: u64, found: Option<Aspect>) -> Ruling
 #[tactic(auto, unfolding(crate::specs::internal::Stops::with_stop))]
 fn with_stop(
     alloc: Global,
-    pair: &HalfComparison<'_, '_>,
+    compared: &HalfComparison<'_, '_>,
     ruling: Ruling,
     address: u64,
 ) -> Result<Ruling, OutOfMemory>
-    ensures is { IfOk result (λ r. r ≡ with_stop pair.now.half pair.now.own pair.now.other ruling address) }
+    ensures is { IfOk result (λ r. r ≡ with_stop compared.now.half compared.now.own compared.now.other ruling address) }
     ensures fits { IfOk result (λ r. Fits ruling → Fits r) }
 {
     if is_settled(ruling, address) {
         return Ok(ruling);
     }
-    let found = pair.first_in(alloc, address)?;
+    let found = compared.first_in(alloc, address)?;
     Ok(with_found(ruling, address, found))
 }
 
 /// What is known once some addresses are looked at.
 fn with_stops(
     alloc: Global,
-    pair: &HalfComparison<'_, '_>,
+    compared: &HalfComparison<'_, '_>,
     stops: &[u64],
 ) -> Result<Ruling, OutOfMemory>
-    ensures is { IfOk result (λ r. r ≡ with_stops pair.now.half pair.now.own pair.now.other Ruling.Yes stops.now) }
+    ensures is { IfOk result (λ r. r ≡ with_stops compared.now.half compared.now.own compared.now.other Ruling.Yes stops.now) }
     ensures fits { IfOk result Fits }
 {
     let mut known = Ruling::Yes;
     'stops: for at in 0..stops.len() {
-        known = with_stop(alloc, pair, known, stops[at])?;
+        known = with_stop(alloc, compared, known, stops[at])?;
     }
     Ok(known)
 }
@@ -81,8 +81,8 @@ fn half_ruling(alloc: Global, half: Half, both: &FilePair<'_>) -> Result<Ruling,
         both.own().lines(),
         both.other().lines(),
     )?;
-    let pair = HalfComparison::of(alloc, half, both, &doubts, stops.as_slice())?;
-    let ruling = with_stops(alloc, &pair, stops.as_slice())?;
+    let compared = HalfComparison::of(alloc, half, both, &doubts, stops.as_slice())?;
+    let ruling = with_stops(alloc, &compared, stops.as_slice())?;
     Ok(ruling)
 }
 

@@ -5,6 +5,6 @@ use Rattle.sym_judge.proofs.judgement.with_stops.Given as goal
 
 abbrev pub invariant-stops : goal.invariant-stops
 invariant-stops l = record {
-  is : with_stops l.pair.half l.pair.own l.pair.other l.known (drop l.at l.stops) ≡ with_stops l.pair.half l.pair.own l.pair.other Yes l.stops;
+  is : with_stops l.compared.half l.compared.own l.compared.other l.known (drop l.at l.stops) ≡ with_stops l.compared.half l.compared.own l.compared.other Yes l.stops;
   fits : Fits l.known;
 }
