@@ -79,15 +79,10 @@ two_chains own old new (Some n) i j c d keeps is p q = record {
 }
 
 -- the levels in front all have calls, or the others do not count
-pub whole_behind : (own : List SymLine) (old new : List Entry) (number : Option ℕ) (part : ChainPart) (i j : ℕ) (c d : List Shown) (g : Bool) → Keeps old new → IfSome number (λ n. slice_get new n ≡ Some (entry.Joined i j))
-    → ((own : List SymLine) (entries : List Entry) (calls : List Shown) → IfSome number (λ n. Means own entries n calls) → IsPart own entries calls true part) → Means own old i c → IsPart own old d g (Whole j) → IsPart own new (c ++ d) g part
-whole_behind own old new number part i j c d g keeps is told m part_is =
-    subst (λ b. IsPart own new (c ++ d) b part) (sym part_is.1) (told own new (c ++ d) (two_chains own old new number i j c d keeps is m part_is.0))
-
-pub some_behind : (own : List SymLine) (old new : List Entry) (number : Option ℕ) (part : ChainPart) (i j : ℕ) (c d : List Shown) (g : Bool) → Keeps old new → IfSome number (λ n. slice_get new n ≡ Some (entry.Joined i j))
-    → ((own : List SymLine) (entries : List Entry) (calls : List Shown) → IfSome number (λ n. Means own entries n calls) → IsPart own entries calls false part) → Means own old i c → IsPart own old d g (Ended j) → IsPart own new (c ++ d) g part
-some_behind own old new number part i j c d g keeps is told m part_is =
-    subst (λ b. IsPart own new (c ++ d) b part) (sym part_is.1) (told own new (c ++ d) (two_chains own old new number i j c d keeps is m part_is.0))
+pub some_behind : (own : List SymLine) (old new : List Entry) (number : Option ℕ) (part : ChainPart) (i j : ℕ) (c d : List Shown) (f g : Bool) → Keeps old new → IfSome number (λ n. slice_get new n ≡ Some (entry.Joined i j))
+    → ((own : List SymLine) (entries : List Entry) (calls : List Shown) → IfSome number (λ n. Means own entries n calls) → IsPart own entries calls f part) → Means own old i c → Means own old j d × (g ≡ f) → IsPart own new (c ++ d) g part
+some_behind own old new number part i j c d f g keeps is told m back =
+    subst (λ b. IsPart own new (c ++ d) b part) (sym back.1) (told own new (c ++ d) (two_chains own old new number i j c d keeps is m back.0))
 
 -- levels in front of others
 chain_cut : (ms ns : Levels) (x : ℕ) → chain_in (ms ++ ns) x ≡ cond (is_full ms x) (chain_in ms x ++ chain_in ns x) (chain_in ms x)

@@ -22,7 +22,7 @@ use Rattle.sym_judge.specs.declared.ruling.Half.{Half}
 use Rattle.sym_judge.specs.declared.ruling.Half.TheVariants.{Names, Frames}
 use Rattle.sym_judge.specs.internal.Stops.{first_in}
 use Rattle.sym_judge.specs.internal.Blocks.{block_place, same_record, same_head, AreSameBlocks}
-use Rattle.sym_judge.proofs.SameLemmas.{never, forms_tell}
+use Rattle.sym_judge.proofs.SameLemmas.{never, some_is, forms_tell}
 use Rattle.sym_judge.proofs.FrameLemmas.{IsOfFrames, AreOfFrames, registers_of_frames, passed, nowhere}
 use Rattle.sym_judge.proofs.BlockLemmas.{AreSame, levels_same, lines_same, chains_same, changes_same, rules_true, head_names}
 
@@ -44,9 +44,6 @@ no_func : (own other : List SymLine) (x : ℕ) (f g : Option Found) → IsFuncOf
 no_func own other x None None p q = record { owner = refl; chain = refl; line = refl }
 no_func own other x None (Some g) p q = absurd q
 no_func own other x (Some f) g p q = absurd p
-
-some_is : {A : Type 0} {a b : A} → Some a ≡ Some b → a ≡ b
-some_is e = cc
 
 func_found : (own other : List SymLine) (x : ℕ) (f g : Found) → bytes_eq (func_name f.func) (func_name g.func) ≡ true → AreSame own other (under f.behind) (under g.behind) → NamesAgree own other x (Some f) (Some g)
 func_found own other x f g name same = record {

@@ -7,9 +7,7 @@ use Rattle.sym_judge.specs.declared.held_forms.HeldForm.{HeldForm}
 use Rattle.sym_judge.specs.internal.HeldForms.{IsHeldForm, AreHeldForms}
 use Rattle.sym_judge.specs.internal.Stacks.{form_view}
 use Rattle.sym_judge.specs.internal.Tables.{words_at}
-
-some_is : {A : Type 0} {a b : A} → Some a ≡ Some b → a ≡ b
-some_is e = cc
+use Rattle.sym_judge.proofs.SameLemmas.{some_is}
 
 pub form_held : (lines : List SymLine) (held : HeldForm) (words : List Token) → words_at lines held.place ≡ Some words → form_view held.form ≡ form_of held.inside words → IsHeldForm lines held
 form_held lines held words there is = λ others e. is ∙ ap (form_of held.inside) (some_is (sym there ∙ e))

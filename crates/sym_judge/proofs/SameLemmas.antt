@@ -70,6 +70,9 @@ term_self (Fetched a) = sum_self a
 pub never : {P : Type 0} → false ≡ true → P
 never is = absurd (cc)
 
+pub some_is : {A : Type 0} {a b : A} → Some a ≡ Some b → a ≡ b
+some_is e = cc
+
 token_true : (a b : Token) → same_token a b ≡ true → a ≡ b
 token_true (token.Number a) (token.Number b) is = ap (λ n. token.Number n) ((Decides-int_eq a b).0 is)
 token_true (token.Reg a) (token.Reg b) is = ap (λ n. token.Reg n) (numbers a b is)

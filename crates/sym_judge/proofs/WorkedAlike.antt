@@ -8,11 +8,11 @@ use Rattle.sym_judge.specs.declared.ruling.Aspect.{Aspect}
 use Rattle.sym_judge.specs.declared.ruling.Aspect.TheVariants.{Func, Chain, Line, Init, Cfa, Ra, Reg}
 use Rattle.sym_judge.proofs.Computing.{sym_judge_computes}
 
-abbrev records_in : {F : Type 0} → Result (List SymLine) F → List SymLine
+abbrev pub records_in : {F : Type 0} → Result (List SymLine) F → List SymLine
 records_in (Ok records) = records
 records_in (Err fault) = []
 
-unfoldable records : String → List SymLine
+unfoldable pub records : String → List SymLine
 records text = records_in (reading (codes "MODULE a b c d\n" ++ codes text))
 
 unfoldable unlike : String → String → ℕ → Option Aspect

@@ -1,8 +1,6 @@
 -- Worked files: calls under other numbers, the numbers of their chains, and numbers of one name.
-use Rattle.std.proofs.Common.{◌≡◌, true, false, ℕ, List, [], ◌∷◌, ◌++◌, codes, Option, None, Some, Result, Ok, Err, refl}
+use Rattle.std.proofs.Common.{◌≡◌, true, false, ℕ, List, [], ◌∷◌, codes, Option, None, Some, refl}
 use Prim.Native.String.{String}
-use Rattle.sym_records.specs.declared.line.SymLine.{SymLine}
-use Rattle.sym_records.specs.Reading.{reading}
 use Rattle.step_maps.specs.declared.stretch.FirstItem.{FirstItem}
 use Rattle.step_maps.specs.Stepping.{Stepping, held_from}
 use Rattle.sym_lookup.specs.AnswerTexts.{call_at}
@@ -12,14 +10,8 @@ use Rattle.sym_judge.specs.declared.chain_numbers.Entry.{Entry}
 use Rattle.sym_judge.specs.declared.chain_numbers.Entry.TheVariants.{Call, Joined}
 use Rattle.sym_judge.specs.internal.Aliases.{name_of}
 use Rattle.sym_judge.proofs.Computing.{sym_judge_computes}
+use Rattle.sym_judge.proofs.WorkedAlike.{records}
 use Rattle.sym_judge.specs.internal.Chains.{shown, shown_call, shown_calls, One, Two, calls_of_tree, IsNumberOf, is_full}
-
-abbrev records_in : {F : Type 0} → Result (List SymLine) F → List SymLine
-records_in (Ok records) = records
-records_in (Err fault) = []
-
-unfoldable records : String → List SymLine
-records text = records_in (reading (codes "MODULE a b c d\n" ++ codes text))
 
 -- a call of g in line 7, and in it one in line 8; the same under other numbers, the inner call first
 abbrev own : String

@@ -77,23 +77,14 @@ fn part_run(map: &ChainMap, address: u64) -> PartRun
     }
 }
 
-/// Calls of a number, where each level has one.
-fn whole(number: Option<u32>) -> ChainPart
-    ensures { (own : List SymLine) (entries : List Entry) (calls : List Shown) → IfSome number (λ n. Means own entries n calls) → IsPart own entries calls true result }
+/// Calls of a number, where each level has one, or where some level has none.
+fn numbered(number: Option<u32>, full: bool) -> ChainPart
+    ensures { (own : List SymLine) (entries : List Entry) (calls : List Shown) → IfSome number (λ n. Means own entries n calls) → IsPart own entries calls full result }
 {
-    match number {
-        Some(number) => ChainPart::Whole(number),
-        None => ChainPart::Unlike,
-    }
-}
-
-/// Calls of a number, where some level has none.
-fn ended(number: Option<u32>) -> ChainPart
-    ensures { (own : List SymLine) (entries : List Entry) (calls : List Shown) → IfSome number (λ n. Means own entries n calls) → IsPart own entries calls false result }
-{
-    match number {
-        Some(number) => ChainPart::Ended(number),
-        None => ChainPart::Unlike,
+    match (number, full) {
+        (Some(number), true) => ChainPart::Whole(number),
+        (Some(number), false) => ChainPart::Ended(number),
+        (None, _) => ChainPart::Unlike,
     }
 }
 
@@ -113,7 +104,7 @@ fn level_part(
         return Ok(ChainPart::Unlike);
     };
     let number = call_number(numbers, call)?;
-    Ok(whole(number))
+    Ok(numbered(number, true))
 }
 
 /// The calls of levels of which each in front has one, by their number and those of the others.
@@ -127,8 +118,8 @@ fn longer_part(
 {
     match back {
         ChainPart::Nothing => Ok(ChainPart::Ended(number)),
-        ChainPart::Whole(other) => Ok(whole(joined_number(numbers, number, other)?)),
-        ChainPart::Ended(other) => Ok(ended(joined_number(numbers, number, other)?)),
+        ChainPart::Whole(other) => Ok(numbered(joined_number(numbers, number, other)?, true)),
+        ChainPart::Ended(other) => Ok(numbered(joined_number(numbers, number, other)?, false)),
         ChainPart::Unlike => Ok(ChainPart::Unlike),
     }
 }
