@@ -78,32 +78,22 @@ fn sink_of(alloc: Global, room: usize, step: usize, fail: &[u64]) -> Result<MemS
     Ok(MemSink::new(alloc, room, step.max(1), calls(alloc, fail)?)?)
 }
 
-/// The status and both texts of words over the file `d/a.out`.
-fn answer<R: Threads + Sync, G: Gate + Sync>(
-    rt: &R,
-    gate: &G,
-    alloc: Global,
-    words: &[&str],
-    file: &[u8],
-    edges: Edges<'_>,
-) -> Result<(u8, MemSink, MemSink), Fail> {
-    let mut strings = Vec::new(alloc);
-    for word in words {
-        strings.push(String::from_str(alloc, word)?)?;
-    }
-    let mut store = store_of(alloc, file, edges)?;
-    let mut out = sink_of(alloc, edges.room, edges.step, edges.out)?;
-    let mut err = sink_of(alloc, 1000, edges.step, edges.err)?;
-    let status = run(rt, alloc, &strings, &mut store, &mut out, &mut err, gate);
-    Ok((status, out, err))
-}
-
-/// Words over the file `d/a.out`, and what they are called where something else comes of them.
+/// Words over the file `d/a.out`, the edges that they meet, and what they are called where something else comes of them.
 #[derive(Clone, Copy)]
 struct Asked<'a> {
     label: &'a str,
     words: &'a [&'a str],
     file: &'a [u8],
+    edges: Edges<'a>,
+}
+
+fn smooth<'a>(label: &'a str, words: &'a [&'a str], file: &'a [u8]) -> Asked<'a> {
+    Asked {
+        label,
+        words,
+        file,
+        edges: SMOOTH,
+    }
 }
 
 /// The status and both texts that are wanted.
@@ -114,16 +104,43 @@ struct Wanted<'a> {
     err: &'a [u8],
 }
 
+/// Status 0 and a text on standard output alone.
+fn good(out: &[u8]) -> Wanted<'_> {
+    Wanted {
+        status: 0,
+        out,
+        err: b"",
+    }
+}
+
+/// The status and both texts of words.
+fn answer<R: Threads + Sync, G: Gate + Sync>(
+    rt: &R,
+    gate: &G,
+    alloc: Global,
+    asked: Asked<'_>,
+) -> Result<(u8, MemSink, MemSink), Fail> {
+    let edges = asked.edges;
+    let mut strings = Vec::new(alloc);
+    for word in asked.words {
+        strings.push(String::from_str(alloc, word)?)?;
+    }
+    let mut store = store_of(alloc, asked.file, edges)?;
+    let mut out = sink_of(alloc, edges.room, edges.step, edges.out)?;
+    let mut err = sink_of(alloc, 1000, edges.step, edges.err)?;
+    let status = run(rt, alloc, &strings, &mut store, &mut out, &mut err, gate);
+    Ok((status, out, err))
+}
+
 /// Words give this status and these texts.
 fn expect<R: Abort + Threads + Sync, G: Gate + Sync>(
     rt: &R,
     gate: &G,
     alloc: Global,
     asked: Asked<'_>,
-    edges: Edges<'_>,
     wanted: Wanted<'_>,
 ) -> Result<(), Fail> {
-    let (found, to_out, to_err) = answer(rt, gate, alloc, asked.words, asked.file, edges)?;
+    let (found, to_out, to_err) = answer(rt, gate, alloc, asked)?;
     same(rt, asked.label, &[found], &[wanted.status]);
     same(rt, asked.label, to_out.written(), wanted.out);
     same(rt, asked.label, to_err.written(), wanted.err);
@@ -137,9 +154,12 @@ fn expect_form<R: Abort + Threads + Sync>(
     asked: Asked<'_>,
     wanted: Wanted<'_>,
 ) -> Result<(), Fail> {
-    let slow = Edges { step: 1, ..SMOOTH };
-    expect(rt, &NoGate, alloc, asked, slow, wanted)?;
-    expect(rt, &NoGate, alloc, asked, SMOOTH, wanted)
+    let edges = Edges {
+        step: 1,
+        ..asked.edges
+    };
+    expect(rt, &NoGate, alloc, Asked { edges, ..asked }, wanted)?;
+    expect(rt, &NoGate, alloc, asked, wanted)
 }
 
 /// The row's status and texts, by each of its forms.
@@ -154,12 +174,7 @@ fn expect_row<R: Abort + Threads + Sync>(rt: &R, alloc: Global, row: Row) -> Res
         err: &err,
     };
     for words in forms {
-        let asked = Asked {
-            label,
-            words,
-            file: &file,
-        };
-        expect_form(rt, alloc, asked, wanted)?;
+        expect_form(rt, alloc, smooth(label, words, &file), wanted)?;
     }
     Ok(())
 }
@@ -232,7 +247,7 @@ fn expect_fronts<R: Abort + Threads + Sync>(
             out: wanted.out.split_at(to_out).0,
             err: wanted.err.split_at(to_err).0,
         };
-        expect(rt, &NoGate, alloc, asked, edges, front)?;
+        expect(rt, &NoGate, alloc, Asked { edges, ..asked }, front)?;
     }
     Ok(())
 }
@@ -244,11 +259,7 @@ fn each_call_that_fails_leaves_a_front(rt: HostRuntime) -> Result<(), Fail> {
         let file = file_by(alloc, given)?;
         let out = joined(alloc, out)?;
         let err = joined(alloc, err)?;
-        let asked = Asked {
-            label,
-            words,
-            file: &file,
-        };
+        let asked = smooth(label, words, &file);
         let wanted = Wanted {
             status,
             out: &out,
@@ -259,20 +270,14 @@ fn each_call_that_fails_leaves_a_front(rt: HostRuntime) -> Result<(), Fail> {
     Ok(())
 }
 
-/// Each of so many calls of the store that fails in turn, where a call moves at most so many bytes: the status is 3, with this line.
+/// Each of so many calls of the store that fails in turn: the status is 3, with this line.
 fn expect_unread<R: Abort + Threads + Sync>(
     rt: &R,
     alloc: Global,
-    words: &[&str],
-    file: &[u8],
-    (step, calls): (usize, usize),
+    asked: Asked<'_>,
+    calls: usize,
     line: &[u8],
 ) -> Result<(), Fail> {
-    let asked = Asked {
-        label: "store",
-        words,
-        file,
-    };
     let wanted = Wanted {
         status: 3,
         out: b"",
@@ -280,11 +285,10 @@ fn expect_unread<R: Abort + Threads + Sync>(
     };
     for call in 1..=calls as u64 {
         let edges = Edges {
-            step,
             store: &[call],
-            ..SMOOTH
+            ..asked.edges
         };
-        expect(rt, &NoGate, alloc, asked, edges, wanted)?;
+        expect(rt, &NoGate, alloc, Asked { edges, ..asked }, wanted)?;
     }
     Ok(())
 }
@@ -317,7 +321,11 @@ fn each_call_that_fails_has_its_status(rt: HostRuntime) -> Result<(), Fail> {
         let pieces = file.len().div_ceil(step.max(1));
         let calls = pieces.saturating_add(2).saturating_mul(times);
         let calls = calls.saturating_add(more);
-        expect_unread(&rt, rt.alloc(), words, &file, (step, calls), line)?;
+        let asked = Asked {
+            edges: Edges { step, ..SMOOTH },
+            ..smooth("store", words, &file)
+        };
+        expect_unread(&rt, rt.alloc(), asked, calls, line)?;
     }
     Ok(())
 }
@@ -329,11 +337,7 @@ fn a_symbol_file_that_fails_is_missing(rt: HostRuntime) -> Result<(), Fail> {
     let file = file_by(alloc, IN_F)?;
     let with = joined(alloc, WITH)?;
     let without = joined(alloc, WITHOUT)?;
-    let asked = Asked {
-        label: "a symbol file",
-        words: STACKS,
-        file: &file,
-    };
+    let asked = smooth("a symbol file", STACKS, &file);
     // An opening, one piece and the end, of the core file and then of the symbol file.
     for call in 4..=7 {
         let (out, err) = if call < 7 {
@@ -350,7 +354,7 @@ fn a_symbol_file_that_fails_is_missing(rt: HostRuntime) -> Result<(), Fail> {
             out,
             err,
         };
-        expect(&rt, &NoGate, alloc, asked, edges, wanted)?;
+        expect(&rt, &NoGate, alloc, Asked { edges, ..asked }, wanted)?;
     }
     Ok(())
 }
@@ -359,11 +363,7 @@ fn a_symbol_file_that_fails_is_missing(rt: HostRuntime) -> Result<(), Fail> {
 fn a_sink_without_room_has_its_status(rt: HostRuntime) -> Result<(), Fail> {
     let file = small_and(rt.alloc(), NULL)?;
     let text = joined(rt.alloc(), &[FRONT, MAIN])?;
-    let asked = Asked {
-        label: "room",
-        words: DUMP,
-        file: &file,
-    };
+    let asked = smooth("room", DUMP, &file);
     for room in 0..text.len() {
         let edges = Edges {
             step: 50,
@@ -375,7 +375,7 @@ fn a_sink_without_room_has_its_status(rt: HostRuntime) -> Result<(), Fail> {
             out: text.split_at(room).0,
             err: b"",
         };
-        expect(&rt, &NoGate, rt.alloc(), asked, edges, wanted)?;
+        expect(&rt, &NoGate, rt.alloc(), Asked { edges, ..asked }, wanted)?;
     }
     Ok(())
 }
@@ -385,52 +385,23 @@ fn large_files_are_answered(rt: HostRuntime) -> Result<(), Fail> {
     let alloc = rt.alloc();
     let (file, records) = framed(alloc)?;
     let text = joined(alloc, &[FRONT, &records])?;
-    let asked = Asked {
-        label: "frames of more than 65,535 bytes",
-        words: DUMP,
-        file: &file,
-    };
-    let wanted = Wanted {
-        status: 0,
-        out: &text,
-        err: b"",
-    };
-    expect(&rt, &NoGate, alloc, asked, SMOOTH, wanted)?;
+    let asked = smooth("frames of more than 65,535 bytes", DUMP, &file);
+    expect(&rt, &NoGate, alloc, asked, good(&text))?;
     let file = functions(alloc)?;
-    let asked = Asked {
-        label: "more than 65,535 records",
-        words: WALK,
-        file: &file,
-    };
-    let wanted = Wanted {
-        status: 0,
-        out: STEPS,
-        err: b"",
-    };
-    expect(&rt, &NoGate, alloc, asked, SMOOTH, wanted)
+    let asked = smooth("more than 65,535 records", WALK, &file);
+    expect(&rt, &NoGate, alloc, asked, good(STEPS))
 }
 
 /// Of two workers the one that draws the first unit waits until the other has reached the second.
 fn expect_meeting<R: Abort + Threads + Sync>(
     rt: &R,
     alloc: Global,
-    words: &[&str],
-    file: &[u8],
+    asked: Asked<'_>,
     others: u64,
     out: &[u8],
 ) -> Result<(), Fail> {
     let gate = Holding::new(0, others);
-    let asked = Asked {
-        label: "held",
-        words,
-        file,
-    };
-    let wanted = Wanted {
-        status: 0,
-        out,
-        err: b"",
-    };
-    expect(rt, &gate, alloc, asked, SMOOTH, wanted)?;
+    expect(rt, &gate, alloc, asked, good(out))?;
     same(rt, "the others are reached", &gate.seen(), &[others, 0]);
     Ok(())
 }
@@ -440,11 +411,11 @@ fn two_workers_meet(rt: HostRuntime) -> Result<(), Fail> {
     let alloc = rt.alloc();
     let file = file_by(alloc, Given::TwoUnits(false))?;
     let text = joined(alloc, &[FRONT, THREE_PATHS])?;
-    expect_meeting(&rt, alloc, BY_TWO, &file, 1, &text)?;
+    expect_meeting(&rt, alloc, smooth("held", BY_TWO, &file), 1, &text)?;
     let words = &["sample", "2", "--workers", "2"];
-    expect_meeting(&rt, alloc, words, &file, 1, TWO)?;
+    expect_meeting(&rt, alloc, smooth("held", words, &file), 1, TWO)?;
     let words = &["sample", "1000", "--workers", "2"];
-    expect_meeting(&rt, alloc, words, &file, 999, THOUSAND)?;
+    expect_meeting(&rt, alloc, smooth("held", words, &file), 999, THOUSAND)?;
     let mut reached = Vec::new(alloc);
     for _ in 0..1000 {
         reached.push(AtomicU64::new(0))?;
@@ -452,17 +423,8 @@ fn two_workers_meet(rt: HostRuntime) -> Result<(), Fail> {
     let gate = Recording {
         reached: reached.as_slice(),
     };
-    let asked = Asked {
-        label: "each unit once",
-        words: &["sample", "1000"],
-        file: &file,
-    };
-    let wanted = Wanted {
-        status: 0,
-        out: THOUSAND,
-        err: b"",
-    };
-    expect(&rt, &gate, alloc, asked, SMOOTH, wanted)?;
+    let asked = smooth("each unit once", &["sample", "1000"], &file);
+    expect(&rt, &gate, alloc, asked, good(THOUSAND))?;
     same(&rt, "each unit once", &[gate.once()], &[1000]);
     Ok(())
 }

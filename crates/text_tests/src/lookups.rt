@@ -29,9 +29,11 @@ const HELLO: &[u8] = b"MODULE Linux x86_64 030201000504070608090A0B0C0D0E0F0 hel
 const MAIN: &[u8] = b"MODULE Linux x86_64 030201000504070608090A0B0C0D0E0F0 a.out\n\
     INFO CODE_ID 000102030405060708090A0B0C0D0E0F10111213\nPUBLIC 1000 0 main\n";
 
+type AnswerRow = (&'static str, &'static [u8], u64, &'static [usize]);
+
 /// A text, an address, and what is answered there: of a function its place, that of the line counted from 1, or 0, and those of the copies; the
 /// place of a symbol alone; or nothing.
-const ANSWERS: [(&str, &[u8], u64, &[usize]); 8] = [
+const ANSWERS: [AnswerRow; 8] = [
     ("main", MAIN, 0x1000, &[2]),
     ("in a copy", INLINED, 0x1005, &[3, 7, 4]),
     ("behind it", INLINED, 0x100c, &[3, 8]),
@@ -60,26 +62,6 @@ fn places_of(alloc: Global, answer: &Answer) -> Result<Vec<usize>, AllocError> {
     Ok(places)
 }
 
-/// Both look-ups in a file give these places.
-fn expect_places(
-    rt: &impl Abort,
-    alloc: Global,
-    row: &str,
-    file: &SymFile,
-    address: u64,
-    wanted: &[usize],
-) -> Result<(), Fail> {
-    if file.len() >= 100_000 {
-        return Err("too many records".into());
-    }
-    let index = Index::of(alloc, file)?;
-    let found = index.answer_at(alloc, file, address)?;
-    same(rt, row, &places_of(alloc, &found)?, wanted);
-    let found = answer_at(alloc, file, address)?;
-    same(rt, row, &places_of(alloc, &found)?, wanted);
-    Ok(())
-}
-
 /// The records' texts, one after another.
 fn rendered(alloc: Global, file: &SymFile) -> Result<Vec<u8>, OutOfMemory> {
     let mut text = Vec::new(alloc);
@@ -90,13 +72,27 @@ fn rendered(alloc: Global, file: &SymFile) -> Result<Vec<u8>, OutOfMemory> {
     Ok(text)
 }
 
+/// Both look-ups in a text give the places of the row.
+fn expect_places(rt: &impl Abort, alloc: Global, row: AnswerRow) -> Result<(), Fail> {
+    let (row, text, address, wanted) = row;
+    let file = file_of_text(alloc, text)?;
+    if file.len() >= 100_000 {
+        return Err("too many records".into());
+    }
+    let index = Index::of(alloc, &file)?;
+    let found = index.answer_at(alloc, &file, address)?;
+    same(rt, row, &places_of(alloc, &found)?, wanted);
+    let found = answer_at(alloc, &file, address)?;
+    same(rt, row, &places_of(alloc, &found)?, wanted);
+    same(rt, row, &rendered(alloc, &file)?, text);
+    Ok(())
+}
+
 #[test]
 fn texts_have_their_answers(rt: HostRuntime) -> Result<(), Fail> {
     let alloc = rt.alloc();
-    for (row, text, address, wanted) in ANSWERS {
-        let file = file_of_text(alloc, text)?;
-        expect_places(&rt, alloc, row, &file, address, wanted)?;
-        same(&rt, row, &rendered(alloc, &file)?, text);
+    for row in ANSWERS {
+        expect_places(&rt, alloc, row)?;
     }
     Ok(())
 }

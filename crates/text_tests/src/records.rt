@@ -132,8 +132,10 @@ fn write(
     Ok((sink, whole))
 }
 
+type WriteRow = (&'static str, (usize, usize, u64), usize);
+
 /// The room of a sink, how many bytes it takes at once, and the number of the call that fails; how many bytes it takes of `WHOLE`.
-const WRITES: [(&str, (usize, usize, u64), usize); 6] = [
+const WRITES: [WriteRow; 6] = [
     ("in one piece", (500, 500, 0), 252),
     ("byte by byte", (500, 1, 0), 252),
     ("into just enough room", (252, 7, 0), 252),
@@ -169,10 +171,9 @@ fn expect_write(
     rt: &impl Abort,
     alloc: Global,
     file: &SymFile,
-    row: &str,
-    sink: (usize, usize, u64),
-    count: usize,
+    row: WriteRow,
 ) -> Result<(), OutOfMemory> {
+    let (row, sink, count) = row;
     let (sink, is_whole) = write(alloc, file, sink)?;
     let wanted = WHOLE.split_at(count.min(WHOLE.len())).0;
     same(rt, row, sink.written(), wanted);
@@ -188,8 +189,8 @@ fn records_are_rendered_and_written(rt: HostRuntime) -> Result<(), Fail> {
     let Some(file) = whole_file(alloc)? else {
         return Err("the records are no file".into());
     };
-    for (row, sink, count) in WRITES {
-        expect_write(&rt, alloc, &file, row, sink, count)?;
+    for row in WRITES {
+        expect_write(&rt, alloc, &file, row)?;
     }
     let count = file.into_vec().len();
     same(&rt, "the records come back", &[count], &[10]);
