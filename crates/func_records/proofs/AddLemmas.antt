@@ -3,7 +3,6 @@ use Rattle.std.proofs.Common.{◌≡◌, ℕ, zero, suc, ◌<◌, ◌-◌, Bool,
 use Rattle.std.specs.List.{slice_get, list_any}
 use Rattle.std.specs.List.Sorted.{IsStrictlySortedBy}
 use Rattle.std.specs.Str.{bytes_eq}
-use Rattle.std.proofs.lemmas.Slice.Eq.{bytes_eq-Decides}
 use Rattle.std.proofs.lemmas.List.Folds.{list_any-append}
 use Rattle.step_maps.specs.Runs.{Run}
 use Rattle.step_maps.proofs.OneRuns.{one_runs}
@@ -19,6 +18,7 @@ use Rattle.func_flatten.specs.declared.piece.Piece.{Piece}
 use Rattle.func_flatten.specs.declared.line_run.LineRun.{LineRun}
 use Rattle.func_flatten.specs.LineRuns.{paths_in, number_run, unit_paths, AreLineRuns}
 use Rattle.inline_chain.specs.InlineRuns.{InlineParts}
+use Rattle.die_names.specs.declared.name_source.NameRef.{NameRef}
 use Rattle.func_records.specs.declared.numbers.Numbers.{Numbers}
 use Rattle.func_records.specs.internal.Texts.{text_cmp, SameTexts}
 use Rattle.func_records.specs.FuncRecords.{Part, pieces_of, path_in, call_path, call_line, number_in, file_lines, origin_lines, extent, func_record, inline_record, line_record, part_lines, AreLined, names_path, names_origin}
@@ -26,14 +26,15 @@ use Rattle.debug_units.specs.CallPaths.{no_path}
 use Rattle.func_records.specs.internal.Calls.{call_number, path_or, IsPathed, IsKnown, AreKnown, AreAllKnown}
 use Rattle.func_records.specs.internal.Gathering.{bytes_of, has_text, ArePathed, AreHeld, Gathered, copies_of}
 use Rattle.func_records.specs.internal.Spelling.{number_or_0, unit_numbers, line_by, row_of}
-use Rattle.func_records.specs.internal.Origins.{entry_names, all_names}
+use Rattle.func_records.specs.internal.Origins.{made_name, entry_names, all_names, beside, name_number, AddsNames}
 use Rattle.func_records.specs.internal.Parts.{file_by, inline_by, parts_by, AddsParts}
 use Rattle.func_records.specs.Adding.{AddsFunctions}
 use Rattle.func_records.proofs.PathLemmas.{all_pathed}
 use Rattle.func_records.proofs.CanonLemmas.{canon_join}
 use Rattle.func_records.proofs.HoldLemmas.{held_inlined}
-use Rattle.func_records.proofs.UsedLemmas.{bytes_sorted, bytes_had, same_used}
-use Rattle.func_records.proofs.ListLemmas.{or_left, or_right}
+use Rattle.func_records.proofs.UsedLemmas.{bytes_sorted, same_used}
+use Rattle.func_records.proofs.ListLemmas.{same_bytes, or_left, or_right}
+use Rattle.func_records.proofs.OriginLemmas.{number_beside}
 
 -- the parts of some pieces are one list
 abbrev back : Run (ℕ × ℕ) → LineRun
@@ -70,9 +71,6 @@ one_parts units (x ∷ xs) (y ∷ ys) same held first second =
     let copies : x.copies ≡ y.copies = ap (first_of x.copies) held in
     let lines : x.lines ≡ y.lines = one_lines units y.piece x.lines y.lines (subst (λ (p : Piece). AreLineRuns units p x.lines) piece first.0) second.0 in
     ap (λ p. p ∷ xs) (part_is x y piece copies lines) ∙ ap (λ ps. y ∷ ps) (one_parts units xs ys (ap rest_of same) (ap rest_of held) first.1 second.1)
-
-same_bytes : (text : List ℕ) → bytes_eq text text ≡ true
-same_bytes text = (bytes_eq-Decides text text).1 refl
 
 -- the number of a run's path
 number_there : (paths : List (List ℕ)) (path : List ℕ) → list_any (bytes_eq path) paths ≡ true → number_or_0 paths path ≡ number_in paths path
@@ -124,7 +122,11 @@ call_is paths units unit entry known had =
     file_is paths units unit (call_number units unit entry) known.pathed (ap (λ path. list_any (bytes_eq path) paths) (sym known.path) ∙ had)
     ∙ ap (number_in paths) (sym known.path)
 
-copies_same : (base : ℕ) (paths names : List (List ℕ)) (numbers : Numbers) (units : List UnitRead) (unit : ℕ) (copies : List InlineParts) → numbers.rows.now ≡ unit_numbers paths units → numbers.omitted ≡ number_or_0 paths no_path → bytes_of numbers.names.now ≡ names → AreKnown units unit copies → HasCalls paths units unit copies → HasNames names units unit copies → map (inline_by base numbers units unit) copies ≡ map (inline_record base paths names units unit) copies
+-- the numbers of names in use
+abbrev AreBeside : Numbers → List UnitRead → List (List ℕ) → Type 0
+AreBeside numbers units names = (name : List ℕ) → list_any (bytes_eq name) names ≡ true → name_number numbers units name ≡ number_in names name
+
+copies_same : (base : ℕ) (paths names : List (List ℕ)) (numbers : Numbers) (units : List UnitRead) (unit : ℕ) (copies : List InlineParts) → numbers.rows.now ≡ unit_numbers paths units → numbers.omitted ≡ number_or_0 paths no_path → AreBeside numbers units names → AreKnown units unit copies → HasCalls paths units unit copies → HasNames names units unit copies → map (inline_by base numbers units unit) copies ≡ map (inline_record base paths names units unit) copies
 copies_same base paths names numbers units unit [] rows omitted named known calls origins = refl
 copies_same base paths names numbers units unit (r ∷ copies) rows omitted named known calls origins =
     let path : List ℕ = call_path units unit r.entry in
@@ -135,15 +137,15 @@ copies_same base paths names numbers units unit (r ∷ copies) rows omitted name
     = ap (λ (rs : List (List ℕ)). file_by (row_of rs unit) numbers.omitted (call_number units unit r.entry)) rows
     ∙ ap (λ n. file_by (row_of (unit_numbers paths units) unit) n (call_number units unit r.entry)) omitted
     ∙ call_is paths units unit r.entry known.0 has_path in
-    let origin : number_or_0 (bytes_of numbers.names.now) name ≡ number_in names name = ap (λ ns. number_or_0 ns name) named ∙ number_there names name has_name in
-    ap (λ n. Inline r.level (call_line units unit r.entry) n (number_or_0 (bytes_of numbers.names.now) name) (map (extent base) r.spans) ∷ map (inline_by base numbers units unit) copies) file
+    let origin : name_number numbers units name ≡ number_in names name = named name has_name in
+    ap (λ n. Inline r.level (call_line units unit r.entry) n (name_number numbers units name) (map (extent base) r.spans) ∷ map (inline_by base numbers units unit) copies) file
     ∙ ap (λ n. Inline r.level (call_line units unit r.entry) (number_in paths path) n (map (extent base) r.spans) ∷ map (inline_by base numbers units unit) copies) origin
     ∙ ap (λ rest. inline_record base paths names units unit r ∷ rest)
     (copies_same base paths names numbers units unit copies rows omitted named known.1
     (λ p had. calls p (or_right (bytes_eq p path) (list_any (λ (s : InlineParts). bytes_eq p (call_path units unit s.entry)) copies) had))
     (λ n had. origins n (or_right (bytes_eq n name) (list_any (λ (s : InlineParts). bytes_eq n (entry_name units unit s.entry)) copies) had)))
 
-parts_same : (base : ℕ) (paths names : List (List ℕ)) (numbers : Numbers) (units : List UnitRead) (parts : List Part) → numbers.rows.now ≡ unit_numbers paths units → numbers.omitted ≡ number_or_0 paths no_path → bytes_of numbers.names.now ≡ names → AreLined units parts → AreAllKnown units parts → ((path : List ℕ) → list_any (names_path units path) parts ≡ true → list_any (bytes_eq path) paths ≡ true) → ((name : List ℕ) → list_any (names_origin units name) parts ≡ true → list_any (bytes_eq name) names ≡ true) → parts_by base numbers units parts ≡ part_lines base paths names units parts
+parts_same : (base : ℕ) (paths names : List (List ℕ)) (numbers : Numbers) (units : List UnitRead) (parts : List Part) → numbers.rows.now ≡ unit_numbers paths units → numbers.omitted ≡ number_or_0 paths no_path → AreBeside numbers units names → AreLined units parts → AreAllKnown units parts → ((path : List ℕ) → list_any (names_path units path) parts ≡ true → list_any (bytes_eq path) paths ≡ true) → ((name : List ℕ) → list_any (names_origin units name) parts ≡ true → list_any (bytes_eq name) names ≡ true) → parts_by base numbers units parts ≡ part_lines base paths names units parts
 parts_same base paths names numbers units [] rows omitted named lined known used origins = refl
 parts_same base paths names numbers units (p ∷ parts) rows omitted named lined known used origins =
     let unit = p.piece.unit in
@@ -177,27 +179,35 @@ names_in_parts units name (p ∷ parts) =
     ∙ ap (λ b. b || list_any (bytes_eq name) (all_names units (pieces_of parts) (copies_of parts))) (any_name units p.piece.unit name p.copies)
     ∙ ap (λ b. names_origin units name p || b) (names_in_parts units name parts)
 
+-- the numbers beside the names that entries give are those of the names
+names_beside : (units : List UnitRead) (refs : List NameRef) (numbers : Numbers) (old new : List ℕ) → numbers.entries.now ≡ refs → (added : AddsNames units refs numbers.numbers.now old new) → AreBeside numbers units added.names
+names_beside units refs numbers old new entries added name has =
+    ap (λ (rs : List NameRef). beside (map (made_name units) rs) numbers.numbers.now name) entries
+    ∙ ap (λ ns. beside (map (made_name units) refs) ns name) added.are
+    ∙ number_beside (number_or_0 added.names) (map (made_name units) refs) name (sym (added.same name) ∙ has)
+    ∙ number_there added.names name has
+
 -- all together
-pub functions_added : (base : ℕ) (units : List UnitRead) (pieces : List Piece) (held : List (List InlineParts)) (used sorted slices names : List (Bor (List ℕ))) (numbers : Numbers) (old filed named new : List ℕ) → AreHeld units pieces held → Gathered units pieces held (has_text used) → IsStrictlySortedBy text_cmp sorted → SameTexts used sorted
-    → ((name : List ℕ) → list_any (bytes_eq name) (bytes_of slices) ≡ list_any (bytes_eq name) (all_names units pieces held)) → IsStrictlySortedBy text_cmp names → SameTexts slices names
-    → numbers.rows.now ≡ unit_numbers (bytes_of sorted) units → numbers.omitted ≡ number_or_0 (bytes_of sorted) no_path → numbers.names.now ≡ names
-    → filed ≡ old ++ canon_text (file_lines 0 (bytes_of sorted)) → first_bad_from 0 Inside (file_lines 0 (bytes_of sorted)) ≡ None → named ≡ filed ++ canon_text (origin_lines 0 (bytes_of names)) → first_bad_from 0 Inside (origin_lines 0 (bytes_of names)) ≡ None
+pub functions_added : (base : ℕ) (units : List UnitRead) (pieces : List Piece) (held : List (List InlineParts)) (used sorted : List (Bor (List ℕ))) (refs : List NameRef) (numbers : Numbers) (old filed named new : List ℕ) → AreHeld units pieces held → Gathered units pieces held (has_text used) → IsStrictlySortedBy text_cmp sorted → SameTexts used sorted
+    → ((name : List ℕ) → list_any (bytes_eq name) (map (made_name units) refs) ≡ list_any (bytes_eq name) (all_names units pieces held))
+    → numbers.rows.now ≡ unit_numbers (bytes_of sorted) units → numbers.omitted ≡ number_or_0 (bytes_of sorted) no_path → numbers.entries.now ≡ refs
+    → filed ≡ old ++ canon_text (file_lines 0 (bytes_of sorted)) → first_bad_from 0 Inside (file_lines 0 (bytes_of sorted)) ≡ None → AddsNames units refs numbers.numbers.now filed named
     → AddsParts base numbers units pieces held named new → AddsFunctions base units pieces old new
-functions_added base units pieces held used sorted slices names numbers old filed named new are gathered strict same all_texts names_strict names_same rows omitted names_are files files_fit origins origins_fit adds =
+functions_added base units pieces held used sorted refs numbers old filed named new are gathered strict same all_texts rows omitted entries files files_fit origins adds =
     let paths : List (List ℕ) = bytes_of sorted in
-    let owners : List (List ℕ) = bytes_of names in
+    let owners : List (List ℕ) = origins.names in
     let parts : gathered.parts ≡ adds.parts = one_parts units gathered.parts adds.parts (gathered.pieces_are ∙ sym adds.pieces_are) (gathered.copies_are ∙ sym adds.copies_are) gathered.lines_are adds.lines_are in
     let known : AreAllKnown units adds.parts = subst (λ (ps : List Part). AreAllKnown units ps) parts gathered.known in
     let inlined = held_inlined units adds.parts (rw adds.pieces_are (rw adds.copies_are are)) in
     let path_same : (path : List ℕ) → list_any (bytes_eq path) paths ≡ list_any (names_path units path) adds.parts
     = λ path. same_used used sorted path same ∙ gathered.same path ∙ ap (list_any (names_path units path)) parts in
     let name_same : (name : List ℕ) → list_any (bytes_eq name) owners ≡ list_any (names_origin units name) adds.parts
-    = λ name. same_used slices names name names_same ∙ sym (bytes_had slices name) ∙ all_texts name
+    = λ name. origins.same name ∙ all_texts name
     ∙ ap (λ (ps : List Piece). list_any (bytes_eq name) (all_names units ps held)) (sym adds.pieces_are)
     ∙ ap (λ (cs : List (List InlineParts)). list_any (bytes_eq name) (all_names units (pieces_of adds.parts) cs)) (sym adds.copies_are)
     ∙ names_in_parts units name adds.parts in
     let spelled : parts_by base numbers units adds.parts ≡ part_lines base paths owners units adds.parts
-    = parts_same base paths owners numbers units adds.parts rows omitted (ap bytes_of names_are) adds.lines_are known (λ path had. path_same path ∙ had) (λ name had. name_same name ∙ had) in
+    = parts_same base paths owners numbers units adds.parts rows omitted (names_beside units refs numbers filed named entries origins) adds.lines_are known (λ path had. path_same path ∙ had) (λ name had. name_same name ∙ had) in
     let functions : List SymLine = part_lines base paths owners units adds.parts in
     record {
       records = file_lines 0 paths ++ (origin_lines 0 owners ++ functions);
@@ -210,12 +220,12 @@ functions_added base units pieces held used sorted slices names numbers old file
         inlined = inlined;
         lines_are = adds.lines_are;
         used = record { sorted = bytes_sorted sorted strict; same = path_same };
-        origins = record { sorted = bytes_sorted names names_strict; same = name_same };
+        origins = record { sorted = origins.sorted; same = name_same };
       };
-      text = adds.text ∙ ap (λ ls. named ++ canon_text ls) spelled ∙ ap (λ t. t ++ canon_text functions) origins ∙ append_assoc filed (canon_text (origin_lines 0 owners)) (canon_text functions)
+      text = adds.text ∙ ap (λ ls. named ++ canon_text ls) spelled ∙ ap (λ t. t ++ canon_text functions) origins.text ∙ append_assoc filed (canon_text (origin_lines 0 owners)) (canon_text functions)
           ∙ ap (λ t. filed ++ t) (sym (canon_join (origin_lines 0 owners) functions)) ∙ ap (λ t. t ++ canon_text (origin_lines 0 owners ++ functions)) files
           ∙ append_assoc old (canon_text (file_lines 0 paths)) (canon_text (origin_lines 0 owners ++ functions))
           ∙ ap (λ t. old ++ t) (sym (canon_join (file_lines 0 paths) (origin_lines 0 owners ++ functions)));
-      fit = join_behind (file_lines 0 paths) (origin_lines 0 owners ++ functions) files_fit (join_behind (origin_lines 0 owners) functions origins_fit (ap (first_bad_from 0 Inside) (sym spelled) ∙ adds.fit));
+      fit = join_behind (file_lines 0 paths) (origin_lines 0 owners ++ functions) files_fit (join_behind (origin_lines 0 owners) functions origins.fit (ap (first_bad_from 0 Inside) (sym spelled) ∙ adds.fit));
       below = adds.below;
     }

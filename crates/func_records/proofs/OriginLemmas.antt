@@ -1,5 +1,5 @@
 -- The names of the functions that were inlined, as they are gathered and numbered.
-use Rattle.std.proofs.Common.{◌≡◌, ℕ, zero, suc, ◌+◌, ◌<◌, ◌≤◌, Bool, true, false, map, length, take, drop, get_or, List, [], ◌∷◌, ◌++◌, ◌||◌, Some, unwrap_or, option_map, inl, inr, arith, refl, sym, ap, subst, ◌∙◌, append_assoc, append-nil}
+use Rattle.std.proofs.Common.{◌≡◌, ℕ, zero, suc, ◌+◌, ◌<◌, ◌≤◌, Bool, true, false, cond, map, length, take, drop, get_or, List, [], ◌∷◌, ◌++◌, ◌||◌, Some, unwrap_or, option_map, inl, inr, arith, refl, sym, ap, subst, ◌∙◌, append_assoc, append-nil}
 use Rattle.std.proofs.Math.Seq.{take-append_seam, drop-append_seam}
 use Rattle.std.proofs.lemmas.List.{length-take-le, length-append, length-map, map-append, take_all}
 use Rattle.std.proofs.lemmas.List.Folds.{list_any-append}
@@ -11,8 +11,8 @@ use Rattle.die_names.specs.declared.name_source.NameRef.{NameRef}
 use Rattle.die_names.specs.Names.{entry_name}
 use Rattle.func_flatten.specs.declared.piece.Piece.{Piece}
 use Rattle.inline_chain.specs.InlineRuns.{InlineParts}
-use Rattle.func_records.specs.internal.Origins.{made_name, entry_names, all_names, RefParts, AreAt, TextsSay, RefsSay, IsPlaced}
-use Rattle.func_records.proofs.ListLemmas.{take_next, get_front, get_last, or_right}
+use Rattle.func_records.specs.internal.Origins.{made_name, entry_names, all_names, beside, RefParts, AreAt, TextsSay, RefsSay, IsPlaced}
+use Rattle.func_records.proofs.ListLemmas.{same_bytes, take_next, get_front, get_last, or_left, or_right}
 use Rattle.func_records.proofs.NumberLemmas.{there}
 
 -- the names of a piece more
@@ -196,3 +196,21 @@ places_numbered f texts numbers (k ∷ places) (n ∷ names) are at =
     get_mapped g [] j t is = absurd (cc)
     get_mapped g (u ∷ ts) zero t is = ap (option_map g) is
     get_mapped g (u ∷ ts) (suc j) t is = get_mapped g ts j t is
+
+-- the number beside a text, where each text has that which a function gives
+beside_by : (g : List ℕ → ℕ) (name text : List ℕ) (later : ℕ) (here had : Bool) → bytes_eq name text ≡ here → (here || had) ≡ true → (had ≡ true → later ≡ g name) → cond here (g text) later ≡ g name
+beside_by g name text later true had is has below = ap g (sym ((bytes_eq-Decides name text).0 is))
+beside_by g name text later false had is has below = below has
+
+pub number_beside : (g : List ℕ → ℕ) (texts : List (List ℕ)) (name : List ℕ) → list_any (bytes_eq name) texts ≡ true → beside texts (map g texts) name ≡ g name
+number_beside g [] name has = cc
+number_beside g (text ∷ texts) name has = beside_by g name text (beside texts (map g texts) name) (bytes_eq name text) (list_any (bytes_eq name) texts) refl has (number_beside g texts name)
+
+each_beside : (g : List ℕ → ℕ) (texts names : List (List ℕ)) → ((name : List ℕ) → list_any (bytes_eq name) names ≡ true → list_any (bytes_eq name) texts ≡ true) → map (beside texts (map g texts)) names ≡ map g names
+each_beside g texts [] all = refl
+each_beside g texts (name ∷ names) all =
+    ap (λ n. n ∷ map (beside texts (map g texts)) names) (number_beside g texts name (all name (or_left (bytes_eq name name) (list_any (bytes_eq name) names) (same_bytes name))))
+    ∙ ap (λ ns. g name ∷ ns) (each_beside g texts names (λ other has. all other (or_right (bytes_eq other name) (list_any (bytes_eq other) names) has)))
+
+pub numbers_beside : (g : List ℕ → ℕ) (texts : List (List ℕ)) (numbers : List ℕ) → numbers ≡ map g texts → map (beside texts numbers) texts ≡ numbers
+numbers_beside g texts numbers are = ap (λ ns. map (beside texts ns) texts) are ∙ each_beside g texts texts (λ name has. has) ∙ sym are

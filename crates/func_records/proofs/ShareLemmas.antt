@@ -19,11 +19,10 @@ use Rattle.func_records.specs.declared.path_list.PathRef.{PathRef}
 use Rattle.func_records.specs.FuncRecords.{Part, pieces_of, AreLined, EndBelow, names_path}
 use Rattle.func_records.specs.internal.Calls.{AreAllKnown}
 use Rattle.func_records.specs.internal.Gathering.{bytes_of, path_at, has_path, AreHeld, Gathered, copies_of}
-use Rattle.func_records.specs.internal.Origins.{made_name, entry_names, all_names, all_numbers, ref_numbers}
+use Rattle.func_records.specs.internal.Origins.{made_name, entry_names, all_names, all_numbers, name_number, ref_numbers}
 use Rattle.func_records.specs.internal.Parts.{part_by, parts_by, AddsParts}
 use Rattle.unit_workers.specs.Shares.{share}
 use Rattle.func_records.specs.internal.Shares.{all_held, all_refs, all_paths, IsFound, AreFound, AreSplit}
-use Rattle.func_records.specs.internal.Spelling.{number_or_0}
 use Rattle.func_records.proofs.ListLemmas.{take_next, drop_next}
 use Rattle.func_records.proofs.CanonLemmas.{canon_join}
 use Rattle.func_records.proofs.HoldLemmas.{held_count}
@@ -159,8 +158,8 @@ count_numbers numbers units (r ∷ refs) = ap suc (count_numbers numbers units r
 numbers_apart : (numbers : Numbers) (units : List UnitRead) (shares : List FoundShare) (k : ℕ) (d : FoundShare) → k < length shares → ref_numbers numbers units (all_refs (drop k shares)) ≡ ref_numbers numbers units (get_or shares k d).refs.items ++ ref_numbers numbers units (all_refs (drop (k + 1) shares))
 numbers_apart numbers units shares k d below =
     ap (λ (ss : List FoundShare). ref_numbers numbers units (all_refs ss)) (drop_next shares k d below)
-    ∙ ap (map (number_or_0 (bytes_of numbers.names.now))) (map-append (made_name units) (get_or shares k d).refs.items (all_refs (drop (k + 1) shares)))
-    ∙ map-append (number_or_0 (bytes_of numbers.names.now)) (map (made_name units) (get_or shares k d).refs.items) (map (made_name units) (all_refs (drop (k + 1) shares)))
+    ∙ ap (map (name_number numbers units)) (map-append (made_name units) (get_or shares k d).refs.items (all_refs (drop (k + 1) shares)))
+    ∙ map-append (name_number numbers units) (map (made_name units) (get_or shares k d).refs.items) (map (made_name units) (all_refs (drop (k + 1) shares)))
 
 pub numbers_left : (numbers : Numbers) (units : List UnitRead) (shares : List FoundShare) (k : ℕ) (d : FoundShare) (rest : List ℕ) → k < length shares → rest ≡ ref_numbers numbers units (all_refs (drop k shares)) → length (get_or shares k d).refs.items ≤ length rest
 numbers_left numbers units shares k d rest below is =
@@ -186,7 +185,7 @@ numbers_behind numbers units shares k d rest below is =
 -- the numbers of a share's copies
 pub share_numbers : (numbers : Numbers) (units : List UnitRead) (pieces : List Piece) (s : FoundShare) (known : List ℕ) → IsFound units pieces s → known ≡ ref_numbers numbers units s.refs.items → map (λ k. unwrap_or (slice_get known k) 0) s.places.items ≡ all_numbers numbers units pieces s.held.items
 share_numbers numbers units pieces s known found is =
-    places_numbered (number_or_0 (bytes_of numbers.names.now)) (map (made_name units) s.refs.items) known s.places.items (all_names units pieces s.held.items) is found.names.at
+    places_numbered (name_number numbers units) (map (made_name units) s.refs.items) known s.places.items (all_names units pieces s.held.items) is found.names.at
 
 -- the records of all shares
 below_joined : (limit : ℕ) (pieces more : List Piece) → EndBelow limit pieces → EndBelow limit more → EndBelow limit (pieces ++ more)

@@ -27,7 +27,7 @@ use Rattle.debug_units.specs.CleanPaths.{HaveCleanPaths}
 use Rattle.func_records.specs.internal.Origins.{made_name}
 use Rattle.clean_names.proofs.CleanLemmas.{cleaned_again, omitted_again}
 use Rattle.func_records.proofs.PathLemmas.{all_pathed}
-use Rattle.func_records.proofs.ListLemmas.{or_left, or_right}
+use Rattle.func_records.proofs.ListLemmas.{same_bytes, or_left, or_right}
 
 omitted_clean : cleaned no_path ≡ no_path
 unfolding cleaned no_path
@@ -80,9 +80,6 @@ had_all xs ys path same had =
 
 pub same_used : (xs ys : List (Bor (List ℕ))) (path : List ℕ) → SameTexts xs ys → list_any (bytes_eq path) (bytes_of ys) ≡ has_text xs path
 same_used xs ys path same = bytes_had ys path ∙ same_true (has_text ys path) (has_text xs path) (had_from xs ys path same) (had_all xs ys path same)
-
-same_bytes : (text : List ℕ) → bytes_eq text text ≡ true
-same_bytes text = (bytes_eq-Decides text text).1 refl
 
 -- the paths that records name are cleaned
 clean_at : (paths : List (List ℕ)) (n : ℕ) → n < length paths → AreClean paths → cleaned (unwrap_or (slice_get paths n) []) ≡ unwrap_or (slice_get paths n) []

@@ -3,10 +3,11 @@ ghost use Rattle.std.specs.Prelude.{IfOk};
 ghost use Rattle.sym_records.specs.Spelled.{text_bytes};
 ghost use Rattle.debug_units.specs.CleanPaths.{HaveCleanPaths};
 ghost use Rattle.func_records.specs.Adding.{AddsFunctions};
+ghost use Rattle.func_records.specs.internal.Origins.{AddsNames};
 
 use crate::finder::find_shares;
 use crate::made_names::{DistinctNames, distinct_names};
-use crate::names::gather_names;
+use crate::names::{gather_names, join_refs};
 use crate::numbers::{Numbers, number_of, numbers_at, numbers_of};
 use crate::path_list::no_path;
 use crate::path_rows::number_rows;
@@ -16,11 +17,36 @@ use crate::text_numbers::{Numbering, add_texts};
 use crate::text_ranks::ranked_texts;
 use crate::writer::FuncWriter;
 use debug_units::Units;
+use die_names::NameRef;
 use func_flatten::Piece;
 use std::thread::Threads;
 use sym_edges::OutOfMemory;
 use sym_records::TextPieces;
 use unit_workers::Crew;
+
+/// Adds the records of the names that entries give, sorted and once each, and answers the number of each entry's name. The memory that the names
+/// take is given back before others are spelled.
+fn add_names<R: Threads + Sync>(
+    crew: &Crew<'_, R>,
+    units: &Units<'_>,
+    refs: &[NameRef],
+    text: &mut TextPieces,
+) -> Result<Vec<u32>, OutOfMemory>
+    ensures { IfOk result (λ numbers. AddsNames units.now refs.now numbers.items (text_bytes text.old) (text_bytes text.new)) }
+{
+    let alloc = crew.alloc();
+    let named = gather_names(crew, units, refs)?;
+    let DistinctNames { texts, places } = distinct_names(alloc, named.as_slice())?;
+    let ranked = ranked_texts(alloc, texts.as_slice())?;
+    let names = ranked.sorted.as_slice();
+    if names.len() > u32::MAX as usize {
+        return Err(OutOfMemory);
+    }
+    add_texts(alloc, Numbering::Origins, names, text)?;
+    let known = numbers_of(alloc, names, texts.as_slice(), ranked.guesses.as_slice())?;
+    let numbers = numbers_at(alloc, known.as_slice(), places.as_slice())?;
+    Ok(numbers)
+}
 
 /// Adds to a text, which is given back, the records of functions (Breakpad's symbol_files.md): a FILE record for each path that a line record or a call
 /// names, and an INLINE_ORIGIN record for each name of a function that was inlined, both sorted by bytes and numbered from 0; then for
@@ -42,31 +68,26 @@ pub fn add_functions<R: Threads + Sync>(
     let found = find_shares(crew, units, pieces)?;
     let shares = found.as_slice();
     let used = path_texts(alloc, units, shares)?;
-    let ranked_paths = ranked_texts(alloc, used.as_slice())?;
-    let paths = ranked_paths.sorted.as_slice();
-    let named = gather_names(crew, units, shares)?;
-    let DistinctNames { texts, places } = distinct_names(alloc, named.as_slice())?;
-    let ranked_names = ranked_texts(alloc, texts.as_slice())?;
-    let names = ranked_names.sorted.as_slice();
-    if paths.len() > u32::MAX as usize || names.len() > u32::MAX as usize {
+    let ranked = ranked_texts(alloc, used.as_slice())?;
+    let paths = ranked.sorted.as_slice();
+    if paths.len() > u32::MAX as usize {
         return Err(OutOfMemory);
     }
     let rows = number_rows(crew, units, paths)?;
-    let guesses = ranked_names.guesses.as_slice();
-    let known = numbers_of(alloc, names, texts.as_slice(), guesses)?;
-    let numbers = numbers_at(alloc, known.as_slice(), places.as_slice())?;
+    let mut text = front;
+    add_texts(alloc, Numbering::Files, paths, &mut text)?;
+    let refs = join_refs(alloc, shares)?;
+    let numbers = add_names(crew, units, refs.as_slice(), &mut text)?;
     let writer = FuncWriter {
         base,
         units,
         numbers: Numbers {
             rows: rows.as_slice(),
             omitted: number_of(paths, no_path()),
-            names,
+            entries: refs.as_slice(),
+            numbers: numbers.as_slice(),
         },
     };
-    let mut text = front;
-    add_texts(alloc, Numbering::Files, paths, &mut text)?;
-    add_texts(alloc, Numbering::Origins, names, &mut text)?;
     let spelled = FoundPieces {
         pieces,
         shares,

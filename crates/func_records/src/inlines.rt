@@ -5,10 +5,9 @@ ghost use Rattle.sym_records.specs.Canon.{canon, canon_text};
 ghost use Rattle.sym_records.specs.Fields.{is_range};
 ghost use Rattle.sym_records.specs.Validity.{fields_fit};
 ghost use Rattle.func_records.specs.FuncRecords.{extent};
-ghost use Rattle.func_records.specs.internal.Gathering.{bytes_of};
-ghost use Rattle.func_records.specs.internal.Origins.{copy_numbers};
+ghost use Rattle.func_records.specs.internal.Origins.{name_number, copy_numbers};
 ghost use Rattle.func_records.specs.internal.Parts.{file_by, inline_by, AreShort};
-ghost use Rattle.func_records.specs.internal.Spelling.{number_or_0, row_of};
+ghost use Rattle.func_records.specs.internal.Spelling.{row_of};
 ghost use Rattle.die_names.specs.Names.{entry_name};
 
 use crate::calls::call_site;
@@ -63,7 +62,7 @@ fn add_copy(
     ranges: &mut Vec<Extent>,
     text: &mut Vec<u8>,
 ) -> Result<(), OutOfMemory>
-    requires numbered { origin ≡ number_or_0 (bytes_of writer.now.numbers.names.now) (entry_name writer.now.units.now unit copy.now.entry) }
+    requires numbered { origin ≡ name_number writer.now.numbers writer.now.units.now (entry_name writer.now.units.now unit copy.now.entry) }
     requires some { 0 < length copy.now.spans }
     requires short { length copy.now.spans ≤ 16384 }
     ensures text { OnOk result (text.new.items ≡ text.old.items ++ canon (inline_by writer.now.base writer.now.numbers writer.now.units.now unit copy.now)) }

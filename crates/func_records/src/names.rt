@@ -16,8 +16,8 @@ use std::thread::Threads;
 use sym_edges::OutOfMemory;
 use unit_workers::{Crew, NoGate, UnitJob, share_of};
 
-/// The entries that were found, share after share.
-fn join_refs(alloc: Global, shares: &[FoundShare]) -> Result<Vec<NameRef>, OutOfMemory>
+/// The entries that name the functions that were inlined, share after share.
+pub fn join_refs(alloc: Global, shares: &[FoundShare]) -> Result<Vec<NameRef>, OutOfMemory>
     ensures { IfOk result (λ refs. refs.items ≡ all_refs shares.now) }
 {
     let mut refs = Vec::new(alloc);
@@ -107,7 +107,7 @@ fn join_names<'a>(
 }
 
 /// The names that entries give, cleaned, made by a crew of workers.
-fn make_all_names<'a, R: Threads + Sync>(
+pub fn gather_names<'a, R: Threads + Sync>(
     crew: &Crew<'_, R>,
     units: &Units<'a>,
     refs: &[NameRef],
@@ -119,17 +119,4 @@ fn make_all_names<'a, R: Threads + Sync>(
     let shares = crew.run(&maker, &NoGate, count)?;
     let texts = join_names(crew.alloc(), shares, refs.len())?;
     Ok(texts)
-}
-
-/// The names of the functions that were inlined, entry after entry and share after share, made by a crew of workers.
-pub fn gather_names<'a, R: Threads + Sync>(
-    crew: &Crew<'_, R>,
-    units: &Units<'a>,
-    shares: &[FoundShare],
-) -> Result<Vec<MadeName<'a>>, OutOfMemory>
-    ensures { IfOk result (λ names. names.items ≡ map (made_name units.now) (all_refs shares.now)) }
-{
-    let refs = join_refs(crew.alloc(), shares)?;
-    let names = make_all_names(crew, units, refs.as_slice())?;
-    Ok(names)
 }

@@ -1,7 +1,13 @@
 -- The names of the functions that were inlined, as they are gathered and numbered.
-use Rattle.std.specs.Prelude.{◌≡◌, ◌⊎◌, ℕ, List, [], ◌∷◌, ◌++◌, map, length, Some}
+use Rattle.std.specs.Prelude.{◌≡◌, ◌⊎◌, ℕ, if◌then◌else◌, List, [], ◌∷◌, ◌++◌, map, length, Some, None}
 use Rattle.std.specs.List.{slice_get, list_any}
+use Rattle.std.specs.List.Sorted.{IsStrictlySortedBy}
+use Rattle.std.specs.Ordering.{nat_cmp}
+use Rattle.std.specs.Cmp.Lexicographic.{slice_cmp}
 use Rattle.std.specs.Str.{bytes_eq}
+use Rattle.sym_records.specs.Canon.{canon_text}
+use Rattle.sym_records.specs.Validity.{first_bad_from}
+use Rattle.sym_records.specs.declared.place.Place.TheVariants.{Inside}
 use Rattle.clean_names.specs.Cleaning.{cleaned}
 use Rattle.debug_units.specs.declared.unit_read.UnitRead.{UnitRead}
 use Rattle.die_names.specs.declared.name_source.NameRef.{NameRef}
@@ -10,7 +16,7 @@ use Rattle.die_names.specs.NameRefs.{name_bytes}
 use Rattle.func_flatten.specs.declared.piece.Piece.{Piece}
 use Rattle.inline_chain.specs.InlineRuns.{InlineParts}
 use Rattle.func_records.specs.declared.numbers.Numbers.{Numbers}
-use Rattle.func_records.specs.internal.Gathering.{bytes_of}
+use Rattle.func_records.specs.FuncRecords.{origin_lines}
 use Rattle.func_records.specs.internal.Spelling.{number_or_0}
 
 -- the name that an entry gives
@@ -49,13 +55,31 @@ RefsSay units parts names = TextsSay (map (made_name units) parts.refs) parts.pl
 abbrev pub IsPlaced : {A : Type 0} → List A → List A → A → ℕ → Type 0
 IsPlaced old new one place = ((new ≡ old) × (slice_get old place ≡ Some one)) ⊎ ((new ≡ old ++ one ∷ []) × (place ≡ length old))
 
+-- the number beside the first text that is this one, and 0 for others
+abbrev pub beside : List (List ℕ) → List ℕ → List ℕ → ℕ
+beside (text ∷ texts) (n ∷ numbers) name = if bytes_eq name text then n else beside texts numbers name
+beside _ _ name = 0
+
+-- the number of a name, by the entries that give names, and the number of the name of each
+abbrev pub name_number : Numbers → List UnitRead → List ℕ → ℕ
+name_number numbers units name = beside (map (made_name units) numbers.entries.now) numbers.numbers.now name
+
 -- the numbers of the names of a piece's inlined copies, and of those of all pieces
 abbrev pub copy_numbers : Numbers → List UnitRead → ℕ → List InlineParts → List ℕ
-copy_numbers numbers units unit copies = map (number_or_0 (bytes_of numbers.names.now)) (entry_names units unit copies)
+copy_numbers numbers units unit copies = map (name_number numbers units) (entry_names units unit copies)
 
 abbrev pub all_numbers : Numbers → List UnitRead → List Piece → List (List InlineParts) → List ℕ
-all_numbers numbers units pieces held = map (number_or_0 (bytes_of numbers.names.now)) (all_names units pieces held)
+all_numbers numbers units pieces held = map (name_number numbers units) (all_names units pieces held)
 
 -- the numbers of the names that entries give
 abbrev pub ref_numbers : Numbers → List UnitRead → List NameRef → List ℕ
-ref_numbers numbers units refs = map (number_or_0 (bytes_of numbers.names.now)) (map (made_name units) refs)
+ref_numbers numbers units refs = map (name_number numbers units) (map (made_name units) refs)
+
+-- the records of the names that entries give, sorted and once each, are added to a text, and these are the numbers of the entries' names
+pub record AddsNames (units : List UnitRead) (refs : List NameRef) (numbers : List ℕ) (old new : List ℕ) : Type 0 where
+  pub names : List (List ℕ)
+  pub sorted : IsStrictlySortedBy (slice_cmp nat_cmp) names
+  pub same : (name : List ℕ) → list_any (bytes_eq name) names ≡ list_any (bytes_eq name) (map (made_name units) refs)
+  pub text : new ≡ old ++ canon_text (origin_lines 0 names)
+  pub fit : first_bad_from 0 Inside (origin_lines 0 names) ≡ None
+  pub are : numbers ≡ map (number_or_0 names) (map (made_name units) refs)

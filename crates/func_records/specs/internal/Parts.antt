@@ -15,8 +15,9 @@ use Rattle.inline_chain.specs.InlineRuns.{InlineParts}
 use Rattle.func_records.specs.declared.numbers.Numbers.{Numbers}
 use Rattle.func_records.specs.FuncRecords.{Part, pieces_of, call_line, extent, func_record, AreLined, EndBelow}
 use Rattle.func_records.specs.internal.Calls.{call_number}
-use Rattle.func_records.specs.internal.Gathering.{bytes_of, copies_of}
-use Rattle.func_records.specs.internal.Spelling.{number_or_0, line_by, row_of}
+use Rattle.func_records.specs.internal.Gathering.{copies_of}
+use Rattle.func_records.specs.internal.Origins.{name_number}
+use Rattle.func_records.specs.internal.Spelling.{line_by, row_of}
 
 -- the number of a call's path, by that of each path of the table
 abbrev pub file_by : List ℕ → ℕ → Option ℕ → ℕ
@@ -25,7 +26,7 @@ file_by row omitted (Some path) = unwrap_or (slice_get row path) 0
 
 abbrev pub inline_by : ℕ → Numbers → List UnitRead → ℕ → InlineParts → SymLine
 inline_by base numbers units unit r =
-    Inline r.level (call_line units unit r.entry) (file_by (row_of numbers.rows.now unit) numbers.omitted (call_number units unit r.entry)) (number_or_0 (bytes_of numbers.names.now) (entry_name units unit r.entry)) (map (extent base) r.spans)
+    Inline r.level (call_line units unit r.entry) (file_by (row_of numbers.rows.now unit) numbers.omitted (call_number units unit r.entry)) (name_number numbers units (entry_name units unit r.entry)) (map (extent base) r.spans)
 
 -- each copy has some ranges, and no more than a record bears
 abbrev pub AreShort : List InlineParts → Type 0

@@ -4,9 +4,8 @@ use Rattle.sym_rules.proofs.BoolLemmas.{both}
 use Rattle.sym_records.specs.Canon.{canon_text}
 use Rattle.die_names.specs.Names.{entry_name}
 use Rattle.inline_chain.specs.InlineRuns.{InlineParts}
-use Rattle.func_records.specs.internal.Gathering.{bytes_of}
 use Rattle.func_records.specs.internal.Parts.{inline_by}
-use Rattle.func_records.specs.internal.Spelling.{number_or_0}
+use Rattle.func_records.specs.internal.Origins.{name_number}
 use Rattle.func_records.proofs.CanonLemmas.{record_more, records_done}
 use Rattle.func_records.proofs.ListLemmas.{drop_next}
 use Rattle.func_records.proofs.OriginLemmas.{number_at}
@@ -19,8 +18,8 @@ returns-clause-text c =
 pub add_copy-requires-clause-numbered : goal.add_copy-requires-clause-numbered
 add_copy-requires-clause-numbered c =
     ap (λ os. slice_index_or os c.copies.place 0) c.requires.numbered
-    ∙ number_at (number_or_0 (bytes_of c.args.writer.now.numbers.names.now)) c.args.writer.now.units.now c.args.unit c.args.copies.now c.copies.place c.index-copies-place.result 0 (omega arith)
-    ∙ ap (λ r. number_or_0 (bytes_of c.args.writer.now.numbers.names.now) (entry_name c.args.writer.now.units.now c.args.unit r.entry)) (sym c.index-copies-place.is)
+    ∙ number_at (name_number c.args.writer.now.numbers c.args.writer.now.units.now) c.args.writer.now.units.now c.args.unit c.args.copies.now c.copies.place c.index-copies-place.result 0 (omega arith)
+    ∙ ap (λ r. name_number c.args.writer.now.numbers c.args.writer.now.units.now (entry_name c.args.writer.now.units.now c.args.unit r.entry)) (sym c.index-copies-place.is)
 
 pub copies-preserved : goal.copies-preserved
 copies-preserved c =

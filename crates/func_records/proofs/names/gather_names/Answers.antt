@@ -3,7 +3,7 @@ use Rattle.func_records.specs.internal.Origins.{made_name}
 use Rattle.unit_workers.specs.Shares.{share}
 use Rattle.func_records.specs.internal.Shares.{MakerParts}
 use Rattle.func_records.proofs.ShareLemmas.{shares_mapped}
-use Rattle.func_records.proofs.names.make_all_names.Goals as goal
+use Rattle.func_records.proofs.names.gather_names.Goals as goal
 
 pub returns : goal.returns
 returns g c =
