@@ -1,5 +1,5 @@
 //! The findings at one record.
-ghost use Rattle.std.specs.Prelude.{◌≡◌, ℕ, Bool, ◌&&◌, ◌||◌, ◌==◌, not, false, List, [], ◌∷◌, ◌++◌, None, OnOk};
+ghost use Rattle.std.specs.Prelude.{◌≡◌, ℕ, Bool, ◌&&◌, ◌||◌, not, false, List, [], ◌∷◌, ◌++◌, None, OnOk};
 ghost use Rattle.std.specs.List.{list_all};
 ghost use Rattle.std.specs.Option.{is_some, option_map, option_map_or};
 ghost use Rattle.sym_records.specs.declared.line.Extent.{Extent};
@@ -8,13 +8,11 @@ ghost use Rattle.sym_records.specs.declared.line.SymLine.TheVariants as record_l
 ghost use Rattle.sym_rules.specs.declared.rules.RuleText.{RuleText};
 ghost use Rattle.sym_meaning.specs.Findings.{run_of, is_sized, meet, holds_run};
 ghost use Rattle.sym_findings.specs.Findings.{goes_on, finding_if};
-ghost use Rattle.sym_findings.specs.internal.Numbers.{has_number};
 ghost use Rattle.sym_findings.specs.internal.Ranges.{is_met};
 ghost use Rattle.sym_findings.specs.internal.Preceding.{leaves_open, Knows, Keeps, Judged};
 
 use crate::kind::{Finding, FindingKind};
 use crate::met_ranges::MetRanges;
-use crate::numbers::GivenNumbers;
 use crate::records_before::{Known, OpenInit, Preceding};
 use std::alloc::Global;
 use sym_edges::OutOfMemory;

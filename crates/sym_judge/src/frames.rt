@@ -7,7 +7,6 @@ ghost use Rattle.sym_judge.specs.Forms.{form_by, same_form};
 ghost use Rattle.sym_judge.specs.declared.ruling.Aspect.TheVariants.{Reg};
 ghost use Rattle.sym_judge.specs.declared.ruling.Half.TheVariants.{Frames};
 ghost use Rattle.sym_judge.specs.internal.Stops.{first_in};
-ghost use Rattle.sym_judge.specs.internal.Blocks.{TwoFiles};
 ghost use Rattle.sym_judge.specs.internal.Tables.{words_in, IsTableAt};
 
 use crate::file_pair::FilePair;
