@@ -270,32 +270,11 @@ fn each_call_that_fails_leaves_a_front(rt: HostRuntime) -> Result<(), Fail> {
     Ok(())
 }
 
-/// Each of so many calls of the store that fails in turn: the status is 3, with this line.
-fn expect_unread<R: Abort + Threads + Sync>(
-    rt: &R,
-    alloc: Global,
-    asked: Asked<'_>,
-    calls: usize,
-    line: &[u8],
-) -> Result<(), Fail> {
-    let wanted = Wanted {
-        status: 3,
-        out: b"",
-        err: line,
-    };
-    for call in 1..=calls as u64 {
-        let edges = Edges {
-            store: &[call],
-            ..asked.edges
-        };
-        expect(rt, &NoGate, alloc, Asked { edges, ..asked }, wanted)?;
-    }
-    Ok(())
-}
+type ReadRow = (Words, Given, usize, usize, usize, &'static [u8]);
 
 /// Words, how many bytes a call moves, how often the file is read, and how many calls of the store another file takes. A file takes the opening, a
 /// call for each piece, and the one that finds the end. Last stands the line on standard error.
-const READS: [(Words, Given, usize, usize, usize, &[u8]); 9] = [
+const READS: [ReadRow; 9] = [
     (DUMP, Given::Units(&[], PUSH_RBP), 7, 1, 0, UNREAD),
     (FULL, Given::Units(&[], PUSH_RBP), 50, 1, 0, UNREAD_NAME),
     (WITH_ITSELF, Given::Code(b"\x90"), 1, 2, 0, UNREAD),
@@ -314,20 +293,55 @@ const READS: [(Words, Given, usize, usize, usize, &[u8]); 9] = [
     (STACKS, IN_F, 16, 1, 0, UNREAD),
 ];
 
-#[test]
-fn each_call_that_fails_has_its_status(rt: HostRuntime) -> Result<(), Fail> {
-    for (words, given, step, times, more, line) in READS {
-        let file = file_by(rt.alloc(), given)?;
-        let pieces = file.len().div_ceil(step.max(1));
-        let calls = pieces.saturating_add(2).saturating_mul(times);
-        let calls = calls.saturating_add(more);
-        let asked = Asked {
-            edges: Edges { step, ..SMOOTH },
-            ..smooth("store", words, &file)
+/// Each call of the store that fails in turn: the status is 3, with the row's line.
+fn expect_unread<R: Abort + Threads + Sync>(
+    rt: &R,
+    alloc: Global,
+    row: ReadRow,
+) -> Result<(), Fail> {
+    let (words, given, step, times, more, line) = row;
+    let file = file_by(alloc, given)?;
+    let pieces = file.len().div_ceil(step.max(1));
+    let calls = pieces.saturating_add(2).saturating_mul(times);
+    let calls = calls.saturating_add(more);
+    let asked = smooth("store", words, &file);
+    let wanted = Wanted {
+        status: 3,
+        out: b"",
+        err: line,
+    };
+    for call in 1..=calls as u64 {
+        let edges = Edges {
+            step,
+            store: &[call],
+            ..SMOOTH
         };
-        expect_unread(&rt, rt.alloc(), asked, calls, line)?;
+        expect(rt, &NoGate, alloc, Asked { edges, ..asked }, wanted)?;
     }
     Ok(())
+}
+
+#[test]
+fn each_call_that_fails_has_its_status(rt: HostRuntime) -> Result<(), Fail> {
+    for row in READS {
+        expect_unread(&rt, rt.alloc(), row)?;
+    }
+    Ok(())
+}
+
+/// Words give this status and these texts where a call of the store fails.
+fn expect_without<R: Abort + Threads + Sync>(
+    rt: &R,
+    alloc: Global,
+    asked: Asked<'_>,
+    call: u64,
+    wanted: Wanted<'_>,
+) -> Result<(), Fail> {
+    let edges = Edges {
+        store: &[call],
+        ..asked.edges
+    };
+    expect(rt, &NoGate, alloc, Asked { edges, ..asked }, wanted)
 }
 
 /// A symbol file that cannot be opened or read is missing, and the run goes on.
@@ -345,16 +359,12 @@ fn a_symbol_file_that_fails_is_missing(rt: HostRuntime) -> Result<(), Fail> {
         } else {
             (&with, b"".as_slice())
         };
-        let edges = Edges {
-            store: &[call],
-            ..SMOOTH
-        };
         let wanted = Wanted {
             status: 0,
             out,
             err,
         };
-        expect(&rt, &NoGate, alloc, Asked { edges, ..asked }, wanted)?;
+        expect_without(&rt, alloc, asked, call, wanted)?;
     }
     Ok(())
 }
@@ -381,12 +391,17 @@ fn a_sink_without_room_has_its_status(rt: HostRuntime) -> Result<(), Fail> {
 }
 
 #[test]
-fn large_files_are_answered(rt: HostRuntime) -> Result<(), Fail> {
+fn large_frames_are_answered(rt: HostRuntime) -> Result<(), Fail> {
     let alloc = rt.alloc();
     let (file, records) = framed(alloc)?;
     let text = joined(alloc, &[FRONT, &records])?;
     let asked = smooth("frames of more than 65,535 bytes", DUMP, &file);
-    expect(&rt, &NoGate, alloc, asked, good(&text))?;
+    expect(&rt, &NoGate, alloc, asked, good(&text))
+}
+
+#[test]
+fn large_files_are_answered(rt: HostRuntime) -> Result<(), Fail> {
+    let alloc = rt.alloc();
     let file = functions(alloc)?;
     let asked = smooth("more than 65,535 records", WALK, &file);
     expect(&rt, &NoGate, alloc, asked, good(STEPS))
