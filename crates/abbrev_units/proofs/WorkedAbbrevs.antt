@@ -1,5 +1,5 @@
 -- Worked rows: the abbreviations of a unit (DWARF 5, 7.5.3).
-use Rattle.std.proofs.Common.{◌≡◌, ℕ, Bool, true, false, pos, negsuc, List, [], ◌∷◌, Some, None, Result, Ok, Err, refl}
+use Rattle.std.proofs.Common.{◌≡◌, ℕ, Bool, true, false, pos, negsuc, List, [], ◌∷◌, Some, None, Result, Ok, Err, rules}
 use Prim.Native.String.{String}
 use Rattle.sym_edges.proofs.Hex.{hex}
 use Rattle.sym_edges.specs.declared.part.Sect.TheVariants as section
@@ -24,108 +24,54 @@ abbrevs_in text place wide =
 abbrev sample : ℕ → ℕ → Abbrev
 sample code tag = record { code = code; tag = tag; children = false; specs = [] }
 
--- one abbreviation: a subprogram without children, with one attribute of four bytes
-a_table : abbrevs_in "01 2e 00 3b 06 00 00 00" 0 false ≡ Ok (record { code = 1; tag = 46; children = false; specs = record { attribute = 59; form = 6; implicit = pos 0; wide = false } ∷ [] } ∷ [])
-unfolding abbrev_units_computes abbrevs_in unit_at
-a_table = refl
+record Tables : Type 0 where
+  -- one abbreviation: a subprogram without children, with one attribute of four bytes
+  a_table : abbrevs_in "01 2e 00 3b 06 00 00 00" 0 false ≡ Ok (record { code = 1; tag = 46; children = false; specs = record { attribute = 59; form = 6; implicit = pos 0; wide = false } ∷ [] } ∷ [])
+  a_table_in_the_64_bit_format : abbrevs_in "01 2e 00 3b 06 00 00 00" 0 true ≡ Ok (record { code = 1; tag = 46; children = false; specs = record { attribute = 59; form = 6; implicit = pos 0; wide = true } ∷ [] } ∷ [])
+  -- code 0 first
+  an_empty_table : abbrevs_in "00" 0 false ≡ Ok []
+  the_last_byte : abbrevs_in "01 2e 00 3b 06 00 00 00" 7 false ≡ Ok []
+  -- a byte of children that is not 0 means yes
+  children_by_any_byte : abbrevs_in "05 11 80 00 00 00" 0 false ≡ Ok (record { code = 5; tag = 17; children = true; specs = [] } ∷ [])
+  -- a code that stands twice
+  a_code_twice : abbrevs_in "01 11 01 00 00 01 2e 00 00 00 00" 0 false ≡ Ok (record { code = 1; tag = 17; children = true; specs = [] } ∷ record { code = 1; tag = 46; children = false; specs = [] } ∷ [])
+  -- DW_FORM_implicit_const has its constant here
+  an_implicit_constant : abbrevs_in "01 34 00 3b 21 7e 03 08 00 00 00" 0 false ≡ Ok (record { code = 1; tag = 52; children = false; specs = record { attribute = 59; form = 33; implicit = negsuc 1; wide = false } ∷ record { attribute = 3; form = 8; implicit = pos 0; wide = false } ∷ [] } ∷ [])
+  -- only 0 and 0 end the attributes
+  attribute_0_with_a_form : abbrevs_in "01 34 00 00 06 03 00 00 00 00" 0 false ≡ Ok (record { code = 1; tag = 52; children = false; specs = record { attribute = 0; form = 6; implicit = pos 0; wide = false } ∷ record { attribute = 3; form = 0; implicit = pos 0; wide = false } ∷ [] } ∷ [])
+  -- an unknown form is no fault here
+  an_unknown_form : abbrevs_in "01 34 00 03 02 00 00 00" 0 false ≡ Ok (record { code = 1; tag = 52; children = false; specs = record { attribute = 3; form = 2; implicit = pos 0; wide = false } ∷ [] } ∷ [])
 
-a_table_in_the_64_bit_format : abbrevs_in "01 2e 00 3b 06 00 00 00" 0 true ≡ Ok (record { code = 1; tag = 46; children = false; specs = record { attribute = 59; form = 6; implicit = pos 0; wide = true } ∷ [] } ∷ [])
+tables : Tables
 unfolding abbrev_units_computes abbrevs_in unit_at
-a_table_in_the_64_bit_format = refl
+tables = search rules
 
--- code 0 first
-an_empty_table : abbrevs_in "00" 0 false ≡ Ok []
+record Faults : Type 0 where
+  -- the table cut at each byte
+  cut_at_0 : abbrevs_in "" 0 false ≡ Err (record { kind = is.Ends; section = section.Abbrev; at = 0 })
+  cut_at_1 : abbrevs_in "01" 0 false ≡ Err (record { kind = is.Ends; section = section.Abbrev; at = 1 })
+  cut_at_2 : abbrevs_in "012e" 0 false ≡ Err (record { kind = is.Ends; section = section.Abbrev; at = 2 })
+  cut_at_3 : abbrevs_in "012e00" 0 false ≡ Err (record { kind = is.Ends; section = section.Abbrev; at = 3 })
+  cut_at_4 : abbrevs_in "012e003b" 0 false ≡ Err (record { kind = is.Ends; section = section.Abbrev; at = 4 })
+  cut_at_5 : abbrevs_in "012e003b06" 0 false ≡ Err (record { kind = is.Ends; section = section.Abbrev; at = 5 })
+  cut_at_6 : abbrevs_in "012e003b0600" 0 false ≡ Err (record { kind = is.Ends; section = section.Abbrev; at = 6 })
+  cut_at_7 : abbrevs_in "012e003b060000" 0 false ≡ Err (record { kind = is.Ends; section = section.Abbrev; at = 7 })
+  a_cut_constant : abbrevs_in "01 34 00 3b 21" 0 false ≡ Err (record { kind = is.Ends; section = section.Abbrev; at = 5 })
+  a_long_code : abbrevs_in "80808080 80808080 8080 00" 0 false ≡ Err (record { kind = is.LebLong; section = section.Abbrev; at = 0 })
+  -- a place after the end is a fault of the unit; the end itself is inside
+  behind_the_end : abbrevs_in "01 2e 00 3b 06 00 00 00" 9 false ≡ Err (record { kind = is.OffsetOutside; section = section.Info; at = 32 })
+  at_the_end : abbrevs_in "01 2e 00 3b 06 00 00 00" 8 false ≡ Err (record { kind = is.Ends; section = section.Abbrev; at = 8 })
+  a_missing_section : abbrevs_in "" 0 false ≡ Err (record { kind = is.Ends; section = section.Abbrev; at = 0 })
+
+faults : Faults
 unfolding abbrev_units_computes abbrevs_in unit_at
-an_empty_table = refl
+faults = search rules
 
-the_last_byte : abbrevs_in "01 2e 00 3b 06 00 00 00" 7 false ≡ Ok []
-unfolding abbrev_units_computes abbrevs_in unit_at
-the_last_byte = refl
+record Codes : Type 0 where
+  -- the first abbreviation of a code
+  the_first_of_a_code : abbrev_of 1 (sample 1 0x11 ∷ sample 2 0x12 ∷ sample 1 0x13 ∷ []) ≡ Some (sample 1 0x11)
+  no_such_code : abbrev_of 3 (sample 1 0x11 ∷ sample 2 0x12 ∷ []) ≡ None
 
--- a byte of children that is not 0 means yes
-children_by_any_byte : abbrevs_in "05 11 80 00 00 00" 0 false ≡ Ok (record { code = 5; tag = 17; children = true; specs = [] } ∷ [])
-unfolding abbrev_units_computes abbrevs_in unit_at
-children_by_any_byte = refl
-
--- a code that stands twice
-a_code_twice : abbrevs_in "01 11 01 00 00 01 2e 00 00 00 00" 0 false ≡ Ok (record { code = 1; tag = 17; children = true; specs = [] } ∷ record { code = 1; tag = 46; children = false; specs = [] } ∷ [])
-unfolding abbrev_units_computes abbrevs_in unit_at
-a_code_twice = refl
-
--- DW_FORM_implicit_const has its constant here
-an_implicit_constant : abbrevs_in "01 34 00 3b 21 7e 03 08 00 00 00" 0 false ≡ Ok (record { code = 1; tag = 52; children = false; specs = record { attribute = 59; form = 33; implicit = negsuc 1; wide = false } ∷ record { attribute = 3; form = 8; implicit = pos 0; wide = false } ∷ [] } ∷ [])
-unfolding abbrev_units_computes abbrevs_in unit_at
-an_implicit_constant = refl
-
--- only 0 and 0 end the attributes
-attribute_0_with_a_form : abbrevs_in "01 34 00 00 06 03 00 00 00 00" 0 false ≡ Ok (record { code = 1; tag = 52; children = false; specs = record { attribute = 0; form = 6; implicit = pos 0; wide = false } ∷ record { attribute = 3; form = 0; implicit = pos 0; wide = false } ∷ [] } ∷ [])
-unfolding abbrev_units_computes abbrevs_in unit_at
-attribute_0_with_a_form = refl
-
--- an unknown form is no fault here
-an_unknown_form : abbrevs_in "01 34 00 03 02 00 00 00" 0 false ≡ Ok (record { code = 1; tag = 52; children = false; specs = record { attribute = 3; form = 2; implicit = pos 0; wide = false } ∷ [] } ∷ [])
-unfolding abbrev_units_computes abbrevs_in unit_at
-an_unknown_form = refl
-
--- the table cut at each byte
-cut_at_0 : abbrevs_in "" 0 false ≡ Err (record { kind = is.Ends; section = section.Abbrev; at = 0 })
-unfolding abbrev_units_computes abbrevs_in unit_at
-cut_at_0 = refl
-
-cut_at_1 : abbrevs_in "01" 0 false ≡ Err (record { kind = is.Ends; section = section.Abbrev; at = 1 })
-unfolding abbrev_units_computes abbrevs_in unit_at
-cut_at_1 = refl
-
-cut_at_2 : abbrevs_in "012e" 0 false ≡ Err (record { kind = is.Ends; section = section.Abbrev; at = 2 })
-unfolding abbrev_units_computes abbrevs_in unit_at
-cut_at_2 = refl
-
-cut_at_3 : abbrevs_in "012e00" 0 false ≡ Err (record { kind = is.Ends; section = section.Abbrev; at = 3 })
-unfolding abbrev_units_computes abbrevs_in unit_at
-cut_at_3 = refl
-
-cut_at_4 : abbrevs_in "012e003b" 0 false ≡ Err (record { kind = is.Ends; section = section.Abbrev; at = 4 })
-unfolding abbrev_units_computes abbrevs_in unit_at
-cut_at_4 = refl
-
-cut_at_5 : abbrevs_in "012e003b06" 0 false ≡ Err (record { kind = is.Ends; section = section.Abbrev; at = 5 })
-unfolding abbrev_units_computes abbrevs_in unit_at
-cut_at_5 = refl
-
-cut_at_6 : abbrevs_in "012e003b0600" 0 false ≡ Err (record { kind = is.Ends; section = section.Abbrev; at = 6 })
-unfolding abbrev_units_computes abbrevs_in unit_at
-cut_at_6 = refl
-
-cut_at_7 : abbrevs_in "012e003b060000" 0 false ≡ Err (record { kind = is.Ends; section = section.Abbrev; at = 7 })
-unfolding abbrev_units_computes abbrevs_in unit_at
-cut_at_7 = refl
-
-a_cut_constant : abbrevs_in "01 34 00 3b 21" 0 false ≡ Err (record { kind = is.Ends; section = section.Abbrev; at = 5 })
-unfolding abbrev_units_computes abbrevs_in unit_at
-a_cut_constant = refl
-
-a_long_code : abbrevs_in "80808080 80808080 8080 00" 0 false ≡ Err (record { kind = is.LebLong; section = section.Abbrev; at = 0 })
-unfolding abbrev_units_computes abbrevs_in unit_at
-a_long_code = refl
-
--- a place after the end is a fault of the unit; the end itself is inside
-behind_the_end : abbrevs_in "01 2e 00 3b 06 00 00 00" 9 false ≡ Err (record { kind = is.OffsetOutside; section = section.Info; at = 32 })
-unfolding abbrev_units_computes abbrevs_in unit_at
-behind_the_end = refl
-
-at_the_end : abbrevs_in "01 2e 00 3b 06 00 00 00" 8 false ≡ Err (record { kind = is.Ends; section = section.Abbrev; at = 8 })
-unfolding abbrev_units_computes abbrevs_in unit_at
-at_the_end = refl
-
-a_missing_section : abbrevs_in "" 0 false ≡ Err (record { kind = is.Ends; section = section.Abbrev; at = 0 })
-unfolding abbrev_units_computes abbrevs_in unit_at
-a_missing_section = refl
-
--- the first abbreviation of a code
-the_first_of_a_code : abbrev_of 1 (sample 1 0x11 ∷ sample 2 0x12 ∷ sample 1 0x13 ∷ []) ≡ Some (sample 1 0x11)
+codes : Codes
 unfolding abbrev_units_computes
-the_first_of_a_code = refl
-
-no_such_code : abbrev_of 3 (sample 1 0x11 ∷ sample 2 0x12 ∷ []) ≡ None
-unfolding abbrev_units_computes
-no_such_code = refl
+codes = search rules

@@ -67,17 +67,11 @@ fn read_behind(
     ensures read { ReadsAt result lists.new cursor.new (used_abbrev_by forms.now code cursor.old) }
     ensures grown { OnOk result (Grown lists.old lists.new) }
 {
-    let tag = match cursor.uleb() {
-        Ok(tag) => tag,
-        Err(fault) => return Err(Stop::Fault(fault)),
-    };
-    let children = match cursor.u8() {
-        Ok(children) => children != 0,
-        Err(fault) => return Err(Stop::Fault(fault)),
-    };
+    let tag = cursor.uleb().map_err(Stop::Fault)?;
+    let children = cursor.u8().map_err(Stop::Fault)?;
     let from = lists.specs.len();
     read_specs(&mut lists.specs, cursor, forms)?;
-    let head = lists.add(from, code, tag, children)?;
+    let head = lists.add(from, code, tag, children != 0)?;
     Ok(Some(head))
 }
 
@@ -91,10 +85,7 @@ pub fn read_abbrev(
     ensures read { ReadsAt result lists.new cursor.new (used_abbrev_at forms.now cursor.old) }
     ensures grown { OnOk result (Grown lists.old lists.new) }
 {
-    let code = match cursor.uleb() {
-        Ok(code) => code,
-        Err(fault) => return Err(Stop::Fault(fault)),
-    };
+    let code = cursor.uleb().map_err(Stop::Fault)?;
     if code == 0 {
         return Ok(None);
     }

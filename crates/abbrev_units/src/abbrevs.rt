@@ -121,17 +121,14 @@ impl AbbrevList {
         ensures read { LeavesAt result self.new cursor.new (used_at forms.now cursor.old) }
         ensures none { OnErr result (self.new ≡ []) }
     {
-        self.heads.clear();
-        self.lists.clear();
+        self.clear();
         self.heads.reserve(USUAL)?;
         self.lists.reserve()?;
-        match read_list(&mut self.heads, &mut self.lists, cursor, forms) {
-            Ok(()) => Ok(()),
-            Err(stop) => {
-                self.heads.clear();
-                Err(stop)
-            }
+        let read = read_list(&mut self.heads, &mut self.lists, cursor, forms);
+        if read.is_err() {
+            self.heads.clear();
         }
+        read
     }
 }
 
@@ -209,10 +206,7 @@ fn is_front(dense: usize, code: u64) -> bool
 fn place_of(places: &BTreeMap<u64, usize>, code: u64) -> Option<usize>
     ensures { result ≡ get nat_cmp places.now code }
 {
-    match places.get(&code) {
-        Some(place) => Some(*place),
-        None => None,
-    }
+    places.get(&code).copied()
 }
 
 impl Abbrevs {
@@ -226,13 +220,6 @@ impl Abbrevs {
         }
     }
 
-    /// Gives back the room that nothing took.
-    fn shrink(&mut self)
-        ensures { self.new ≡ self.old }
-    {
-        self.list.shrink();
-    }
-
     /// Reads abbreviations in place of those before. A refused call leaves none.
     fn read(
         &mut self,
@@ -243,10 +230,7 @@ impl Abbrevs {
         ensures { LeavesAt result self.new cursor.new (used_at forms.now cursor.old) }
     {
         self.dense = 0;
-        match self.list.read(cursor, forms) {
-            Ok(()) => {}
-            Err(stop) => return Err(stop),
-        }
+        self.list.read(cursor, forms)?;
         let dense = count_dense(&self.list);
         match places_of(alloc, &self.list, dense) {
             Ok(places) => {
@@ -362,15 +346,6 @@ impl AbbrevScratch {
     {
         &self.abbrevs
     }
-
-    /// The abbreviations that were read last, without room for more.
-    fn into_abbrevs(self) -> Abbrevs
-        ensures { result ≡ self }
-    {
-        let mut abbrevs = self.abbrevs;
-        abbrevs.shrink();
-        abbrevs
-    }
 }
 
 /// The abbreviations of a unit (DWARF 5, 7.5.3), or the first fault, as [`AbbrevScratch::read`] has it.
@@ -382,8 +357,8 @@ pub fn read_abbrevs(
     ensures { Gives result (abbrevs_of sections.now unit.now) }
 {
     let mut scratch = AbbrevScratch::new(alloc);
-    match scratch.read(alloc, sections, unit) {
-        Ok(()) => Ok(scratch.into_abbrevs()),
-        Err(stop) => Err(stop),
-    }
+    scratch.read(alloc, sections, unit)?;
+    let mut abbrevs = scratch.abbrevs;
+    abbrevs.list.shrink();
+    Ok(abbrevs)
 }

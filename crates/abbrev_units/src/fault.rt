@@ -120,23 +120,12 @@ impl From<CursorFault> for HeaderFault {
 pub fn in_section(section: Sect, fault: CursorFault) -> DwarfFault
     ensures { result ≡ in_section section fault }
 {
-    match fault {
-        CursorFault::Ends { at } => Located {
-            kind: DwarfKind::Ends,
-            section,
-            at,
-        },
-        CursorFault::LebLong { at } => Located {
-            kind: DwarfKind::LebLong,
-            section,
-            at,
-        },
-        CursorFault::NoZero { at } => Located {
-            kind: DwarfKind::NoZero,
-            section,
-            at,
-        },
-    }
+    let (kind, at) = match fault {
+        CursorFault::Ends { at } => (DwarfKind::Ends, at),
+        CursorFault::LebLong { at } => (DwarfKind::LebLong, at),
+        CursorFault::NoZero { at } => (DwarfKind::NoZero, at),
+    };
+    Located { kind, section, at }
 }
 
 /// The fault of a header that starts at `start`.

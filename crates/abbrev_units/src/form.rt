@@ -2,7 +2,7 @@
 ghost use Rattle.std.specs.Prelude.{◌≡◌, OnErr, pos};
 ghost use Rattle.leb_cursor.specs.Ahead.{gave};
 ghost use Rattle.code_table.specs.Forms.{forms, form_row};
-ghost use Rattle.abbrev_units.specs.FormValue.{value_by, direct_at, indirect_at, form_at};
+ghost use Rattle.abbrev_units.specs.FormValue.{value_by, indirect_at, form_at};
 
 use crate::fault::FormFault;
 use crate::value::{Value, value_of};
@@ -28,23 +28,8 @@ pub fn read_known(
     }
 }
 
-/// Reads a value whose form is not indirect.
-#[inline]
-#[tactic(auto, unfolding(crate::specs::FormValue::direct_at))]
-fn read_direct(
-    cursor: &mut Cursor<'_>,
-    form: u64,
-    implicit: i64,
-    wide: bool,
-) -> Result<Value, FormFault>
-    ensures read { gave result cursor.new ≡ direct_at form implicit wide cursor.old }
-    ensures kept { OnErr result (cursor.new ≡ cursor.old) }
-{
-    read_known(cursor, find_form(form, wide), implicit)
-}
-
 /// Reads a form and the value after it. A refused call leaves the cursor where it was.
-#[tactic(auto, unfolding(crate::specs::FormValue::indirect_at))]
+#[tactic(auto, unfolding(crate::specs::FormValue::indirect_at, crate::specs::FormValue::direct_at))]
 pub fn read_indirect(cursor: &mut Cursor<'_>, wide: bool) -> Result<Value, FormFault>
     ensures read { gave result cursor.new ≡ indirect_at wide cursor.old }
     ensures kept { OnErr result (cursor.new ≡ cursor.old) }
@@ -54,7 +39,7 @@ pub fn read_indirect(cursor: &mut Cursor<'_>, wide: bool) -> Result<Value, FormF
     if form == DW_FORM_indirect || form == DW_FORM_implicit_const {
         return Err(FormFault::Unknown { at: probe.at() });
     }
-    let value = read_direct(&mut probe, form, 0, wide)?;
+    let value = read_known(&mut probe, find_form(form, wide), 0)?;
     *cursor = probe;
     Ok(value)
 }
@@ -62,7 +47,7 @@ pub fn read_indirect(cursor: &mut Cursor<'_>, wide: bool) -> Result<Value, FormF
 /// Reads the value of a form (DWARF 5, 7.5.5 and 7.5.6), in a unit of the 64-bit format where `wide`.
 /// `implicit` is the constant that stands in the abbreviation. Takes no memory.
 #[inline]
-#[tactic(auto, unfolding(crate::specs::FormValue::form_at))]
+#[tactic(auto, unfolding(crate::specs::FormValue::form_at, crate::specs::FormValue::direct_at))]
 pub fn read_form(
     cursor: &mut Cursor<'_>,
     form: u64,
@@ -75,5 +60,5 @@ pub fn read_form(
     if form == DW_FORM_indirect {
         return read_indirect(cursor, wide);
     }
-    read_direct(cursor, form, implicit, wide)
+    read_known(cursor, find_form(form, wide), implicit)
 }

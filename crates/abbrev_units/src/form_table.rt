@@ -36,10 +36,7 @@ impl Model for FormTable {
 fn row_at(rows: &[Option<Known>], form: u64) -> Option<Option<Known>>
     ensures { result ≡ slice_get rows.now form }
 {
-    match rows.get(form as usize) {
-        Some(row) => Some(*row),
-        None => None,
-    }
+    rows.get(form as usize).copied()
 }
 
 /// The rows of the forms whose codes are low.

@@ -147,7 +147,7 @@ pub fn keep(slot: Slot, value: Value) -> Pick
     let plain = plain(value);
     Pick {
         class: kept_class(slot, plain.class),
-        number: plain.number,
+        ..plain
     }
 }
 

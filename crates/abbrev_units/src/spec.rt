@@ -50,13 +50,11 @@ impl Model for Spec {
 pub fn find_known(form: u64, wide: bool) -> Option<Known>
     ensures { row_said form result ≡ form_row form (forms wide) }
 {
-    match find_form(form, wide) {
-        Some(row) => Some(Known {
-            layout: row.layout,
-            class: row.class,
-        }),
-        None => None,
-    }
+    let row = find_form(form, wide)?;
+    Some(Known {
+        layout: row.layout,
+        class: row.class,
+    })
 }
 
 impl Spec {
@@ -94,14 +92,12 @@ impl Spec {
     fn form_row(&self) -> Option<FormRow>
         ensures { result ≡ form_row self.now.form (forms self.now.wide) }
     {
-        match self.known {
-            Some(known) => Some(FormRow {
-                code: self.form,
-                layout: known.layout,
-                class: known.class,
-            }),
-            None => None,
-        }
+        let known = self.known?;
+        Some(FormRow {
+            code: self.form,
+            layout: known.layout,
+            class: known.class,
+        })
     }
 
     /// Reads a value of the attribute. A refused call leaves the cursor where it was.
@@ -125,9 +121,6 @@ impl Spec {
         if self.form == DW_FORM_indirect {
             return None;
         }
-        match self.form_row() {
-            Some(row) => Some(row),
-            None => None,
-        }
+        self.form_row()
     }
 }

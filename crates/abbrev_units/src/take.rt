@@ -124,10 +124,7 @@ fn joined(bytes: u32, slot: Slot, layout: Kind) -> Option<u32>
     let Slot::Passed = slot else {
         return None;
     };
-    match size_of(layout) {
-        Some(size) => bytes.checked_add(u32::from(size)),
-        None => None,
-    }
+    bytes.checked_add(u32::from(size_of(layout)?))
 }
 
 /// Puts the takes of attributes to the end of a list, and gives the bytes after the last; none where the form of one is not known. The first

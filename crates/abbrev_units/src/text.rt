@@ -29,10 +29,7 @@ pub fn text_in(bytes: &[u8], place: u64) -> Option<&[u8]>
         return None;
     }
     let mut cursor = cursor_from(bytes, place as usize);
-    match cursor.text() {
-        Ok(text) => Some(text),
-        Err(_) => None,
-    }
+    cursor.text().ok()
 }
 
 /// Reads an offset in a section: of four bytes, or of eight in the 64-bit format (DWARF 5, 7.4). A refused
@@ -58,10 +55,7 @@ pub fn place_in(bytes: &[u8], place: u64, wide: bool) -> Option<u64>
         return None;
     }
     let mut cursor = cursor_from(bytes, place as usize);
-    match read_place(&mut cursor, wide) {
-        Ok(number) => Some(number),
-        Err(_) => None,
-    }
+    read_place(&mut cursor, wide).ok()
 }
 
 /// So many places of a width after a base, where that is below 2^64.
@@ -69,10 +63,7 @@ pub fn place_in(bytes: &[u8], place: u64, wide: bool) -> Option<u64>
 fn indexed(base: u64, width: u64, index: u64) -> Option<u64>
     ensures { MatchOption result (2 ^ 64 ≤ base + width * index) (λ place. place ≡ base + width * index) }
 {
-    match index.checked_mul(width) {
-        Some(offset) => base.checked_add(offset),
-        None => None,
-    }
+    base.checked_add(index.checked_mul(width)?)
 }
 
 /// The place that stands as number `index` from a base on.
@@ -82,10 +73,7 @@ fn place_by_index(bytes: &[u8], wide: bool, base: u64, index: u64) -> Option<u64
     ensures { result ≡ number_in (place_width wide) bytes.now (base + place_width wide * index) }
 {
     let width = if wide { 8 } else { 4 };
-    match indexed(base, width, index) {
-        Some(place) => place_in(bytes, place, wide),
-        None => None,
-    }
+    place_in(bytes, indexed(base, width, index)?, wide)
 }
 
 /// The place of a text by its number, from the unit's base in `.debug_str_offsets` on (DWARF 5, 7.26); none without a base.
@@ -93,26 +81,7 @@ fn place_by_index(bytes: &[u8], wide: bool, base: u64, index: u64) -> Option<u64
 pub fn text_place(offsets: &[u8], wide: bool, base: Option<u64>, index: u64) -> Option<u64>
     ensures { result ≡ text_place offsets.now wide base index }
 {
-    match base {
-        Some(base) => place_by_index(offsets, wide, base, index),
-        None => None,
-    }
-}
-
-/// The text that a number of `.debug_str_offsets` leads to.
-#[inline]
-fn indexed_text<'a>(
-    sections: &Sections<'a>,
-    wide: bool,
-    base: Option<u64>,
-    index: u64,
-) -> Option<&'a [u8]>
-    ensures { option_copied result ≡ option_and_then (text_in sections.now.strs) (text_place sections.now.str_offsets wide base index) }
-{
-    match text_place(sections.str_offsets, wide, base, index) {
-        Some(place) => text_in(sections.strs, place),
-        None => None,
-    }
+    place_by_index(offsets, wide, base?, index)
 }
 
 /// The text of a value of class string: `home` is the section in which the value stands, `wide` says
@@ -133,7 +102,10 @@ pub fn read_text<'a>(
         Value::InlineText(place) => text_in(home, place as u64),
         Value::StrAt(place) => text_in(sections.strs, place),
         Value::LineStrAt(place) => text_in(sections.line_str, place),
-        Value::StrIndex(index) => indexed_text(sections, wide, base, index),
+        Value::StrIndex(index) => text_in(
+            sections.strs,
+            text_place(sections.str_offsets, wide, base, index)?,
+        ),
         _ => None,
     }
 }

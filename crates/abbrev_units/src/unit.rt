@@ -69,13 +69,9 @@ fn read_unit(frame: Frame, abbrev_at: u64, body: usize) -> Unit
     ensures { result ≡ read_unit frame abbrev_at body }
 {
     Unit {
-        start: frame.start,
         body: body as u64,
-        end: frame.end,
-        version: frame.version,
         abbrev_at,
-        part: UnitPart::Read,
-        wide: frame.wide,
+        ..other_unit(UnitPart::Read, frame)
     }
 }
 

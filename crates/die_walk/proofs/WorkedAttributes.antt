@@ -1,5 +1,5 @@
 -- Worked rows: the attributes of entries by their classes (DWARF 5, 7.5.4 and table 7.5).
-use Rattle.std.proofs.Common.{◌≡◌, ℕ, true, false, pos, negsuc, List, [], ◌∷◌, Some, None, codes, refl}
+use Rattle.std.proofs.Common.{◌≡◌, ℕ, true, false, pos, negsuc, List, [], ◌∷◌, Some, None, codes, rules}
 use Rattle.sym_edges.proofs.Hex.{hex}
 use Rattle.abbrev_units.specs.declared.unit.Unit.{Unit}
 use Rattle.abbrev_units.specs.declared.unit.UnitPart.TheVariants as part
@@ -51,297 +51,99 @@ unfoldable die_in_sup : List Given → DieFields
 die_in_sup values = die_of (record sections { is_sup = true }) unit (Some 4) (record { item = record { at = 0x2b; depth = 0; tag = 0x2e; values = values }; parent = None })
 
 -- each attribute in each of its classes, in another, and twice: the first counts
-low : (die (given 0x11 (value.Addr 0x1000) ∷ [])).low ≡ Some (value.Addr 0x1000)
-unfolding die_walk_computes die unit sections
-low = refl
+record Attributes : Type 0 where
+  low : (die (given 0x11 (value.Addr 0x1000) ∷ [])).low ≡ Some (value.Addr 0x1000)
+  low_by_number : (die (given 0x11 (value.AddrIndex 3) ∷ [])).low ≡ Some (value.AddrIndex 3)
+  low_of_another_class : (die (given 0x11 (value.Num 3) ∷ [])).low ≡ None
+  low_twice : (die (given 0x11 (value.Num 3) ∷ given 0x11 (value.Addr 4) ∷ [])).low ≡ None
+  no_low : (die (given 0x12 (value.Addr 4) ∷ [])).low ≡ None
+  high_addr : (die (given 0x12 (value.Addr 0x1000) ∷ [])).high ≡ Some (value.Addr 0x1000)
+  high_addrindex : (die (given 0x12 (value.AddrIndex 3) ∷ [])).high ≡ Some (value.AddrIndex 3)
+  high_num : (die (given 0x12 (value.Num 16) ∷ [])).high ≡ Some (value.Num 16)
+  high_signed : (die (given 0x12 (value.Signed (negsuc 3)) ∷ [])).high ≡ Some (value.Signed (negsuc 3))
+  high_of_another_class : (die (given 0x12 (value.SecOffset 3) ∷ [])).high ≡ None
+  ranges_secoffset : (die (given 0x55 (value.SecOffset 3) ∷ [])).ranges ≡ Some (value.SecOffset 3)
+  ranges_num : (die (given 0x55 (value.Num 3) ∷ [])).ranges ≡ Some (value.Num 3)
+  ranges_listindex : (die (given 0x55 (value.ListIndex 3) ∷ [])).ranges ≡ Some (value.ListIndex 3)
+  ranges_of_another_class : (die (given 0x55 (value.Signed (pos 3)) ∷ [])).ranges ≡ None
+  -- references count from the start of the unit, which is 20, or from that of the section
+  origin : (die (given 0x31 (value.UnitRef 0xb) ∷ [])).origin ≡ Some 0x2b
+  origin_in_the_section : (die (given 0x31 (value.InfoRef 0xb) ∷ [])).origin ≡ Some 0xb
+  origin_beyond_u64 : (die (given 0x31 (value.UnitRef 0xffffffffffffffe0) ∷ [])).origin ≡ None
+  -- a file has 2^29 bytes at most: what leads past them leads to no entry
+  past_the_file : (die (given 0x31 (value.UnitRef 0xffffffffffffffdf) ∷ [])).origin ≡ Some 0x80000000
+  the_last_place : (die (given 0x31 (value.InfoRef 0x1fffffff) ∷ [])).origin ≡ Some 0x1fffffff
+  behind_the_last_place : (die (given 0x31 (value.InfoRef 0x20000000) ∷ [])).origin ≡ Some 0x80000000
+  behind_the_last_place_by_the_unit : (die (given 0x31 (value.UnitRef 0x1fffffe0) ∷ [])).origin ≡ Some 0x80000000
+  origin_of_another_class : (die (given 0x31 (value.Num 3) ∷ given 0x31 (value.UnitRef 3) ∷ [])).origin ≡ None
+  specification : (die (given 0x47 (value.UnitRef 1) ∷ given 0x31 (value.UnitRef 2) ∷ [])).spec ≡ Some 0x21
+  specification_of_another_class : (die (given 0x47 (value.SecOffset 1) ∷ [])).spec ≡ None
+  declared : (die (given 0x3c (value.Flag true) ∷ [])).declaration ≡ true
+  declared_not : (die (given 0x3c (value.Flag false) ∷ [])).declaration ≡ false
+  declared_by_no_flag : (die (given 0x3c (value.Num 1) ∷ [])).declaration ≡ false
+  declared_nowhere : (die ([])).declaration ≡ false
+  name : (die (given 0x03 (value.StrAt 0) ∷ [])).name ≡ Some (codes "ab")
+  name_in_place : (die (given 0x03 (value.InlineText 2) ∷ [])).name ≡ Some (codes "fgh")
+  name_of_another_class : (die (given 0x03 (value.Num 0) ∷ given 0x03 (value.StrAt 0) ∷ [])).name ≡ None
+  name_by_number : (die (given 0x03 (value.StrIndex 1) ∷ [])).name ≡ Some (codes "cd")
+  name_elsewhere : (die (given 0x03 (value.SupStrAt 0) ∷ [])).name_elsewhere ≡ true
+  no_text_elsewhere : (die (given 0x03 (value.SupStrAt 0) ∷ [])).name ≡ None
+  name_here : (die (given 0x03 (value.StrAt 0) ∷ given 0x03 (value.SupStrAt 0) ∷ [])).name_elsewhere ≡ false
+  no_name_at_all : (die (given 0x6e (value.SupStrAt 0) ∷ [])).name_elsewhere ≡ false
+  -- a linkage name, or else the older one
+  linkage : (die (given 0x6e (value.StrAt 0) ∷ [])).linkage ≡ Some (codes "ab")
+  linkage_by_the_older_name : (die (given 0x2007 (value.StrAt 3) ∷ [])).linkage ≡ Some (codes "cd")
+  linkage_by_both : (die (given 0x2007 (value.StrAt 3) ∷ given 0x6e (value.StrAt 0) ∷ [])).linkage ≡ Some (codes "ab")
+  linkage_of_another_class : (die (given 0x6e (value.Num 0) ∷ given 0x2007 (value.StrAt 3) ∷ [])).linkage ≡ Some (codes "cd")
+  linkage_that_is_not_found : (die (given 0x6e (value.StrAt 99) ∷ given 0x2007 (value.StrAt 3) ∷ [])).linkage ≡ Some (codes "cd")
+  linkage_that_is_empty : (die (given 0x6e (value.StrAt 2) ∷ given 0x2007 (value.StrAt 3) ∷ [])).linkage ≡ Some []
+  call_file : (die (given 0x58 (value.Num 7) ∷ [])).call_file ≡ Some 7
+  call_file_below_0 : (die (given 0x58 (value.Signed (negsuc 0)) ∷ [])).call_file ≡ Some 0xffffffffffffffff
+  call_file_of_another_class : (die (given 0x58 (value.SecOffset 7) ∷ [])).call_file ≡ None
+  call_line : (die (given 0x59 (value.Num 0x100000007) ∷ [])).call_line ≡ 7
+  call_line_below_0 : (die (given 0x59 (value.Signed (negsuc 0)) ∷ [])).call_line ≡ 0xffffffff
+  no_call_line : (die ([])).call_line ≡ 0
 
-low_by_number : (die (given 0x11 (value.AddrIndex 3) ∷ [])).low ≡ Some (value.AddrIndex 3)
+attributes : Attributes
 unfolding die_walk_computes die unit sections
-low_by_number = refl
-
-low_of_another_class : (die (given 0x11 (value.Num 3) ∷ [])).low ≡ None
-unfolding die_walk_computes die unit sections
-low_of_another_class = refl
-
-low_twice : (die (given 0x11 (value.Num 3) ∷ given 0x11 (value.Addr 4) ∷ [])).low ≡ None
-unfolding die_walk_computes die unit sections
-low_twice = refl
-
-no_low : (die (given 0x12 (value.Addr 4) ∷ [])).low ≡ None
-unfolding die_walk_computes die unit sections
-no_low = refl
-
-high_addr : (die (given 0x12 (value.Addr 0x1000) ∷ [])).high ≡ Some (value.Addr 0x1000)
-unfolding die_walk_computes die unit sections
-high_addr = refl
-
-high_addrindex : (die (given 0x12 (value.AddrIndex 3) ∷ [])).high ≡ Some (value.AddrIndex 3)
-unfolding die_walk_computes die unit sections
-high_addrindex = refl
-
-high_num : (die (given 0x12 (value.Num 16) ∷ [])).high ≡ Some (value.Num 16)
-unfolding die_walk_computes die unit sections
-high_num = refl
-
-high_signed : (die (given 0x12 (value.Signed (negsuc 3)) ∷ [])).high ≡ Some (value.Signed (negsuc 3))
-unfolding die_walk_computes die unit sections
-high_signed = refl
-
-high_of_another_class : (die (given 0x12 (value.SecOffset 3) ∷ [])).high ≡ None
-unfolding die_walk_computes die unit sections
-high_of_another_class = refl
-
-ranges_secoffset : (die (given 0x55 (value.SecOffset 3) ∷ [])).ranges ≡ Some (value.SecOffset 3)
-unfolding die_walk_computes die unit sections
-ranges_secoffset = refl
-
-ranges_num : (die (given 0x55 (value.Num 3) ∷ [])).ranges ≡ Some (value.Num 3)
-unfolding die_walk_computes die unit sections
-ranges_num = refl
-
-ranges_listindex : (die (given 0x55 (value.ListIndex 3) ∷ [])).ranges ≡ Some (value.ListIndex 3)
-unfolding die_walk_computes die unit sections
-ranges_listindex = refl
-
-ranges_of_another_class : (die (given 0x55 (value.Signed (pos 3)) ∷ [])).ranges ≡ None
-unfolding die_walk_computes die unit sections
-ranges_of_another_class = refl
-
--- references count from the start of the unit, which is 20, or from that of the section
-origin : (die (given 0x31 (value.UnitRef 0xb) ∷ [])).origin ≡ Some 0x2b
-unfolding die_walk_computes die unit sections
-origin = refl
-
-origin_in_the_section : (die (given 0x31 (value.InfoRef 0xb) ∷ [])).origin ≡ Some 0xb
-unfolding die_walk_computes die unit sections
-origin_in_the_section = refl
-
-origin_beyond_u64 : (die (given 0x31 (value.UnitRef 0xffffffffffffffe0) ∷ [])).origin ≡ None
-unfolding die_walk_computes die unit sections
-origin_beyond_u64 = refl
-
--- a file has 2^29 bytes at most: what leads past them leads to no entry
-past_the_file : (die (given 0x31 (value.UnitRef 0xffffffffffffffdf) ∷ [])).origin ≡ Some 0x80000000
-unfolding die_walk_computes die unit sections
-past_the_file = refl
-
-the_last_place : (die (given 0x31 (value.InfoRef 0x1fffffff) ∷ [])).origin ≡ Some 0x1fffffff
-unfolding die_walk_computes die unit sections
-the_last_place = refl
-
-behind_the_last_place : (die (given 0x31 (value.InfoRef 0x20000000) ∷ [])).origin ≡ Some 0x80000000
-unfolding die_walk_computes die unit sections
-behind_the_last_place = refl
-
-behind_the_last_place_by_the_unit : (die (given 0x31 (value.UnitRef 0x1fffffe0) ∷ [])).origin ≡ Some 0x80000000
-unfolding die_walk_computes die unit sections
-behind_the_last_place_by_the_unit = refl
-
-origin_of_another_class : (die (given 0x31 (value.Num 3) ∷ given 0x31 (value.UnitRef 3) ∷ [])).origin ≡ None
-unfolding die_walk_computes die unit sections
-origin_of_another_class = refl
-
-specification : (die (given 0x47 (value.UnitRef 1) ∷ given 0x31 (value.UnitRef 2) ∷ [])).spec ≡ Some 0x21
-unfolding die_walk_computes die unit sections
-specification = refl
-
-specification_of_another_class : (die (given 0x47 (value.SecOffset 1) ∷ [])).spec ≡ None
-unfolding die_walk_computes die unit sections
-specification_of_another_class = refl
-
-declared : (die (given 0x3c (value.Flag true) ∷ [])).declaration ≡ true
-unfolding die_walk_computes die unit sections
-declared = refl
-
-declared_not : (die (given 0x3c (value.Flag false) ∷ [])).declaration ≡ false
-unfolding die_walk_computes die unit sections
-declared_not = refl
-
-declared_by_no_flag : (die (given 0x3c (value.Num 1) ∷ [])).declaration ≡ false
-unfolding die_walk_computes die unit sections
-declared_by_no_flag = refl
-
-declared_nowhere : (die ([])).declaration ≡ false
-unfolding die_walk_computes die unit sections
-declared_nowhere = refl
-
-name : (die (given 0x03 (value.StrAt 0) ∷ [])).name ≡ Some (codes "ab")
-unfolding die_walk_computes die unit sections
-name = refl
-
-name_in_place : (die (given 0x03 (value.InlineText 2) ∷ [])).name ≡ Some (codes "fgh")
-unfolding die_walk_computes die unit sections
-name_in_place = refl
-
-name_of_another_class : (die (given 0x03 (value.Num 0) ∷ given 0x03 (value.StrAt 0) ∷ [])).name ≡ None
-unfolding die_walk_computes die unit sections
-name_of_another_class = refl
-
-name_by_number : (die (given 0x03 (value.StrIndex 1) ∷ [])).name ≡ Some (codes "cd")
-unfolding die_walk_computes die unit sections
-name_by_number = refl
-
-name_elsewhere : (die (given 0x03 (value.SupStrAt 0) ∷ [])).name_elsewhere ≡ true
-unfolding die_walk_computes die unit sections
-name_elsewhere = refl
-
-no_text_elsewhere : (die (given 0x03 (value.SupStrAt 0) ∷ [])).name ≡ None
-unfolding die_walk_computes die unit sections
-no_text_elsewhere = refl
-
-name_here : (die (given 0x03 (value.StrAt 0) ∷ given 0x03 (value.SupStrAt 0) ∷ [])).name_elsewhere ≡ false
-unfolding die_walk_computes die unit sections
-name_here = refl
-
-no_name_at_all : (die (given 0x6e (value.SupStrAt 0) ∷ [])).name_elsewhere ≡ false
-unfolding die_walk_computes die unit sections
-no_name_at_all = refl
-
--- a linkage name, or else the older one
-linkage : (die (given 0x6e (value.StrAt 0) ∷ [])).linkage ≡ Some (codes "ab")
-unfolding die_walk_computes die unit sections
-linkage = refl
-
-linkage_by_the_older_name : (die (given 0x2007 (value.StrAt 3) ∷ [])).linkage ≡ Some (codes "cd")
-unfolding die_walk_computes die unit sections
-linkage_by_the_older_name = refl
-
-linkage_by_both : (die (given 0x2007 (value.StrAt 3) ∷ given 0x6e (value.StrAt 0) ∷ [])).linkage ≡ Some (codes "ab")
-unfolding die_walk_computes die unit sections
-linkage_by_both = refl
-
-linkage_of_another_class : (die (given 0x6e (value.Num 0) ∷ given 0x2007 (value.StrAt 3) ∷ [])).linkage ≡ Some (codes "cd")
-unfolding die_walk_computes die unit sections
-linkage_of_another_class = refl
-
-linkage_that_is_not_found : (die (given 0x6e (value.StrAt 99) ∷ given 0x2007 (value.StrAt 3) ∷ [])).linkage ≡ Some (codes "cd")
-unfolding die_walk_computes die unit sections
-linkage_that_is_not_found = refl
-
-linkage_that_is_empty : (die (given 0x6e (value.StrAt 2) ∷ given 0x2007 (value.StrAt 3) ∷ [])).linkage ≡ Some []
-unfolding die_walk_computes die unit sections
-linkage_that_is_empty = refl
-
-call_file : (die (given 0x58 (value.Num 7) ∷ [])).call_file ≡ Some 7
-unfolding die_walk_computes die unit sections
-call_file = refl
-
-call_file_below_0 : (die (given 0x58 (value.Signed (negsuc 0)) ∷ [])).call_file ≡ Some 0xffffffffffffffff
-unfolding die_walk_computes die unit sections
-call_file_below_0 = refl
-
-call_file_of_another_class : (die (given 0x58 (value.SecOffset 7) ∷ [])).call_file ≡ None
-unfolding die_walk_computes die unit sections
-call_file_of_another_class = refl
-
-call_line : (die (given 0x59 (value.Num 0x100000007) ∷ [])).call_line ≡ 7
-unfolding die_walk_computes die unit sections
-call_line = refl
-
-call_line_below_0 : (die (given 0x59 (value.Signed (negsuc 0)) ∷ [])).call_line ≡ 0xffffffff
-unfolding die_walk_computes die unit sections
-call_line_below_0 = refl
-
-no_call_line : (die ([])).call_line ≡ 0
-unfolding die_walk_computes die unit sections
-no_call_line = refl
+attributes = search rules
 
 -- what the root says
-root_low : (root (given 0x11 (value.Addr 0x1000) ∷ [])).low ≡ Some (value.Addr 0x1000)
-unfolding die_walk_computes root unit sections
-root_low = refl
+record Roots : Type 0 where
+  root_low : (root (given 0x11 (value.Addr 0x1000) ∷ [])).low ≡ Some (value.Addr 0x1000)
+  line_table : (root (given 0x10 (value.SecOffset 5) ∷ [])).stmt_list ≡ Some 5
+  line_table_by_a_number : (root (given 0x10 (value.Num 5) ∷ [])).stmt_list ≡ Some 5
+  line_table_of_another_class : (root (given 0x10 (value.Signed (pos 5)) ∷ [])).stmt_list ≡ None
+  folder : (root (given 0x1b (value.StrAt 0) ∷ [])).comp_dir ≡ Some (codes "ab")
+  folder_by_number : (root (given 0x1b (value.StrIndex 1) ∷ given 0x72 (value.SecOffset 4) ∷ [])).comp_dir ≡ Some (codes "cd")
+  bases : (root (given 0x72 (value.SecOffset 4) ∷ given 0x73 (value.SecOffset 8) ∷ given 0x74 (value.SecOffset 12) ∷ [])).addr_base ≡ Some 8
+  base_of_lists : (root (given 0x72 (value.SecOffset 4) ∷ given 0x73 (value.SecOffset 8) ∷ given 0x74 (value.Num 12) ∷ [])).rnglists_base ≡ Some 12
+  base_of_texts : (root (given 0x72 (value.SecOffset 4) ∷ given 0x72 (value.SecOffset 8) ∷ [])).str_offsets_base ≡ Some 4
 
-line_table : (root (given 0x10 (value.SecOffset 5) ∷ [])).stmt_list ≡ Some 5
+roots : Roots
 unfolding die_walk_computes root unit sections
-line_table = refl
-
-line_table_by_a_number : (root (given 0x10 (value.Num 5) ∷ [])).stmt_list ≡ Some 5
-unfolding die_walk_computes root unit sections
-line_table_by_a_number = refl
-
-line_table_of_another_class : (root (given 0x10 (value.Signed (pos 5)) ∷ [])).stmt_list ≡ None
-unfolding die_walk_computes root unit sections
-line_table_of_another_class = refl
-
-folder : (root (given 0x1b (value.StrAt 0) ∷ [])).comp_dir ≡ Some (codes "ab")
-unfolding die_walk_computes root unit sections
-folder = refl
-
-folder_by_number : (root (given 0x1b (value.StrIndex 1) ∷ given 0x72 (value.SecOffset 4) ∷ [])).comp_dir ≡ Some (codes "cd")
-unfolding die_walk_computes root unit sections
-folder_by_number = refl
-
-bases : (root (given 0x72 (value.SecOffset 4) ∷ given 0x73 (value.SecOffset 8) ∷ given 0x74 (value.SecOffset 12) ∷ [])).addr_base ≡ Some 8
-unfolding die_walk_computes root unit sections
-bases = refl
-
-base_of_lists : (root (given 0x72 (value.SecOffset 4) ∷ given 0x73 (value.SecOffset 8) ∷ given 0x74 (value.Num 12) ∷ [])).rnglists_base ≡ Some 12
-unfolding die_walk_computes root unit sections
-base_of_lists = refl
-
-base_of_texts : (root (given 0x72 (value.SecOffset 4) ∷ given 0x72 (value.SecOffset 8) ∷ [])).str_offsets_base ≡ Some 4
-unfolding die_walk_computes root unit sections
-base_of_texts = refl
+roots = search rules
 
 -- references into a supplementary file: one that was not read, one that was, and what is not in it; the supplementary file has none itself
-sup_reference_alone : (die (given 0x31 (value.SupRefAt 0x10) ∷ [])).origin ≡ None
-unfolding die_walk_computes die unit sections
-sup_reference_alone = refl
+record Supplements : Type 0 where
+  sup_reference_alone : (die (given 0x31 (value.SupRefAt 0x10) ∷ [])).origin ≡ None
+  sup_reference : (die_with_sup (given 0x31 (value.SupRefAt 0x10) ∷ [])).origin ≡ Some 0x20000010
+  sup_declaration : (die_with_sup (given 0x47 (value.SupRefAt 0x10) ∷ [])).spec ≡ Some 0x20000010
+  past_the_sup_file : (die_with_sup (given 0x31 (value.SupRefAt 0x20000000) ∷ [])).origin ≡ Some 0x80000000
+  past_the_file_beside_a_sup_file : (die_with_sup (given 0x31 (value.InfoRef 0x20000000) ∷ [])).origin ≡ Some 0x80000000
+  own_reference_with_sup : (die_with_sup (given 0x31 (value.UnitRef 0x10) ∷ [])).origin ≡ Some 0x30
+  sup_reference_in_sup : (die_in_sup (given 0x31 (value.SupRefAt 0x10) ∷ [])).origin ≡ None
+  own_reference_in_sup : (die_in_sup (given 0x31 (value.UnitRef 0x10) ∷ [])).origin ≡ Some 0x20000030
+  -- places are counted through both files
+  place_in_sup : (die_in_sup []).at ≡ 0x2000002b
+  place_with_sup : (die_with_sup []).at ≡ 0x2b
+  -- names in a supplementary file that was read
+  sup_name : (die_with_sup (given 0x03 (value.SupStrAt 1) ∷ [])).name ≡ Some (codes "y")
+  sup_name_is_here : (die_with_sup (given 0x03 (value.SupStrAt 1) ∷ [])).name_elsewhere ≡ false
+  sup_name_cut : (die_with_sup (given 0x03 (value.SupStrAt 3) ∷ [])).name ≡ None
+  sup_linkage : (die_with_sup (given 0x6e (value.SupStrAt 0) ∷ [])).linkage ≡ Some (codes "xy")
+  sup_name_in_sup : (die_in_sup (given 0x03 (value.SupStrAt 0) ∷ [])).name_elsewhere ≡ true
 
-sup_reference : (die_with_sup (given 0x31 (value.SupRefAt 0x10) ∷ [])).origin ≡ Some 0x20000010
-unfolding die_walk_computes die_with_sup with_sup unit sections
-sup_reference = refl
-
-sup_declaration : (die_with_sup (given 0x47 (value.SupRefAt 0x10) ∷ [])).spec ≡ Some 0x20000010
-unfolding die_walk_computes die_with_sup with_sup unit sections
-sup_declaration = refl
-
-past_the_sup_file : (die_with_sup (given 0x31 (value.SupRefAt 0x20000000) ∷ [])).origin ≡ Some 0x80000000
-unfolding die_walk_computes die_with_sup with_sup unit sections
-past_the_sup_file = refl
-
-past_the_file_beside_a_sup_file : (die_with_sup (given 0x31 (value.InfoRef 0x20000000) ∷ [])).origin ≡ Some 0x80000000
-unfolding die_walk_computes die_with_sup with_sup unit sections
-past_the_file_beside_a_sup_file = refl
-
-own_reference_with_sup : (die_with_sup (given 0x31 (value.UnitRef 0x10) ∷ [])).origin ≡ Some 0x30
-unfolding die_walk_computes die_with_sup with_sup unit sections
-own_reference_with_sup = refl
-
-sup_reference_in_sup : (die_in_sup (given 0x31 (value.SupRefAt 0x10) ∷ [])).origin ≡ None
-unfolding die_walk_computes die_in_sup unit sections
-sup_reference_in_sup = refl
-
-own_reference_in_sup : (die_in_sup (given 0x31 (value.UnitRef 0x10) ∷ [])).origin ≡ Some 0x20000030
-unfolding die_walk_computes die_in_sup unit sections
-own_reference_in_sup = refl
-
--- places are counted through both files
-place_in_sup : (die_in_sup []).at ≡ 0x2000002b
-unfolding die_walk_computes die_in_sup unit sections
-place_in_sup = refl
-
-place_with_sup : (die_with_sup []).at ≡ 0x2b
-unfolding die_walk_computes die_with_sup with_sup unit sections
-place_with_sup = refl
-
--- names in a supplementary file that was read
-sup_name : (die_with_sup (given 0x03 (value.SupStrAt 1) ∷ [])).name ≡ Some (codes "y")
-unfolding die_walk_computes die_with_sup with_sup unit sections
-sup_name = refl
-
-sup_name_is_here : (die_with_sup (given 0x03 (value.SupStrAt 1) ∷ [])).name_elsewhere ≡ false
-unfolding die_walk_computes die_with_sup with_sup unit sections
-sup_name_is_here = refl
-
-sup_name_cut : (die_with_sup (given 0x03 (value.SupStrAt 3) ∷ [])).name ≡ None
-unfolding die_walk_computes die_with_sup with_sup unit sections
-sup_name_cut = refl
-
-sup_linkage : (die_with_sup (given 0x6e (value.SupStrAt 0) ∷ [])).linkage ≡ Some (codes "xy")
-unfolding die_walk_computes die_with_sup with_sup unit sections
-sup_linkage = refl
-
-sup_name_in_sup : (die_in_sup (given 0x03 (value.SupStrAt 0) ∷ [])).name_elsewhere ≡ true
-unfolding die_walk_computes die_in_sup unit sections
-sup_name_in_sup = refl
+supplements : Supplements
+unfolding die_walk_computes die die_with_sup die_in_sup with_sup unit sections
+supplements = search rules
