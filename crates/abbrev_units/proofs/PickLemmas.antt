@@ -1,6 +1,7 @@
 -- For `Filled` and `pick_values`: the first value of each attribute goes to its slot.
 use Rattle.std.proofs.Common.{◌≡◌, ◌<◌, ◌≤◌, ◌+◌, ℕ, Bool, true, false, nat_eq, cond, List, [], ◌∷◌, ◌++◌, length, take, drop, map, get_or, find, Option, None, Some, is_some, Result, Ok, Err, refl, sym, ap, ◌∙◌, ◌||◌, arith}
 use Rattle.std.specs.Option.{option_map}
+use Rattle.std.proofs.lemmas.Bool.Decides.{nat_tests}
 use Rattle.std.proofs.lemmas.List.{drop_more, take_all, take-append-drop, map-append}
 use Rattle.sym_edges.specs.Results.{◌>>=◌}
 use Rattle.leb_cursor.specs.Ahead.{Ahead}
@@ -24,27 +25,6 @@ abbrev note_if : Bool → Option Value → Value → Option Value
 note_if true old value = or_value old value
 note_if false old value = old
 
--- a value is noted under its attribute
-abbrev noted : PickFields → Value → ℕ → PickFields
-noted picks value attribute = record {
-  low = note_if (nat_eq attribute 0x11) picks.low value;
-  high = note_if (nat_eq attribute 0x12) picks.high value;
-  ranges = note_if (nat_eq attribute 0x55) picks.ranges value;
-  call_file = note_if (nat_eq attribute 0x58) picks.call_file value;
-  call_line = note_if (nat_eq attribute 0x59) picks.call_line value;
-  origin = note_if (nat_eq attribute 0x31) picks.origin value;
-  spec = note_if (nat_eq attribute 0x47) picks.spec value;
-  name = note_if (nat_eq attribute 0x03) picks.name value;
-  linkage = note_if (nat_eq attribute 0x6e) picks.linkage value;
-  old_linkage = note_if (nat_eq attribute 0x2007) picks.old_linkage value;
-  declaration = note_if (nat_eq attribute 0x3c) picks.declaration value;
-  stmt_list = note_if (nat_eq attribute 0x10) picks.stmt_list value;
-  comp_dir = note_if (nat_eq attribute 0x1b) picks.comp_dir value;
-  str_offsets_base = note_if (nat_eq attribute 0x72) picks.str_offsets_base value;
-  addr_base = note_if (nat_eq attribute 0x73) picks.addr_base value;
-  rnglists_base = note_if (nat_eq attribute 0x74) picks.rnglists_base value;
-}
-
 abbrev given : ℕ → Value → Given
 given attribute value = record { attribute = attribute; value = value }
 
@@ -67,9 +47,6 @@ unfolding first_of
 first_more wanted attribute value [] = last_by (nat_eq attribute wanted) attribute value
 first_more wanted attribute value (before ∷ rest) = first_by wanted attribute value before (nat_eq before.attribute wanted) rest (first_more wanted attribute value rest)
 
-firsts_more : (attribute : ℕ) (value : Value) (seen : List Given) → first_values (seen ++ given attribute value ∷ []) ≡ noted (first_values seen) value attribute
-firsts_more attribute value seen = simp first_more
-
 -- one attribute more at the end of a list
 among_by : (x y later rest : Bool) → later ≡ (x || rest) → (y || later) ≡ (x || (y || rest))
 among_by true true later rest is = refl
@@ -81,84 +58,25 @@ among_more : (wanted attribute : ℕ) (seen : List ℕ) → is_among wanted (see
 among_more wanted attribute [] = refl
 among_more wanted attribute (before ∷ rest) = among_by (nat_eq attribute wanted) (nat_eq before wanted) _ _ (among_more wanted attribute rest)
 
--- an attribute that nobody asks for
-pub record Unasked (attribute : ℕ) : Type 0 where
-  pub low : nat_eq attribute 0x11 ≡ false
-  pub high : nat_eq attribute 0x12 ≡ false
-  pub ranges : nat_eq attribute 0x55 ≡ false
-  pub origin : nat_eq attribute 0x31 ≡ false
-  pub spec : nat_eq attribute 0x47 ≡ false
-  pub name : nat_eq attribute 0x03 ≡ false
-  pub linkage : nat_eq attribute 0x6e ≡ false
-  pub old_linkage : nat_eq attribute 0x2007 ≡ false
-  pub declaration : nat_eq attribute 0x3c ≡ false
-  pub call_file : nat_eq attribute 0x58 ≡ false
-  pub call_line : nat_eq attribute 0x59 ≡ false
-  pub stmt_list : nat_eq attribute 0x10 ≡ false
-  pub comp_dir : nat_eq attribute 0x1b ≡ false
-  pub str_offsets_base : nat_eq attribute 0x72 ≡ false
-  pub addr_base : nat_eq attribute 0x73 ≡ false
-  pub rnglists_base : nat_eq attribute 0x74 ≡ false
-
-or_parts : (x y : Bool) → (x || y) ≡ false → (x ≡ false) × (y ≡ false)
-or_parts true y is = absurd (grind (arith, is))
-or_parts false y is = (refl, is)
-
-unasked : (attribute : ℕ) → is_asked attribute ≡ false → Unasked attribute
-unasked attribute none =
-    let both0 = or_parts (nat_eq attribute 0x11) _ none in
-    let both1 = or_parts (nat_eq attribute 0x12) _ both0.1 in
-    let both2 = or_parts (nat_eq attribute 0x55) _ both1.1 in
-    let both3 = or_parts (nat_eq attribute 0x31) _ both2.1 in
-    let both4 = or_parts (nat_eq attribute 0x47) _ both3.1 in
-    let both5 = or_parts (nat_eq attribute 0x03) _ both4.1 in
-    let both6 = or_parts (nat_eq attribute 0x6e) _ both5.1 in
-    let both7 = or_parts (nat_eq attribute 0x2007) _ both6.1 in
-    let both8 = or_parts (nat_eq attribute 0x3c) _ both7.1 in
-    let both9 = or_parts (nat_eq attribute 0x58) _ both8.1 in
-    let both10 = or_parts (nat_eq attribute 0x59) _ both9.1 in
-    let both11 = or_parts (nat_eq attribute 0x10) _ both10.1 in
-    let both12 = or_parts (nat_eq attribute 0x1b) _ both11.1 in
-    let both13 = or_parts (nat_eq attribute 0x72) _ both12.1 in
-    let both14 = or_parts (nat_eq attribute 0x73) _ both13.1 in
-    record { low = both0.0; high = both1.0; ranges = both2.0; origin = both3.0; spec = both4.0; name = both5.0; linkage = both6.0; old_linkage = both7.0; declaration = both8.0; call_file = both9.0; call_line = both10.0; stmt_list = both11.0; comp_dir = both12.0; str_offsets_base = both13.0; addr_base = both14.0; rnglists_base = both14.1 }
+-- an attribute that nobody asks for is none of those that are asked for
+unasked : (attribute asked : ℕ) → is_asked attribute ≡ false → is_asked asked ≡ true → nat_eq attribute asked ≡ false
+unasked attribute asked none some = by (nat_eq attribute asked) refl
+  where
+    by : (same : Bool) → nat_eq attribute asked ≡ same → same ≡ false
+    by false test = refl
+    by true test =
+        let same : attribute ≡ asked = grind (arith, nat_tests, test) in
+        sym some ∙ ap is_asked (sym same) ∙ none
 
 -- a value goes to the slot of its attribute
-noted_in : (s : Slot) (attribute : ℕ) (value : Value) (first : PickFields) → IsSlot s attribute → noted first value attribute ≡ put_in s (or_value (pick_of s first) value) first
-noted_in slot.Passed attribute value first is =
-    let u = unasked attribute is in
-    rw (u.low, u.high, u.ranges, u.call_file, u.call_line, u.origin, u.spec, u.name, u.linkage, u.old_linkage, u.declaration, u.stmt_list, u.comp_dir, u.str_offsets_base, u.addr_base, u.rnglists_base)
-noted_in _ attribute value first is = ap (noted first value) is
+firsts_more : (s : Slot) (attribute : ℕ) (value : Value) (seen : List Given) → IsSlot s attribute → first_values (seen ++ given attribute value ∷ []) ≡ put_in s (or_value (pick_of s (first_values seen)) value) (first_values seen)
+firsts_more slot.Passed attribute value seen is = simp (first_more, unasked attribute)
+firsts_more _ attribute value seen is = rw is (simp first_more)
 
 -- a slot is filled where its attribute was among those before
-abbrev filled_with : List ℕ → ℕ → List Bool
-filled_with before attribute =
-    (nat_eq attribute 0x11 || is_among 0x11 before) ∷
-    (nat_eq attribute 0x12 || is_among 0x12 before) ∷
-    (nat_eq attribute 0x55 || is_among 0x55 before) ∷
-    (nat_eq attribute 0x58 || is_among 0x58 before) ∷
-    (nat_eq attribute 0x59 || is_among 0x59 before) ∷
-    (nat_eq attribute 0x31 || is_among 0x31 before) ∷
-    (nat_eq attribute 0x47 || is_among 0x47 before) ∷
-    (nat_eq attribute 0x03 || is_among 0x03 before) ∷
-    (nat_eq attribute 0x6e || is_among 0x6e before) ∷
-    (nat_eq attribute 0x2007 || is_among 0x2007 before) ∷
-    (nat_eq attribute 0x3c || is_among 0x3c before) ∷
-    (nat_eq attribute 0x10 || is_among 0x10 before) ∷
-    (nat_eq attribute 0x1b || is_among 0x1b before) ∷
-    (nat_eq attribute 0x72 || is_among 0x72 before) ∷
-    (nat_eq attribute 0x73 || is_among 0x73 before) ∷
-    (nat_eq attribute 0x74 || is_among 0x74 before) ∷
-    []
-
-filled_in : (s : Slot) (attribute : ℕ) (before : List ℕ) → IsSlot s attribute → filled_with before attribute ≡ fill_in (filled_by before) s
-filled_in slot.Passed attribute before is =
-    let u = unasked attribute is in
-    rw (u.low, u.high, u.ranges, u.call_file, u.call_line, u.origin, u.spec, u.name, u.linkage, u.old_linkage, u.declaration, u.stmt_list, u.comp_dir, u.str_offsets_base, u.addr_base, u.rnglists_base)
-filled_in _ attribute before is = ap (filled_with before) is
-
 fills_more : (s : Slot) (attribute : ℕ) (before : List ℕ) → IsSlot s attribute → fill_in (filled_by before) s ≡ filled_by (before ++ attribute ∷ [])
-fills_more s attribute before is = sym (filled_in s attribute before is) ∙ (simp among_more)
+fills_more slot.Passed attribute before is = simp (among_more, unasked attribute)
+fills_more _ attribute before is = rw is (simp among_more)
 
 -- whether a slot has had its value
 abbrev names_of : List Given → List ℕ
@@ -195,7 +113,7 @@ kept_where s value first None true here is = absurd (grind (arith, is))
 
 kept_more : (s : Slot) (attribute : ℕ) (value : Value) (seen : List Given) → IsSlot s attribute → picks_of (seen ++ given attribute value ∷ []) ≡ put_in (free_in (filled_by (names_of seen)) s) (kept_by (free_in (filled_by (names_of seen)) s) value) (picks_of seen)
 kept_more s attribute value seen is =
-    ap kept_of (firsts_more attribute value seen ∙ noted_in s attribute value (first_values seen) is)
+    ap kept_of (firsts_more s attribute value seen is)
     ∙ kept_where s value (first_values seen) (pick_of s (first_values seen)) (get_or (filled_by (names_of seen)) (slot_number s) false) refl (slot_seen s seen)
 
 -- the values of attributes, and of others behind them
