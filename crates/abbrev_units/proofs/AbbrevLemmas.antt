@@ -13,6 +13,7 @@ use Rattle.leb_cursor.proofs.ListLemmas.{weaker, either_passes, behind, none_beh
 use Rattle.abbrev_units.specs.Faults.{GivesAt}
 use Rattle.abbrev_units.specs.SpecFields.{AttributeSpec, SpecFields, Abbrev}
 use Rattle.abbrev_units.specs.Abbreviations.{implicit_at, spec_at, abbrev_by, abbrev_at, used_spec, used_abbrev, used_at}
+use Rattle.abbrev_units.proofs.BehindLemmas.{Behind, begins, refuses}
 use Rattle.abbrev_units.specs.internal.Used.{one_by, all_by, used_spec_at, used_specs_at, used_abbrev_at}
 
 implicit_passes : (form : ℕ) (c : Ahead) → Passes 0 c (implicit_at form c)
@@ -98,42 +99,15 @@ pub specs_fault : (wide : Bool) (code tag : ℕ) (children : Bool) (specs : Resu
 specs_fault wide code tag children (Ok l) fault is = cc
 specs_fault wide code tag children (Err other) fault is = cc
 
--- the attributes that were read, and those still to come
-abbrev pub specs_behind : Bool → List SpecFields → Ahead → Result (List SpecFields × Ahead) CursorFault
-specs_behind wide done c = behind done (list_at (used_spec_at wide) c)
+-- the attributes that were read, and those still to come; and the abbreviations
+pub specs_begin : (wide : Bool) (done : List SpecFields) (c : Ahead) → done ≡ [] → Behind (used_spec_at wide) done c (used_specs_at wide c)
+specs_begin wide done c none = begins (used_spec_at wide) done c _ (used_spec_goes wide) none (specs_are wide c)
 
-pub specs_begin : (wide : Bool) (done : List SpecFields) (c : Ahead) → done ≡ [] → specs_behind wide done c ≡ used_specs_at wide c
-specs_begin wide done c none = none_behind done (list_at (used_spec_at wide) c) none ∙ specs_are wide c
+pub abbrevs_begin : (wide : Bool) (done : List Abbrev) (c : Ahead) → done ≡ [] → Behind (used_abbrev_at wide) done c (used_at wide c)
+abbrevs_begin wide done c none = begins (used_abbrev_at wide) done c _ (used_abbrev_goes wide) none (abbrevs_are wide c)
 
-pub specs_more : (wide : Bool) (done more : List SpecFields) (spec : SpecFields) (c d : Ahead) (want : Result (List SpecFields × Ahead) CursorFault) → specs_behind wide done c ≡ want → Ok (Some spec, d) ≡ used_spec_at wide c → more ≡ done ++ spec ∷ [] → specs_behind wide more d ≡ want
-specs_more wide done more spec c d want so_far is added =
-    sym (list_more (used_spec_at wide) (used_spec_goes wide) done more spec c d is added) ∙ so_far
-
-pub specs_end : (wide : Bool) (done : List SpecFields) (c d : Ahead) (want : Result (List SpecFields × Ahead) CursorFault) → specs_behind wide done c ≡ want → Ok (None, d) ≡ used_spec_at wide c → want ≡ Ok (done, d)
-specs_end wide done c d want so_far is = sym so_far ∙ list_ends (used_spec_at wide) (used_spec_goes wide) done c d is
-
-pub specs_refused : (wide : Bool) (done : List SpecFields) (c : Ahead) (fault : CursorFault) (want : Result (List SpecFields × Ahead) CursorFault) → specs_behind wide done c ≡ want → Err fault ≡ used_spec_at wide c → want ≡ Err fault
-specs_refused wide done c fault want so_far is = sym so_far ∙ list_refused (used_spec_at wide) (used_spec_goes wide) done c fault is
-
-pub specs_shorter : (wide : Bool) (spec : SpecFields) (c d : Ahead) → Ok (Some spec, d) ≡ used_spec_at wide c → length d.bytes < length c.bytes
-specs_shorter wide spec c d is = shorter_by (used_spec_at wide c) spec c d (used_spec_goes wide c) is
-
--- the abbreviations that were read, and those still to come
-abbrev pub abbrevs_behind : Bool → List Abbrev → Ahead → Result (List Abbrev × Ahead) CursorFault
-abbrevs_behind wide done c = behind done (list_at (used_abbrev_at wide) c)
-
-pub abbrevs_begin : (wide : Bool) (done : List Abbrev) (c : Ahead) → done ≡ [] → abbrevs_behind wide done c ≡ used_at wide c
-abbrevs_begin wide done c none = none_behind done (list_at (used_abbrev_at wide) c) none ∙ abbrevs_are wide c
-
-pub abbrevs_more : (wide : Bool) (done more : List Abbrev) (one : Abbrev) (c d : Ahead) (want : Result (List Abbrev × Ahead) CursorFault) → abbrevs_behind wide done c ≡ want → used_abbrev_at wide c ≡ Ok (Some one, d) → more ≡ done ++ one ∷ [] → abbrevs_behind wide more d ≡ want
-abbrevs_more wide done more one c d want so_far is added =
-    sym (list_more (used_abbrev_at wide) (used_abbrev_goes wide) done more one c d (sym is) added) ∙ so_far
-
-pub abbrevs_end : (wide : Bool) (done : List Abbrev) (c d : Ahead) (want : Result (List Abbrev × Ahead) CursorFault) → abbrevs_behind wide done c ≡ want → used_abbrev_at wide c ≡ Ok (None, d) → want ≡ Ok (done, d)
-abbrevs_end wide done c d want so_far is = sym so_far ∙ list_ends (used_abbrev_at wide) (used_abbrev_goes wide) done c d (sym is)
-
-pub abbrevs_stopped : (wide : Bool) (done : List Abbrev) (c d e : Ahead) (stop : Stop CursorFault) (want : Result (List Abbrev × Ahead) CursorFault) → abbrevs_behind wide done c ≡ want → GivesAt {A = Option Abbrev} (Err stop) d (used_abbrev_at wide c) → GivesAt {A = List Abbrev} (Err stop) e want
-abbrevs_stopped wide done c d e (Fault fault) want so_far is = sym so_far ∙ list_refused (used_abbrev_at wide) (used_abbrev_goes wide) done c fault (sym is)
+pub abbrevs_stopped : (wide : Bool) (done : List Abbrev) (c d e : Ahead) (stop : Stop CursorFault) (want : Result (List Abbrev × Ahead) CursorFault) → Behind (used_abbrev_at wide) done c want → GivesAt {A = Option Abbrev} (Err stop) d (used_abbrev_at wide c) → GivesAt {A = List Abbrev} (Err stop) e want
+abbrevs_stopped wide done c d e (Fault fault) want so_far is = refuses (used_abbrev_at wide) done c fault want so_far (sym is)
 abbrevs_stopped wide done c d e NoMemory want so_far is = tt
 
 pub abbrevs_shorter : (wide : Bool) (one : Abbrev) (c d : Ahead) → used_abbrev_at wide c ≡ Ok (Some one, d) → length d.bytes < length c.bytes

@@ -1,4 +1,5 @@
 mod TextLemmas
+pub mod BehindLemmas
 pub mod UnitLemmas
 pub mod UnitPlaceLemmas
 pub mod AbbrevLemmas

@@ -16,7 +16,8 @@ use Rattle.abbrev_units.specs.internal.Used.{used_abbrev_at}
 use Rattle.abbrev_units.specs.KeptTags.{is_kept_tag}
 use Rattle.abbrev_units.specs.internal.Takes.{AreTakes}
 use Rattle.abbrev_units.specs.internal.Listed.{part, IsInside, abbrev_in, abbrevs_in, IsHeld, AreHeld, Starts, Grown, LeavesAt, ReadsAt}
-use Rattle.abbrev_units.proofs.AbbrevLemmas.{abbrevs_behind, abbrevs_begin, abbrevs_more, abbrevs_end, abbrevs_stopped}
+use Rattle.abbrev_units.proofs.AbbrevLemmas.{abbrevs_begin, abbrevs_stopped}
+use Rattle.abbrev_units.proofs.BehindLemmas.{Behind, goes_on, ends}
 
 -- lists that others begin
 starts_by : {A : Type 0} (before after more : List A) → after ≡ before ++ more → Starts before after
@@ -120,7 +121,7 @@ abbrevs_and specs (first ∷ heads) head = ap (λ (rest : List Abbrev). abbrev_i
 -- the abbreviations that were read, and those still to come
 pub record Reads (wide : Bool) (lists : Lists) (heads : List Head) (c : Ahead) (want : Result (List Abbrev × Ahead) CursorFault) : Type 0 where
   pub held : AreHeld lists heads
-  pub rest : abbrevs_behind wide (abbrevs_in lists.specs.items heads) c ≡ want
+  pub rest : Behind (used_abbrev_at wide) (abbrevs_in lists.specs.items heads) c want
 
 pub reads_begin : (wide : Bool) (lists : Lists) (heads : List Head) (c : Ahead) → heads ≡ [] → Reads wide lists heads c (used_at wide c)
 reads_begin wide lists heads c none = record {
@@ -131,7 +132,7 @@ reads_begin wide lists heads c none = record {
 pub reads_more : (wide : Bool) (lists more : Lists) (heads longer : List Head) (head : Head) (c d : Ahead) (want : Result (List Abbrev × Ahead) CursorFault) → Reads wide lists heads c want → ReadsAt (Ok (Some head)) more d (used_abbrev_at wide c) → Grown lists more → longer ≡ heads ++ head ∷ [] → Reads wide more longer d want
 reads_more wide lists more heads longer head c d want so_far is grown added = record {
   held = subst (AreHeld more) (sym added) (held_more more heads head (all_held lists more heads grown so_far.held) is.0);
-  rest = abbrevs_more wide (abbrevs_in lists.specs.items heads) (abbrevs_in more.specs.items longer) (abbrev_in more.specs.items head) c d want so_far.rest is.1
+  rest = goes_on (used_abbrev_at wide) (abbrevs_in lists.specs.items heads) (abbrevs_in more.specs.items longer) (abbrev_in more.specs.items head) c d want so_far.rest (sym is.1)
       (ap (abbrevs_in more.specs.items) added ∙ abbrevs_and more.specs.items heads head ∙ ap (λ (before : List Abbrev). before ++ abbrev_in more.specs.items head ∷ []) (sym (same_abbrevs lists more heads grown so_far.held)));
 }
 
@@ -140,7 +141,7 @@ reads_held wide lists more heads c want so_far grown = all_held lists more heads
 
 pub reads_end : (wide : Bool) (lists more : Lists) (heads : List Head) (c d : Ahead) (want : Result (List Abbrev × Ahead) CursorFault) → Reads wide lists heads c want → ReadsAt (Ok None) more d (used_abbrev_at wide c) → Grown lists more → want ≡ Ok (abbrevs_in more.specs.items heads, d)
 reads_end wide lists more heads c d want so_far is grown =
-    abbrevs_end wide (abbrevs_in lists.specs.items heads) c d want so_far.rest is ∙ ap (λ (found : List Abbrev). Ok (found, d)) (same_abbrevs lists more heads grown so_far.held)
+    ends (used_abbrev_at wide) (abbrevs_in lists.specs.items heads) c d None want so_far.rest (sym is) refl ∙ ap (λ (found : List Abbrev). Ok (found, d)) (same_abbrevs lists more heads grown so_far.held)
 
 pub reads_stopped : (wide : Bool) (lists more : Lists) (heads : List Head) (c d e : Ahead) (found : List Abbrev) (stop : Stop CursorFault) (want : Result (List Abbrev × Ahead) CursorFault) → Reads wide lists heads c want → ReadsAt (Err stop) more d (used_abbrev_at wide c) → LeavesAt {U = Prim.Unit {0}} (Err stop) found e want
 reads_stopped wide lists more heads c d e found (Fault fault) want so_far is = abbrevs_stopped wide (abbrevs_in lists.specs.items heads) c d e (Fault fault) want so_far.rest is

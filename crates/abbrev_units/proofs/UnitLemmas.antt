@@ -19,6 +19,7 @@ use Rattle.abbrev_units.specs.declared.fault.HeaderFault.TheVariants.{Start}
 use Rattle.abbrev_units.specs.declared.unit.Unit.{Unit}
 use Rattle.abbrev_units.specs.Faults.{as_header, or_start}
 use Rattle.abbrev_units.specs.InitialLength.{length_by, length_at, contents_at}
+use Rattle.abbrev_units.proofs.BehindLemmas.{Behind, begins}
 use Rattle.abbrev_units.specs.Units.{unit_in, header_at, unit_at, next_unit, units_in}
 
 -- readings that differ in their fault alone go as far
@@ -72,33 +73,11 @@ pub next_goes : (c : Ahead) → GoesOn c (next_unit c)
 unfolding next_unit
 next_goes c = next_by (nat_eq (length c.bytes) 0) c
 
--- the units that were read, and those still to come
-abbrev pub units_behind : List Unit → Ahead → Result (List Unit × Ahead) (Located DwarfKind)
-units_behind done c = behind done (list_at next_unit c)
-
--- without the place after them
-abbrev pub units_of : Result (List Unit × Ahead) (Located DwarfKind) → Result (List Unit) (Located DwarfKind)
-units_of reading = reading >>= λ units. Ok units.0
-
 -- the loop's steps
-pub units_begin : (info : List ℕ) (done : List Unit) (c : Ahead) → done ≡ [] → c ≡ record { bytes = take (length info) info; at = 0 } → units_of (units_behind done c) ≡ units_in info
-unfolding units_in
+pub units_begin : (info : List ℕ) (done : List Unit) (c : Ahead) → done ≡ [] → c ≡ record { bytes = take (length info) info; at = 0 } → Behind next_unit done c (list_at next_unit (record { bytes = info; at = 0 }))
 units_begin info done c none start =
     let same : c ≡ record { bytes = info; at = 0 } = start ∙ ap (λ (all : List ℕ). record { bytes = all; at = 0 }) (take-length info) in
-    ap units_of (none_behind done (list_at next_unit c) none ∙ ap (list_at next_unit) same)
-
-pub units_more : (done more : List Unit) (unit : Unit) (c d : Ahead) (want : Result (List Unit) (Located DwarfKind)) → units_of (units_behind done c) ≡ want → Ok (Some unit, d) ≡ next_unit c → more ≡ done ++ unit ∷ [] → units_of (units_behind more d) ≡ want
-units_more done more unit c d want so_far is added =
-    ap units_of (sym (list_more next_unit next_goes done more unit c d is added)) ∙ so_far
-
-pub units_end : (done : List Unit) (c d : Ahead) (want : Result (List Unit) (Located DwarfKind)) → units_of (units_behind done c) ≡ want → Ok (None, d) ≡ next_unit c → want ≡ Ok done
-units_end done c d want so_far is = sym so_far ∙ ap units_of (list_ends next_unit next_goes done c d is)
-
-pub units_refused : (done : List Unit) (c : Ahead) (fault : Located DwarfKind) (want : Result (List Unit) (Located DwarfKind)) → units_of (units_behind done c) ≡ want → Err fault ≡ next_unit c → want ≡ Err fault
-units_refused done c fault want so_far is = sym so_far ∙ ap units_of (list_refused next_unit next_goes done c fault is)
-
-pub units_shorter : (unit : Unit) (c d : Ahead) → Ok (Some unit, d) ≡ next_unit c → length d.bytes < length c.bytes
-units_shorter unit c d is = shorter_by (next_unit c) unit c d (next_goes c) is
+    begins next_unit done c _ next_goes none (ap (list_at next_unit) same)
 
 pub units_follow : (c : Ahead) → list_at next_unit c ≡ list_cases next_unit c
 units_follow c = list_follows next_unit next_goes c

@@ -38,7 +38,7 @@ fn read_spec(cursor: &mut Cursor<'_>, forms: &FormTable) -> Result<Option<Spec>,
 }
 
 /// Reads attributes up to the end of their list, and puts them to the end of another.
-#[tactic(auto, using(crate::proofs::ListedLemmas::none_added, crate::proofs::ListedLemmas::starts_here, crate::proofs::ListedLemmas::starts_more, crate::proofs::ListedLemmas::added_more, crate::proofs::AbbrevLemmas::specs_begin, crate::proofs::AbbrevLemmas::specs_more, crate::proofs::AbbrevLemmas::specs_refused, crate::proofs::AbbrevLemmas::specs_shorter))]
+#[tactic(auto, using(crate::proofs::ListedLemmas::none_added, crate::proofs::ListedLemmas::starts_here, crate::proofs::ListedLemmas::starts_more, crate::proofs::ListedLemmas::added_more, crate::proofs::AbbrevLemmas::specs_begin, crate::proofs::BehindLemmas::goes_on, crate::proofs::BehindLemmas::ends, crate::proofs::BehindLemmas::refuses, crate::proofs::BehindLemmas::shorter))]
 fn read_specs(
     specs: &mut Vec<Spec>,
     cursor: &mut Cursor<'_>,

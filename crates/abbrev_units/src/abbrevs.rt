@@ -46,7 +46,7 @@ impl Model for AbbrevList {
 }
 
 /// Reads abbreviations up to the end of their list.
-#[tactic(auto, using(crate::proofs::AbbrevLemmas::abbrevs_shorter, crate::proofs::ListedLemmas::reads_begin, crate::proofs::ListedLemmas::reads_more, crate::proofs::ListedLemmas::reads_end, crate::proofs::ListedLemmas::reads_stopped))]
+#[tactic(auto, using(crate::proofs::AbbrevLemmas::abbrevs_shorter, crate::proofs::ListedLemmas::reads_begin, crate::proofs::ListedLemmas::reads_more, crate::proofs::ListedLemmas::reads_held, crate::proofs::ListedLemmas::reads_end, crate::proofs::ListedLemmas::reads_stopped))]
 fn read_list(
     heads: &mut Vec<Head>,
     lists: &mut Lists,
@@ -58,11 +58,10 @@ fn read_list(
     ensures read { LeavesAt result (abbrevs_in lists.new.specs.items heads.new.items) cursor.new (used_at forms.now cursor.old) }
 {
     'abbrevs: loop {
-        match read_abbrev(lists, cursor, forms) {
-            Ok(Some(head)) => heads.push(head)?,
-            Ok(None) => return Ok(()),
-            Err(stop) => return Err(stop),
-        }
+        let Some(head) = read_abbrev(lists, cursor, forms)? else {
+            return Ok(());
+        };
+        heads.push(head)?;
     }
 }
 

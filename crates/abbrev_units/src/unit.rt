@@ -178,7 +178,7 @@ fn next_unit(cursor: &mut Cursor<'_>) -> Result<Option<Unit>, DwarfFault>
 /// 4, 7.5.1.1). A unit of another version than 4 and 5 is skipped, and a type unit or a split unit is
 /// passed. Faults are in `.debug_info`: `Ends` where a field leaves the unit, at the field, and where a
 /// length leaves the section, at the unit's start; `Reserved`, `UnitType` and `AddressSize` at its start.
-#[tactic(auto, using(crate::proofs::UnitLemmas::units_begin, crate::proofs::UnitLemmas::units_more, crate::proofs::UnitLemmas::units_end, crate::proofs::UnitLemmas::units_refused, crate::proofs::UnitLemmas::units_shorter))]
+#[tactic(auto, unfolding(crate::specs::Units::units_in), using(crate::proofs::UnitLemmas::units_begin, crate::proofs::BehindLemmas::goes_on, crate::proofs::BehindLemmas::ends, crate::proofs::BehindLemmas::refuses, crate::proofs::BehindLemmas::shorter))]
 pub fn units(alloc: Global, info: &[u8]) -> Result<UnitList, Stop<DwarfFault>>
     ensures { Gives result (units_in info.now) }
 {

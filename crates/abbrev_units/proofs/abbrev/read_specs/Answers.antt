@@ -1,10 +1,7 @@
-use Rattle.std.proofs.Common.{Ok, Option, length, drop, sym, ap, ◌∙◌}
-use Rattle.abbrev_units.specs.SpecFields.{SpecFields}
-use Rattle.abbrev_units.specs.internal.Used.{used_specs_at}
-use Rattle.abbrev_units.proofs.AbbrevLemmas.{specs_end}
+use Rattle.abbrev_units.specs.internal.Used.{used_spec_at}
+use Rattle.abbrev_units.proofs.BehindLemmas.{ends}
 use Rattle.abbrev_units.proofs.abbrev.read_specs.Goals as goal
 
 pub returns-in-Ok-None-clause-read : goal.returns-in-Ok-None-clause-read
 returns-in-Ok-None-clause-read c =
-    specs_end c.args.forms.now (drop (length c.args.specs.now.items) c.specs.specs.items) c.specs.cursor c.read_spec.new.cursor (used_specs_at c.args.forms.now c.args.cursor.now) c.specs.invariant.rest
-    (ap (λ (next : Option SpecFields). Ok (next, c.read_spec.new.cursor)) (sym c.in-Ok-None.field-0-is) ∙ c.in-Ok-None.ensures)
+    ends (used_spec_at c.args.forms.now) _ c.specs.cursor c.read_spec.new.cursor c.in-Ok-None.field-0 _ c.specs.invariant.rest c.in-Ok-None.ensures c.in-Ok-None.field-0-is

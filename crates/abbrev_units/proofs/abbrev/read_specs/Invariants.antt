@@ -1,14 +1,14 @@
-use Rattle.std.proofs.Common.{◌≡◌, length, drop}
+use Rattle.std.proofs.Common.{length, drop}
 use Rattle.abbrev_units.specs.internal.Listed.{Starts}
-use Rattle.abbrev_units.specs.internal.Used.{used_specs_at}
-use Rattle.abbrev_units.proofs.AbbrevLemmas.{specs_behind}
+use Rattle.abbrev_units.specs.internal.Used.{used_spec_at, used_specs_at}
+use Rattle.abbrev_units.proofs.BehindLemmas.{Behind}
 use Rattle.abbrev_units.proofs.abbrev.read_specs.Given as goal
 
 abbrev pub invariant-specs : goal.invariant-specs
 invariant-specs l =
     record {
       starts : Starts l.initial.specs.items l.specs.items;
-      rest : specs_behind l.forms (drop (length l.initial.specs.items) l.specs.items) l.cursor ≡ used_specs_at l.forms l.initial.cursor;
+      rest : Behind (used_spec_at l.forms) (drop (length l.initial.specs.items) l.specs.items) l.cursor (used_specs_at l.forms l.initial.cursor);
     }
 
 abbrev pub decreases-specs : goal.decreases-specs
