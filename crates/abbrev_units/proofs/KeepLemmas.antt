@@ -42,9 +42,6 @@ keeps_plain s (value.Block start len) = block_kept s start len
 keeps_plain s value.Other = other_kept s
 keeps_plain s _ = refl
 
-pub keeps_value : (s : Slot) (v : Value) (class kept : Class) (n : ℕ) → value_in class n ≡ plain_of v → value_in kept n ≡ option_and_then (kept_by s) (value_in class n) → value_in kept n ≡ kept_by s v
-keeps_value s v class kept n is keeps = keeps ∙ ap (option_and_then (kept_by s)) is ∙ keeps_plain s v
-
 -- the operands of layouts
 abbrev operand_or : Operand → Result (Operand × Ahead) CursorFault → Operand
 operand_or old (Ok x) = x.0

@@ -32,6 +32,7 @@ pub fn values_pass()
 
 /// The units of a section stand one after the other, up to its end; those that are read have their
 /// entries in the section, after their header.
+#[tactic(auto, using(crate::proofs::UnitPlaceLemmas::units_follow, crate::proofs::UnitPlaceLemmas::units_inside))]
 pub fn units_stand_one_after_the_other()
     ensures follow { (info : List ℕ) (units : List Unit) → units_in info ≡ Ok units → Follow 0 (length info) units }
     ensures inside { (info : List ℕ) (units : List Unit) → units_in info ≡ Ok units → AllByRecursion (IsInside (length info)) (read_units units) }

@@ -25,22 +25,7 @@ same_value : (sections : DebugSections) (unit : Unit) (base : Option ℕ) (x : O
 unfolding text_of
 same_value sections unit base None = record { said = refl; link = refl; count = refl; offset = refl; text = refl; elsewhere = refl }
 same_value sections unit base (Some (value.Addr n)) = record { said = refl; link = refl; count = refl; offset = refl; text = refl; elsewhere = refl }
-same_value sections unit base (Some (value.Block start len)) = record { said = refl; link = refl; count = refl; offset = refl; text = refl; elsewhere = refl }
-same_value sections unit base (Some (value.Num n)) = record { said = refl; link = refl; count = refl; offset = refl; text = refl; elsewhere = refl }
-same_value sections unit base (Some (value.Signed n)) = record { said = refl; link = refl; count = refl; offset = refl; text = refl; elsewhere = refl }
-same_value sections unit base (Some (value.Flag n)) = record { said = refl; link = refl; count = refl; offset = refl; text = refl; elsewhere = refl }
-same_value sections unit base (Some (value.InlineText n)) = record { said = refl; link = refl; count = refl; offset = refl; text = refl; elsewhere = refl }
-same_value sections unit base (Some (value.StrAt n)) = record { said = refl; link = refl; count = refl; offset = refl; text = refl; elsewhere = refl }
-same_value sections unit base (Some (value.LineStrAt n)) = record { said = refl; link = refl; count = refl; offset = refl; text = refl; elsewhere = refl }
-same_value sections unit base (Some (value.SupStrAt n)) = record { said = refl; link = refl; count = refl; offset = refl; text = refl; elsewhere = refl }
-same_value sections unit base (Some (value.StrIndex n)) = record { said = refl; link = refl; count = refl; offset = refl; text = refl; elsewhere = refl }
-same_value sections unit base (Some (value.AddrIndex n)) = record { said = refl; link = refl; count = refl; offset = refl; text = refl; elsewhere = refl }
-same_value sections unit base (Some (value.UnitRef n)) = record { said = refl; link = refl; count = refl; offset = refl; text = refl; elsewhere = refl }
-same_value sections unit base (Some (value.InfoRef n)) = record { said = refl; link = refl; count = refl; offset = refl; text = refl; elsewhere = refl }
-same_value sections unit base (Some (value.SupRefAt n)) = record { said = refl; link = refl; count = refl; offset = refl; text = refl; elsewhere = refl }
-same_value sections unit base (Some (value.SecOffset n)) = record { said = refl; link = refl; count = refl; offset = refl; text = refl; elsewhere = refl }
-same_value sections unit base (Some (value.ListIndex n)) = record { said = refl; link = refl; count = refl; offset = refl; text = refl; elsewhere = refl }
-same_value sections unit base (Some value.Other) = record { said = refl; link = refl; count = refl; offset = refl; text = refl; elsewhere = refl }
+same_value sections unit base (Some _) = record { said = refl; link = refl; count = refl; offset = refl; text = refl; elsewhere = refl }
 
 same : (sections : DebugSections) (unit : Unit) (base : Option ℕ) (values : List Given) (attribute : ℕ) → Same sections unit base (first_of attribute values)
 same sections unit base values attribute = same_value sections unit base (first_of attribute values)

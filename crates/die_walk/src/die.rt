@@ -50,10 +50,7 @@ fn text_from(bytes: &[u8], place: u32) -> &[u8]
     ensures { Some result.now ≡ text_from bytes.now place }
 {
     let rest = bytes_from(bytes, place as usize);
-    match text_in(rest, 0) {
-        Some(text) => text,
-        None => rest,
-    }
+    text_in(rest, 0).unwrap_or(rest)
 }
 
 /// A text by where it stands.
@@ -83,10 +80,7 @@ fn is_text_home(home: Home) -> bool
 fn target_of(head: &Head, link: u8) -> Option<u32>
     ensures { result ≡ where_said (link_of head.now == link) head.now.target }
 {
-    if head.link() != link {
-        return None;
-    }
-    Some(head.target)
+    (head.link() == link).then_some(head.target)
 }
 
 /// The value of a class and a number.
@@ -159,10 +153,7 @@ impl<'t, 'a> Die<'t, 'a> {
     pub fn parent(&self) -> Option<u32>
         ensures { result ≡ self.now.parent }
     {
-        if self.head.has_parent() {
-            return Some(self.head.parent);
-        }
-        None
+        self.head.has_parent().then_some(self.head.parent)
     }
 
     #[inline]
@@ -179,10 +170,8 @@ impl<'t, 'a> Die<'t, 'a> {
         if let Some(wide) = wide_of(self.parts, self.head) {
             return wide.low.value();
         }
-        match site_of(self.parts, self.head) {
-            Some(site) => value_of(site.low_class, site.low),
-            None => None,
-        }
+        let site = site_of(self.parts, self.head)?;
+        value_of(site.low_class, site.low)
     }
 
     /// An address, the number of one, or a length.
@@ -192,10 +181,8 @@ impl<'t, 'a> Die<'t, 'a> {
         if let Some(wide) = wide_of(self.parts, self.head) {
             return wide.high.value();
         }
-        match site_of(self.parts, self.head) {
-            Some(site) => value_of(site.high_class, u64::from(site.more)),
-            None => None,
-        }
+        let site = site_of(self.parts, self.head)?;
+        value_of(site.high_class, u64::from(site.more))
     }
 
     /// The place or the number of a range list.
@@ -205,10 +192,8 @@ impl<'t, 'a> Die<'t, 'a> {
         if let Some(wide) = wide_of(self.parts, self.head) {
             return wide.ranges.value();
         }
-        match site_of(self.parts, self.head) {
-            Some(site) => value_of(site.ranges_class, u64::from(site.more)),
-            None => None,
-        }
+        let site = site_of(self.parts, self.head)?;
+        value_of(site.ranges_class, u64::from(site.more))
     }
 
     /// The place in `.debug_info` of the abstract entry, counted through both files: 2^31 where it leaves its file.
@@ -275,10 +260,7 @@ impl<'t, 'a> Die<'t, 'a> {
         if let Some(wide) = wide_of(self.parts, self.head) {
             return wide.call_file;
         }
-        match site_of(self.parts, self.head) {
-            Some(site) => site.call_file(),
-            None => None,
-        }
+        site_of(self.parts, self.head)?.call_file()
     }
 
     pub fn call_line(&self) -> u32

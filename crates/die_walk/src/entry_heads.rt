@@ -94,10 +94,8 @@ fn place_by_index(
     requires { length sections.now.strs ≤ 2 ^ 29 }
     ensures { FitsPlace sections.now.strs result (option_and_then (text_in sections.now.strs) (text_place sections.now.str_offsets unit.now.wide base index)) }
 {
-    match text_place(sections.str_offsets, unit.wide, base, index) {
-        Some(place) => place_in(sections.strs, place),
-        None => None,
-    }
+    let place = text_place(sections.str_offsets, unit.wide, base, index)?;
+    place_in(sections.strs, place)
 }
 
 /// Where a text of a section stands.

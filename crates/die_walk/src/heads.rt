@@ -149,11 +149,7 @@ impl Site {
     pub fn call_file(&self) -> Option<u64>
         ensures { result ≡ self.now.call_file }
     {
-        if self.has_call_file {
-            Some(u64::from(self.call_file))
-        } else {
-            None
-        }
+        self.has_call_file.then_some(u64::from(self.call_file))
     }
 }
 
@@ -354,10 +350,7 @@ impl<'a> EntryList<'a> {
     pub fn get(&self, entry: usize) -> Option<Die<'_, 'a>>
         ensures { result ≡ slice_get self.now.dies entry }
     {
-        match self.heads.get(entry) {
-            Some(head) => Some(Die::of(&self.parts, head)),
-            None => None,
-        }
+        Some(Die::of(&self.parts, self.heads.get(entry)?))
     }
 
     /// How many entries begin before a place, by halves.

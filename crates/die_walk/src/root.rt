@@ -58,10 +58,9 @@ fn text_of<'a>(
 ) -> Option<&'a [u8]>
     ensures { option_copied result ≡ text_by sections.now unit.now base value }
 {
-    match value {
-        Some(Value::SupStrAt(place)) => text_in(sections.sup_strs?, place),
-        Some(value) => read_text(sections, sections.info, unit.wide, base, value),
-        None => None,
+    match value? {
+        Value::SupStrAt(place) => text_in(sections.sup_strs?, place),
+        value => read_text(sections, sections.info, unit.wide, base, value),
     }
 }
 

@@ -20,15 +20,11 @@ fn scope_from(
     let mut limit = entry;
     let mut next = parent;
     'around: loop {
-        let Some(number) = next else {
-            return None;
-        };
+        let number = next?;
         if number as usize >= limit {
             return None;
         }
-        let Some(die) = entries.get(number as usize) else {
-            return None;
-        };
+        let die = entries.get(number as usize)?;
         if die.is_scope() {
             return Some(number);
         }
@@ -47,27 +43,12 @@ pub fn scope_of(entries: &EntryList<'_>, near: &[Option<u32>], entry: usize) -> 
     requires { AreNear entries.now.dies near.now }
     ensures { result ≡ scope_of entries.now.dies entry }
 {
-    match entries.get(entry) {
-        Some(die) => scope_from(entries, near, entry, die.parent()),
-        None => None,
-    }
-}
-
-/// The nearest scope around each entry.
-#[tactic(auto, using(crate::proofs::ScopeLemmas::near_none, crate::proofs::ScopeLemmas::near_more))]
-fn all_scopes(alloc: Global, entries: &EntryList<'_>) -> Result<Vec<Option<u32>>, OutOfMemory>
-    ensures { IfOk result (λ near. AreNear entries.now.dies near.items) }
-{
-    let mut near = Vec::with_capacity(alloc, entries.len())?;
-    'entries: for entry in 0..entries.len() {
-        let scope = scope_of(entries, near.as_slice(), entry);
-        near.push(scope)?;
-    }
-    Ok(near)
+    let die = entries.get(entry)?;
+    scope_from(entries, near, entry, die.parent())
 }
 
 /// The nearest scope around each entry where the tree is deep, and of none where the way up is short.
-#[tactic(auto, using(crate::proofs::ScopeLemmas::near_none))]
+#[tactic(auto, using(crate::proofs::ScopeLemmas::near_none, crate::proofs::ScopeLemmas::near_more))]
 pub fn list_scopes(
     alloc: Global,
     entries: &EntryList<'_>,
@@ -78,5 +59,10 @@ pub fn list_scopes(
     if !is_deep {
         return Ok(Vec::new(alloc));
     }
-    all_scopes(alloc, entries)
+    let mut near = Vec::with_capacity(alloc, entries.len())?;
+    'entries: for entry in 0..entries.len() {
+        let scope = scope_of(entries, near.as_slice(), entry);
+        near.push(scope)?;
+    }
+    Ok(near)
 }

@@ -112,15 +112,6 @@ impl<'a> DieTable<'a> {
     }
 }
 
-/// A cursor over the entries of a unit.
-fn entries_of<'a>(sections: &Sections<'a>, unit: &Unit) -> Cursor<'a>
-    requires ordered { unit.now.body ≤ unit.now.end }
-    requires inside { unit.now.end ≤ length sections.now.info }
-    ensures { result ≡ entries_ahead sections.now unit.now }
-{
-    Cursor::new(sections.info, unit.body as usize, unit.end as usize)
-}
-
 /// The walk from a state that has nothing yet. It stands alone, so that its loop has the registers for itself.
 #[inline(never)]
 #[tactic(auto, using(crate::proofs::WalkLemmas::walked_start, crate::proofs::WalkLemmas::walked_more, crate::proofs::WalkLemmas::walked_end, crate::proofs::WalkLemmas::walked_stopped, crate::proofs::WalkLemmas::step_short, crate::proofs::WalkLemmas::step_shorter, crate::proofs::WalkLemmas::short_start))]
@@ -177,8 +168,7 @@ pub fn walk<'a>(
     }
     let room = unit.end.saturating_sub(unit.body) / BYTES_A_KEPT_ENTRY;
     let mut walker = Walker::with_room(alloc, sections, unit, room as usize)?;
-    match walk_all(&mut walker, abbrevs, entries_of(sections, unit)) {
-        Ok(()) => Ok(walker.into_table(alloc)?),
-        Err(stop) => Err(stop),
-    }
+    let entries = Cursor::new(sections.info, unit.body as usize, unit.end as usize);
+    walk_all(&mut walker, abbrevs, entries)?;
+    Ok(walker.into_table(alloc)?)
 }

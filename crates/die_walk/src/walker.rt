@@ -1,5 +1,6 @@
 //! The walk over the entries of a unit.
 ghost use Rattle.std.specs.Prelude.{◌≡◌, ◌<◌, ◌≤◌, ◌-◌, ◌+◌, ◌^◌, ◌==◌, if◌then◌else◌, Some, true, false, [], length, OnOk, IfOk};
+ghost use Rattle.sym_edges.specs.declared.fault.Stop.TheVariants.{Fault};
 ghost use Rattle.abbrev_units.specs.DebugSections.{first_place};
 ghost use Rattle.abbrev_units.specs.KeptTags.{is_kept_tag};
 ghost use Rattle.abbrev_units.specs.Picks.{no_picks};
@@ -47,19 +48,19 @@ impl<'w, 'a> Model for Walker<'w, 'a> {
     ghost invariant = { λ w. (w.dies.homes ≡ homes_of w.sections.now) × AreSmall (homes_of w.sections.now) };
 }
 
-/// The fault of a value.
+/// The stop at a value.
 #[tactic(auto, unfolding(crate::specs::Marks::value_fault))]
-fn value_fault(fault: FormFault) -> DwarfFault
-    ensures { result ≡ value_fault fault }
+fn value_stop(fault: FormFault) -> Stop<DwarfFault>
+    ensures { result ≡ Fault (value_fault fault) }
 {
-    match fault {
+    Stop::Fault(match fault {
         FormFault::Cursor(fault) => in_section(Sect::Info, fault),
         FormFault::Unknown { at } => Located {
             kind: DwarfKind::UnknownForm,
             section: Sect::Info,
             at,
         },
-    }
+    })
 }
 
 #[inline]
@@ -264,15 +265,10 @@ impl<'w, 'a> Walker<'w, 'a> {
     {
         if !self.keeps(found) {
             picks.clear();
-            return match found.skip(cursor) {
-                Ok(()) => Ok(false),
-                Err(fault) => Err(Stop::Fault(value_fault(fault))),
-            };
+            found.skip(cursor).map_err(value_stop)?;
+            return Ok(false);
         }
-        match found.read_picks(picks, cursor) {
-            Ok(()) => {}
-            Err(fault) => return Err(Stop::Fault(value_fault(fault))),
-        }
+        found.read_picks(picks, cursor).map_err(value_stop)?;
         self.add_any(picks, at, found.tag())?;
         Ok(true)
     }
