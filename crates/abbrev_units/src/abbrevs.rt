@@ -231,17 +231,13 @@ impl Abbrevs {
         self.dense = 0;
         self.list.read(cursor, forms)?;
         let dense = count_dense(&self.list);
-        match places_of(alloc, &self.list, dense) {
-            Ok(places) => {
-                self.dense = dense;
-                self.places = places;
-                Ok(())
-            }
-            Err(OutOfMemory) => {
-                self.list.clear();
-                Err(Stop::NoMemory)
-            }
-        }
+        let Ok(places) = places_of(alloc, &self.list, dense) else {
+            self.list.clear();
+            return Err(Stop::NoMemory);
+        };
+        self.dense = dense;
+        self.places = places;
+        Ok(())
     }
 
     /// The first abbreviation of a code. Takes no memory.

@@ -19,13 +19,9 @@ pub fn read_known(
     ensures read { gave result cursor.new ≡ value_by row implicit cursor.old }
     ensures kept { OnErr result (cursor.new ≡ cursor.old) }
 {
-    match row {
-        Some(row) => {
-            let operand = read_kind(cursor, row.layout)?;
-            Ok(value_of(row.class, implicit, operand))
-        }
-        None => Err(FormFault::Unknown { at: cursor.at() }),
-    }
+    let row = row.ok_or(FormFault::Unknown { at: cursor.at() })?;
+    let operand = read_kind(cursor, row.layout)?;
+    Ok(value_of(row.class, implicit, operand))
 }
 
 /// Reads a form and the value after it. A refused call leaves the cursor where it was.

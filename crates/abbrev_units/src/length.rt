@@ -43,9 +43,7 @@ fn read_behind(cursor: &mut Cursor<'_>, first: u32) -> Result<InitialLength, Hea
     if first != 0xffff_ffff {
         return Err(HeaderFault::Start(DwarfKind::Reserved));
     }
-    let Ok(count) = cursor.u64() else {
-        return Err(HeaderFault::Start(DwarfKind::Ends));
-    };
+    let count = cursor.u64().or(Err(HeaderFault::Start(DwarfKind::Ends)))?;
     Ok(InitialLength { count, wide: true })
 }
 
@@ -53,9 +51,7 @@ fn read_behind(cursor: &mut Cursor<'_>, first: u32) -> Result<InitialLength, Hea
 fn read_length(cursor: &mut Cursor<'_>) -> Result<InitialLength, HeaderFault>
     ensures { gave result cursor.new ≡ length_at cursor.old }
 {
-    let Ok(first) = cursor.u32() else {
-        return Err(HeaderFault::Start(DwarfKind::Ends));
-    };
+    let first = cursor.u32().or(Err(HeaderFault::Start(DwarfKind::Ends)))?;
     read_behind(cursor, first)
 }
 
@@ -68,9 +64,9 @@ pub fn read_contents<'a>(cursor: &mut Cursor<'a>) -> Result<Contents<'a>, Header
 {
     let mut probe = cursor.fork();
     let length = read_length(&mut probe)?;
-    let Ok(ahead) = probe.part(length.count) else {
-        return Err(HeaderFault::Start(DwarfKind::Ends));
-    };
+    let ahead = probe
+        .part(length.count)
+        .or(Err(HeaderFault::Start(DwarfKind::Ends)))?;
     *cursor = probe;
     Ok(Contents {
         wide: length.wide,

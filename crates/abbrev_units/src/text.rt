@@ -66,22 +66,14 @@ fn indexed(base: u64, width: u64, index: u64) -> Option<u64>
     base.checked_add(index.checked_mul(width)?)
 }
 
-/// The place that stands as number `index` from a base on.
-#[inline]
-#[tactic(auto, using(crate::proofs::TextLemmas::number_beyond))]
-fn place_by_index(bytes: &[u8], wide: bool, base: u64, index: u64) -> Option<u64>
-    ensures { result ≡ number_in (place_width wide) bytes.now (base + place_width wide * index) }
-{
-    let width = if wide { 8 } else { 4 };
-    place_in(bytes, indexed(base, width, index)?, wide)
-}
-
 /// The place of a text by its number, from the unit's base in `.debug_str_offsets` on (DWARF 5, 7.26); none without a base.
 #[inline]
+#[tactic(auto, using(crate::proofs::TextLemmas::number_beyond))]
 pub fn text_place(offsets: &[u8], wide: bool, base: Option<u64>, index: u64) -> Option<u64>
     ensures { result ≡ text_place offsets.now wide base index }
 {
-    place_by_index(offsets, wide, base?, index)
+    let width = if wide { 8 } else { 4 };
+    place_in(offsets, indexed(base?, width, index)?, wide)
 }
 
 /// The text of a value of class string: `home` is the section in which the value stands, `wide` says

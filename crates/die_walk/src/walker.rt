@@ -268,7 +268,10 @@ impl<'w, 'a> Walker<'w, 'a> {
             found.skip(cursor).map_err(value_stop)?;
             return Ok(false);
         }
-        found.read_picks(picks, cursor).map_err(value_stop)?;
+        match found.read_picks(picks, cursor) {
+            Ok(()) => {}
+            Err(fault) => return Err(value_stop(fault)),
+        }
         self.add_any(picks, at, found.tag())?;
         Ok(true)
     }
