@@ -1,5 +1,5 @@
 -- How far abbreviations go, and their lists as loops make them.
-use Rattle.std.proofs.Common.{◌≡◌, ◌<◌, ℕ, zero, suc, Bool, nat_eq, pos, List, [], ◌∷◌, ◌++◌, length, Option, None, Some, Result, Ok, Err, refl, sym, ap, ◌∙◌, arith}
+use Rattle.std.proofs.Common.{◌≡◌, ◌<◌, ℕ, zero, suc, Bool, nat_eq, pos, List, [], ◌∷◌, length, Option, None, Some, Result, Ok, Err, refl, sym, ap, ◌∙◌, arith}
 use Rattle.sym_edges.specs.declared.fault.Stop.{Stop}
 use Rattle.sym_edges.specs.declared.fault.Stop.TheVariants.{Fault, NoMemory}
 use Rattle.sym_edges.specs.Results.{◌>>=◌}
@@ -9,7 +9,7 @@ use Rattle.leb_cursor.specs.Passes.{Passes}
 use Rattle.leb_cursor.specs.Readings.{fixed_at, uleb_at, sleb_at}
 use Rattle.leb_cursor.specs.Lists.{list_by, list_in, list_at, list_cases, GoesOn}
 use Rattle.leb_cursor.proofs.PassLemmas.{fixed_passes, uleb_passes, sleb_passes, passes_then}
-use Rattle.leb_cursor.proofs.ListLemmas.{weaker, either_passes, behind, none_behind, list_more, list_ends, list_refused, list_follows, list_passes, goes_of, shorter_by}
+use Rattle.leb_cursor.proofs.ListLemmas.{weaker, either_passes, list_follows, list_passes, goes_of, shorter_by}
 use Rattle.abbrev_units.specs.Faults.{GivesAt}
 use Rattle.abbrev_units.specs.SpecFields.{AttributeSpec, SpecFields, Abbrev}
 use Rattle.abbrev_units.specs.Abbreviations.{implicit_at, spec_at, abbrev_by, abbrev_at, used_spec, used_abbrev, used_at}

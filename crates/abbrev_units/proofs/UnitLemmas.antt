@@ -1,9 +1,8 @@
 -- How far a unit goes, and the list of units as a loop makes it.
-use Rattle.std.proofs.Common.{◌≡◌, ◌<◌, ◌+◌, ℕ, Bool, true, false, nat_eq, nat_lt, cond, List, [], ◌∷◌, ◌++◌, length, take, None, Some, Result, Ok, Err, refl, sym, ap, ◌∙◌, arith}
+use Rattle.std.proofs.Common.{◌≡◌, ◌+◌, ℕ, Bool, true, false, nat_eq, nat_lt, cond, List, [], length, take, None, Some, Result, Ok, Err, refl, ap, ◌∙◌, arith}
 use Rattle.sym_edges.specs.Results.{◌>>=◌}
 use Rattle.sym_edges.specs.declared.part.Sect.{Sect}
 use Rattle.sym_edges.specs.declared.part.Sect.TheVariants.{Info}
-use Rattle.sym_edges.specs.declared.located.Located.{Located}
 use Rattle.leb_cursor.specs.declared.fault.CursorFault.{CursorFault}
 use Rattle.leb_cursor.specs.Ahead.{Ahead}
 use Rattle.leb_cursor.specs.Passes.{Passes}
@@ -11,7 +10,7 @@ use Rattle.leb_cursor.specs.Readings.{fixed_at, part_at}
 use Rattle.leb_cursor.specs.Lists.{list_at, list_cases, GoesOn}
 use Rattle.leb_cursor.proofs.PassLemmas.{fixed_passes, part_passes, passes_then}
 use Rattle.std.proofs.Math.Seq.{take-length}
-use Rattle.leb_cursor.proofs.ListLemmas.{weaker, either_passes, behind, none_behind, list_more, list_ends, list_refused, list_follows, shorter_by}
+use Rattle.leb_cursor.proofs.ListLemmas.{weaker, either_passes, list_follows}
 use Rattle.abbrev_units.specs.declared.fault.DwarfKind.{DwarfKind}
 use Rattle.abbrev_units.specs.declared.fault.DwarfKind.TheVariants as is
 use Rattle.abbrev_units.specs.declared.fault.HeaderFault.{HeaderFault}
@@ -20,7 +19,7 @@ use Rattle.abbrev_units.specs.declared.unit.Unit.{Unit}
 use Rattle.abbrev_units.specs.Faults.{as_header, or_start}
 use Rattle.abbrev_units.specs.InitialLength.{length_by, length_at, contents_at}
 use Rattle.abbrev_units.proofs.BehindLemmas.{Behind, begins}
-use Rattle.abbrev_units.specs.Units.{unit_in, header_at, unit_at, next_unit, units_in}
+use Rattle.abbrev_units.specs.Units.{unit_in, header_at, unit_at, next_unit}
 
 -- readings that differ in their fault alone go as far
 start_passes : {A : Type 0} (kind : DwarfKind) (reading : Result (A × Ahead) CursorFault) (least : ℕ) (c : Ahead) → Passes least c reading → Passes least c (or_start kind reading)

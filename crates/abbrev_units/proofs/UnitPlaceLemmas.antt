@@ -1,10 +1,9 @@
 -- Units stand one after the other, and their entries after their headers. Serves the law of their places.
-use Rattle.std.proofs.Common.{◌≡◌, ◌<◌, ◌≤◌, ◌+◌, ℕ, zero, suc, Bool, true, false, nat_eq, nat_lt, cond, List, [], ◌∷◌, length, take, Option, None, Some, Result, Ok, Err, IfOk, refl, sym, ap, subst, ◌∙◌, arith, length-take-le}
+use Rattle.std.proofs.Common.{◌≡◌, ◌≤◌, ◌+◌, ℕ, zero, suc, Bool, true, false, nat_eq, nat_lt, cond, List, [], ◌∷◌, length, take, Option, None, Some, Result, Ok, Err, IfOk, refl, sym, ap, subst, ◌∙◌, arith, length-take-le}
 use Rattle.std.proofs.lemmas.Bool.{ltb-false}
 use Rattle.std.proofs.lemmas.Result.{IfOk-at_ok}
 use Rattle.std.specs.List.{AllByRecursion}
 use Rattle.sym_edges.specs.Results.{◌>>=◌}
-use Rattle.sym_edges.specs.declared.located.Located.{Located}
 use Rattle.sym_edges.specs.declared.part.Sect.TheVariants.{Info}
 use Rattle.leb_cursor.specs.declared.fault.CursorFault.{CursorFault}
 use Rattle.leb_cursor.specs.Ahead.{Ahead, passed}
@@ -12,10 +11,8 @@ use Rattle.leb_cursor.specs.Passes.{Passes}
 use Rattle.leb_cursor.specs.Readings.{fixed_at, take_at, part_at}
 use Rattle.leb_cursor.specs.Lists.{list_by, list_in, list_at, GoesOn}
 use Rattle.leb_cursor.proofs.PassLemmas.{fixed_passes, take_passes}
-use Rattle.abbrev_units.specs.declared.fault.DwarfKind.{DwarfKind}
 use Rattle.abbrev_units.specs.declared.fault.DwarfKind.TheVariants as is
 use Rattle.abbrev_units.specs.declared.fault.HeaderFault.{HeaderFault}
-use Rattle.abbrev_units.specs.declared.fault.HeaderFault.TheVariants.{Start}
 use Rattle.abbrev_units.specs.declared.unit.Frame.{Frame}
 use Rattle.abbrev_units.specs.declared.unit.Unit.{Unit}
 use Rattle.abbrev_units.specs.declared.unit.UnitPart.{UnitPart}

@@ -58,14 +58,6 @@ pub fn place_in(bytes: &[u8], place: u64, wide: bool) -> Option<u64>
     read_place(&mut cursor, wide).ok()
 }
 
-/// So many places of a width after a base, where that is below 2^64.
-#[inline]
-fn indexed(base: u64, width: u64, index: u64) -> Option<u64>
-    ensures { MatchOption result (2 ^ 64 ≤ base + width * index) (λ place. place ≡ base + width * index) }
-{
-    base.checked_add(index.checked_mul(width)?)
-}
-
 /// The place of a text by its number, from the unit's base in `.debug_str_offsets` on (DWARF 5, 7.26); none without a base.
 #[inline]
 #[tactic(auto, using(crate::proofs::TextLemmas::number_beyond))]
@@ -73,7 +65,8 @@ pub fn text_place(offsets: &[u8], wide: bool, base: Option<u64>, index: u64) -> 
     ensures { result ≡ text_place offsets.now wide base index }
 {
     let width = if wide { 8 } else { 4 };
-    place_in(offsets, indexed(base?, width, index)?, wide)
+    let place = base?.checked_add(index.checked_mul(width)?)?;
+    place_in(offsets, place, wide)
 }
 
 /// The text of a value of class string: `home` is the section in which the value stands, `wide` says

@@ -51,29 +51,12 @@ wides_kept homes sites wides more (head ∷ heads) there =
     ∙ ap (λ (later : List DieFields). held_in homes sites wides head ∷ later) (wides_kept homes sites wides more heads there.1)
 
 -- a head with a rest says the same
-abbrev slim_by : Homes → Head → SiteFields → ℕ → ℕ → ℕ → DieFields
-slim_by homes head site parent declaration link = record {
-  at = head.at;
-  tag = head.tag;
-  parent = where_said (nat_eq parent 1) head.parent;
-  declaration = nat_eq declaration 1;
-  low = site.low;
-  high = site.high;
-  ranges = site.ranges;
-  origin = origin_said link head.target;
-  spec = spec_said link head.target;
-  name = text_at_home homes head.name_in head.name;
-  name_elsewhere = is_elsewhere_home head.name_in;
-  linkage = text_at_home homes head.linkage_in head.linkage;
-  call_file = site.call_file;
-  call_line = site.call_line;
-}
-
 slim_rest : (homes : Homes) (head : Head) (site : SiteFields) (rest number : ℕ) → slim homes (with_rest head rest number) site ≡ slim homes head site
 slim_rest homes head site rest number =
-    ap (λ n. slim_by homes head site n ((head.flags + 16 * rest) / 2 % 2) ((head.flags + 16 * rest) / 4 % 4)) (parent_kept head.flags rest)
-    ∙ ap (λ n. slim_by homes head site (head.flags % 2) n ((head.flags + 16 * rest) / 4 % 4)) (declaration_kept head.flags rest)
-    ∙ ap (λ n. slim_by homes head site (head.flags % 2) (head.flags / 2 % 2) n) (link_kept head.flags rest)
+    let parent = parent_kept head.flags rest in
+    let declaration = declaration_kept head.flags rest in
+    let link = link_kept head.flags rest in
+    cc
 
 found_here : {X : Type 0} (rest : ℕ) (head : Head) (xs : List X) → rest_of head ≡ rest → found_in rest head xs ≡ slice_get xs head.number
 found_here rest head xs is =

@@ -1,5 +1,4 @@
 use Rattle.std.proofs.Common.{Ok, sym, ap, ◌∙◌}
-use Rattle.leb_cursor.specs.Lists.{list_at}
 use Rattle.sym_edges.specs.Results.{◌>>=◌}
 use Rattle.abbrev_units.specs.Units.{next_unit, units_in}
 use Rattle.abbrev_units.proofs.BehindLemmas.{ends}

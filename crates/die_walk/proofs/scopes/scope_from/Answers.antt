@@ -4,13 +4,13 @@ use Rattle.die_walk.proofs.ScopeLemmas.{ends_none, ends_past, ends_lost, ends_fo
 use Rattle.die_walk.proofs.scopes.scope_from.Goals as goal
 
 pub returns-in_err-number : goal.returns-in_err-number
-returns-in_err-number c = ends_none c.args.entries.now.dies c.around.limit c.around.next _ c.in_err-number.was c.around.invariant
+returns-in_err-number c = c.from_residual.ensures ∙ ends_none c.args.entries.now.dies c.around.limit c.around.next _ c.in_err-number.was c.around.invariant
 
 pub returns-then-number-limit : goal.returns-then-number-limit
 returns-then-number-limit c = ends_past c.args.entries.now.dies c.around.limit c.in_ok-number.number c.around.next _ c.in_ok-number.was c.if-number-limit.true c.around.invariant
 
 pub returns-in_err-die : goal.returns-in_err-die
-returns-in_err-die c = ends_lost c.args.entries.now.dies c.around.limit c.in_ok-number.number c.around.next _ c.in_ok-number.was c.if-number-limit.false c.in_err-die.ensures c.around.invariant
+returns-in_err-die c = c.from_residual-in_err-die.ensures ∙ ends_lost c.args.entries.now.dies c.around.limit c.in_ok-number.number c.around.next _ c.in_ok-number.was c.if-number-limit.false c.in_err-die.ensures c.around.invariant
 
 pub returns-then-is_scope : goal.returns-then-is_scope
 returns-then-is_scope c =
