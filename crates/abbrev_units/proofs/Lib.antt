@@ -1,4 +1,5 @@
 mod TextLemmas
+pub mod OkLemmas
 pub mod BehindLemmas
 pub mod UnitLemmas
 pub mod UnitPlaceLemmas

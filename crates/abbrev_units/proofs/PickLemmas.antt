@@ -1,8 +1,9 @@
 -- For `Filled` and `pick_values`: the first value of each attribute goes to its slot.
-use Rattle.std.proofs.Common.{◌≡◌, ◌<◌, ◌≤◌, ◌+◌, ℕ, Bool, true, false, nat_eq, cond, List, [], ◌∷◌, ◌++◌, length, take, drop, map, get_or, find, Option, None, Some, is_some, Result, Ok, Err, refl, sym, ap, ◌∙◌, ◌||◌, arith}
+use Rattle.std.proofs.Common.{◌≡◌, ◌<◌, ◌≤◌, ◌+◌, ℕ, Bool, true, false, nat_eq, cond, List, [], ◌∷◌, ◌++◌, length, take, drop, map, get_or, find, Option, None, Some, is_some, Result, Ok, Err, IfOk, refl, sym, ap, ◌∙◌, ◌||◌, arith}
 use Rattle.std.specs.Option.{option_map}
 use Rattle.std.proofs.lemmas.Bool.Decides.{nat_tests}
 use Rattle.std.proofs.lemmas.List.{drop_more, take_all, take-append-drop, map-append}
+use Rattle.std.proofs.lemmas.Result.{IfOk-at_ok}
 use Rattle.sym_edges.specs.Results.{◌>>=◌}
 use Rattle.leb_cursor.specs.Ahead.{Ahead}
 use Rattle.abbrev_units.specs.declared.fault.FormFault.{FormFault}
@@ -14,6 +15,7 @@ use Rattle.abbrev_units.specs.Attributes.{first_of}
 use Rattle.abbrev_units.specs.Picks.{PickFields, IsSlot, first_values, is_asked, kept_by, kept_of, no_picks, pick_of, picks_at, picks_of, put_in, with_picks}
 use Rattle.abbrev_units.specs.SpecFields.{SpecFields}
 use Rattle.abbrev_units.specs.Values.{behind_values, only_ahead, value_at, values_at}
+use Rattle.abbrev_units.proofs.OkLemmas.{then_ok, then_any}
 use Rattle.abbrev_units.specs.internal.Filled.{attributes_of, fill_in, filled_by, free_in, is_among, slot_number}
 
 -- a value, unless one was there before
@@ -162,22 +164,16 @@ values_refused specs more x values c d fault front last =
     values_append specs (x ∷ more) c ∙ ap (λ r. r >>= others (x ∷ more)) front ∙ ap (λ r. (r >>= first_on x more) >>= behind values) last
 
 -- the attributes of values
-abbrev names_or : List ℕ → Result (List Given × Ahead) FormFault → List ℕ
-names_or names (Ok x) = names_of x.0
-names_or names (Err fault) = names
+abbrev AreNamed : List ℕ → List Given × Ahead → Type 0
+AreNamed names values = names_of values.0 ≡ names
 
-names_front : (front : Given) (names : List ℕ) (later : Result (List Given × Ahead) FormFault) → names_or names later ≡ names → names_or (front.attribute ∷ names) (later >>= behind (front ∷ [])) ≡ front.attribute ∷ names
-names_front front names (Ok l) is = ap (λ (n : List ℕ). front.attribute ∷ n) is
-names_front front names (Err fault) is = refl
-
-names_by : (spec : SpecFields) (specs : List SpecFields) (first : Result (Value × Ahead) FormFault) → ((c : Ahead) → names_or (attributes_of specs) (values_at specs c) ≡ attributes_of specs) → names_or (attributes_of (spec ∷ specs)) (first >>= first_on spec specs) ≡ attributes_of (spec ∷ specs)
-names_by spec specs (Ok x) later = names_front (given spec.attribute x.0) (attributes_of specs) (values_at specs x.1) (later x.1)
-names_by spec specs (Err fault) later = refl
-
-names_are : (specs : List SpecFields) (c : Ahead) → names_or (attributes_of specs) (values_at specs c) ≡ attributes_of specs
+names_are : (specs : List SpecFields) (c : Ahead) → IfOk (values_at specs c) (AreNamed (attributes_of specs))
 unfolding values_at
 names_are [] c = refl
-names_are (spec ∷ specs) c = names_by spec specs (value_at spec c) (λ d. names_are specs d)
+names_are (spec ∷ specs) c =
+    then_any (AreNamed (spec.attribute ∷ attributes_of specs)) (value_at spec c) _
+    (λ first. then_ok (AreNamed (attributes_of specs)) (AreNamed (spec.attribute ∷ attributes_of specs)) (values_at specs first.1) _ (names_are specs first.1)
+    (λ later same. ap (λ (n : List ℕ). spec.attribute ∷ n) same))
 
 -- the reading so far, and one value more
 abbrev pub picks_or : {F : Type 0} → PickFields → Result (PickFields × Ahead) F → PickFields
@@ -200,7 +196,7 @@ read_by specs c d picks (Ok x) reads is = record {
   values = x.0;
   reads = reads ∙ ap (λ (e : Ahead). Ok (x.0, e)) (ap (ahead_or d) is);
   are = ap (picks_or picks) is;
-  names = ap (names_or (attributes_of specs)) (sym reads) ∙ names_are specs c;
+  names = IfOk-at_ok (AreNamed (attributes_of specs)) reads (names_are specs c);
 }
 read_by specs c d picks (Err fault) reads is = absurd (grind (arith, is))
 

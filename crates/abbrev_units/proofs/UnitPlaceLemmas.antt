@@ -23,20 +23,12 @@ use Rattle.abbrev_units.specs.Faults.{as_field, as_header, or_start}
 use Rattle.abbrev_units.specs.InitialLength.{length_at, contents_at}
 use Rattle.abbrev_units.specs.Texts.{place_width}
 use Rattle.abbrev_units.specs.Units.{other_unit, read_unit, address_size_at, abbrev_place_at, version_4_at, id_at, version_5_by, version_5_at, is_read_type, is_passed_type, unit_by, unit_in, header_at, unit_at, next_unit, units_in}
+use Rattle.abbrev_units.proofs.OkLemmas.{then_ok, either_ok}
 use Rattle.abbrev_units.proofs.UnitLemmas.{length_passes, next_goes}
 use Rattle.abbrev_units.specs.UnitPlaces.{BodyInside, Follow, IsInside, with_read, read_units}
 
 abbrev end_of : Ahead → ℕ
 end_of c = c.at + length c.bytes
-
--- what holds of an answer, where there is one: after another, and of either of two
-then_ok : {A B E : Type 0} (P : A → Type 0) (Q : B → Type 0) (first : Result A E) (next : A → Result B E) → IfOk first P → ((x : A) → P x → IfOk (next x) Q) → IfOk (first >>= next) Q
-then_ok P Q (Ok x) next holds later = later x holds
-then_ok P Q (Err fault) next holds later = tt
-
-either_ok : {A E : Type 0} (Q : A → Type 0) (test : Bool) (given other : Result A E) → IfOk given Q → IfOk other Q → IfOk (cond test given other) Q
-either_ok Q true given other one two = one
-either_ok Q false given other one two = two
 
 -- what is ahead begins at a place or after it, and has this end
 abbrev Within : ℕ → ℕ → Ahead → Type 0

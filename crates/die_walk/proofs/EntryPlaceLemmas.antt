@@ -1,5 +1,6 @@
 -- Entries stand in their units in rising order. Serves the laws.
-use Rattle.std.proofs.Common.{◌≡◌, ◌≤◌, ◌+◌, ◌-◌, ℕ, zero, suc, Bool, true, false, nat_eq, cond, List, [], ◌∷◌, ◌++◌, map, length, take, Option, None, Some, Result, Ok, Err, refl, ap, subst, ◌∙◌, arith, length-drop, length-take-le}
+use Rattle.std.proofs.Common.{◌≡◌, ◌≤◌, ◌+◌, ◌-◌, ℕ, zero, suc, Bool, true, false, nat_eq, cond, List, [], ◌∷◌, ◌++◌, map, length, take, Option, None, Some, Result, Ok, Err, IfOk, refl, ap, subst, ◌∙◌, arith, length-drop, length-take-le}
+use Rattle.std.proofs.lemmas.Result.{IfOk-at_ok}
 use Rattle.sym_edges.specs.Results.{◌>>=◌}
 use Rattle.sym_edges.specs.declared.located.Located.{Located}
 use Rattle.sym_edges.specs.declared.part.Sect.TheVariants.{Info}
@@ -18,6 +19,7 @@ use Rattle.die_walk.specs.Marks.{Mark, read_values_at, entry_by, mark_by, mark_a
 use Rattle.die_walk.specs.Marks.Mark.{Close, Entry}
 use Rattle.die_walk.specs.EntryTree.{Item, Kept, items_from, is_kept, kept_from, ancestor, rooted}
 use Rattle.die_walk.specs.EntryTable.{DieFields, EntryTable, base_of, die_of, table_by, table_of, entries_ahead, entry_table}
+use Rattle.abbrev_units.proofs.OkLemmas.{then_ok, then_any, either_ok}
 use Rattle.die_walk.proofs.WalkLemmas.{next_goes}
 use Rattle.die_walk.specs.EntryPlaces.{RisesTo, table_places}
 
@@ -39,70 +41,50 @@ abbrev IsMarkAt : ℕ → Mark → Type 0
 IsMarkAt place Close = Prim.Unit {0}
 IsMarkAt place (Entry at tag children values) = at ≡ place
 
-abbrev MarkedAt : {E : Type 0} → ℕ → Result (Mark × Ahead) E → Type 0
-MarkedAt place (Ok x) = IsMarkAt place x.0
-MarkedAt place (Err fault) = Prim.Unit {0}
+abbrev MarkedAt : ℕ → Mark × Ahead → Type 0
+MarkedAt place x = IsMarkAt place x.0
 
-abbrev MemberAt : {E : Type 0} → ℕ → Result (Option Mark × Ahead) E → Type 0
-MemberAt place (Ok (None, d)) = Prim.Unit {0}
-MemberAt place (Ok (Some mark, d)) = IsMarkAt place mark
-MemberAt place (Err fault) = Prim.Unit {0}
+abbrev MemberAt : ℕ → Option Mark × Ahead → Type 0
+MemberAt place (None, d) = Prim.Unit {0}
+MemberAt place (Some mark, d) = IsMarkAt place mark
 
-abbrev as_entry : ℕ → Abbrev → List Given × Ahead → Result (Mark × Ahead) (Located DwarfKind)
-as_entry at found values = Ok (Entry at found.tag found.children values.0, values.1)
-
-given_place : (at : ℕ) (found : Abbrev) (reading : Result (List Given × Ahead) (Located DwarfKind)) → MarkedAt at (reading >>= as_entry at found)
-given_place at found (Ok values) = refl
-given_place at found (Err fault) = tt
-
-entry_place : (found : Option Abbrev) (at : ℕ) (c : Ahead) → MarkedAt at (entry_by found at c)
+entry_place : (found : Option Abbrev) (at : ℕ) (c : Ahead) → IfOk (entry_by found at c) (MarkedAt at)
 entry_place None at c = tt
-entry_place (Some found) at c = given_place at found (read_values_at found.specs c)
+entry_place (Some found) at c = then_any (MarkedAt at) (read_values_at found.specs c) _ (λ values. refl)
 
-coded_place : (abbrevs : List Abbrev) (at code : ℕ) (c : Ahead) (ends : Bool) → MarkedAt at (cond ends (Ok (Close, c)) (entry_by (abbrev_of code abbrevs) at c))
-coded_place abbrevs at code c true = tt
-coded_place abbrevs at code c false = entry_place (abbrev_of code abbrevs) at c
+mark_place : (abbrevs : List Abbrev) (c : Ahead) → IfOk (mark_at abbrevs c) (MarkedAt c.at)
+unfolding mark_at mark_by
+mark_place abbrevs c =
+    then_any (MarkedAt c.at) (read_in Info (uleb_at c)) _
+    (λ code. either_ok (MarkedAt c.at) (nat_eq code.0 0) (Ok (Close, code.1)) _ tt (entry_place (abbrev_of code.0 abbrevs) c.at code.1))
 
-read_place : (abbrevs : List Abbrev) (at : ℕ) (reading : Result (ℕ × Ahead) (Located DwarfKind)) → MarkedAt at (reading >>= λ code. mark_by abbrevs at code.0 code.1)
-unfolding mark_by
-read_place abbrevs at (Ok code) = coded_place abbrevs at code.0 code.1 (nat_eq code.0 0)
-read_place abbrevs at (Err fault) = tt
-
-member_place : (at : ℕ) (reading : Result (Mark × Ahead) (Located DwarfKind)) → MarkedAt at reading → MemberAt at (reading >>= λ mark. Ok (Some mark.0, mark.1))
-member_place at (Ok x) marked = marked
-member_place at (Err fault) marked = tt
-
-ended_place : (abbrevs : List Abbrev) (c : Ahead) (ended : Bool) → MemberAt c.at (cond ended (Ok (None, c)) (mark_at abbrevs c >>= λ mark. Ok (Some mark.0, mark.1)))
-unfolding mark_at
-ended_place abbrevs c true = tt
-ended_place abbrevs c false = member_place c.at (mark_at abbrevs c) (read_place abbrevs c.at (read_in Info (uleb_at c)))
-
-next_place : (abbrevs : List Abbrev) (c : Ahead) → MemberAt c.at (next_mark abbrevs c)
+next_place : (abbrevs : List Abbrev) (c : Ahead) → IfOk (next_mark abbrevs c) (MemberAt c.at)
 unfolding next_mark
-next_place abbrevs c = ended_place abbrevs c (nat_eq (length c.bytes) 0)
+next_place abbrevs c =
+    either_ok (MemberAt c.at) (nat_eq (length c.bytes) 0) (Ok (None, c)) _ tt
+    (then_ok (MarkedAt c.at) (MemberAt c.at) (mark_at abbrevs c) _ (mark_place abbrevs c) (λ mark marked. marked))
 
 -- all that stands ahead
 abbrev end_of : Ahead → ℕ
 end_of c = c.at + length c.bytes
 
-abbrev ListRises : {E : Type 0} → ℕ → ℕ → Result (List Mark × Ahead) E → Type 0
-ListRises low high (Ok x) = MarksRise low high x.0
-ListRises low high (Err fault) = Prim.Unit {0}
+abbrev ListRises : ℕ → ℕ → List Mark × Ahead → Type 0
+ListRises low high x = MarksRise low high x.0
 
-first_rises : {E : Type 0} (mark : Mark) (c d : Ahead) (later : Result (List Mark × Ahead) E) → IsMarkAt c.at mark → length d.bytes + 1 ≤ length c.bytes → end_of d ≡ end_of c → ListRises d.at (end_of d) later → ListRises c.at (end_of c) (later >>= λ rest. Ok (mark ∷ rest.0, rest.1))
-first_rises Close c d (Ok rest) place shorter same rises =
-    marks_lower c.at d.at (end_of c) rest.0 (omega (arith, shorter, same)) (subst (λ high. MarksRise d.at high rest.0) same rises)
-first_rises (Entry at tag children values) c d (Ok rest) place shorter same rises =
+first_rises : (mark : Mark) (c d : Ahead) (rest : List Mark) → IsMarkAt c.at mark → length d.bytes + 1 ≤ length c.bytes → end_of d ≡ end_of c → MarksRise d.at (end_of d) rest → MarksRise c.at (end_of c) (mark ∷ rest)
+first_rises Close c d rest place shorter same rises =
+    marks_lower c.at d.at (end_of c) rest (omega (arith, shorter, same)) (subst (λ high. MarksRise d.at high rest) same rises)
+first_rises (Entry at tag children values) c d rest place shorter same rises =
     let here : at ≡ c.at = place in
-    (omega (arith, here), omega (arith, here), marks_lower (at + 1) d.at (end_of c) rest.0 (omega (arith, shorter, same, here)) (subst (λ high. MarksRise d.at high rest.0) same rises))
-first_rises mark c d (Err fault) place shorter same rises = tt
+    (omega (arith, here), omega (arith, here), marks_lower (at + 1) d.at (end_of c) rest (omega (arith, shorter, same, here)) (subst (λ high. MarksRise d.at high rest) same rises))
 
-list_rises : {E : Type 0} (first : Result (Option Mark × Ahead) E) (later : Ahead → Result (List Mark × Ahead) E) (c : Ahead) → GoesOn c first → MemberAt c.at first → ((d : Ahead) → ListRises d.at (end_of d) (later d)) → ListRises c.at (end_of c) (first >>= λ x. list_by x.0 x.1 (later x.1))
+list_rises : {E : Type 0} (first : Result (Option Mark × Ahead) E) (later : Ahead → Result (List Mark × Ahead) E) (c : Ahead) → GoesOn c first → IfOk first (MemberAt c.at) → ((d : Ahead) → IfOk (later d) (ListRises d.at (end_of d))) → IfOk (first >>= λ x. list_by x.0 x.1 (later x.1)) (ListRises c.at (end_of c))
 list_rises (Ok (None, d)) later c goes place rises = tt
-list_rises (Ok (Some mark, d)) later c goes place rises = first_rises mark c d (later d) place goes.0 goes.1 (rises d)
+list_rises (Ok (Some mark, d)) later c goes place rises =
+    then_ok (ListRises d.at (end_of d)) (ListRises c.at (end_of c)) (later d) _ (rises d) (λ rest after. first_rises mark c d rest.0 place goes.0 goes.1 after)
 list_rises (Err fault) later c goes place rises = tt
 
-marks_rise_in : (abbrevs : List Abbrev) (n : ℕ) (c : Ahead) → ListRises c.at (end_of c) (list_in (next_mark abbrevs) n c)
+marks_rise_in : (abbrevs : List Abbrev) (n : ℕ) (c : Ahead) → IfOk (list_in (next_mark abbrevs) n c) (ListRises c.at (end_of c))
 unfolding list_in
 marks_rise_in abbrevs zero c = tt
 marks_rise_in abbrevs (suc n) c =
@@ -153,14 +135,10 @@ by_rises sections unit [] low high rise = tt
 by_rises sections unit (first ∷ items) low high rise = kept_rise sections unit (base_of first.values) [] (first ∷ items) low high rise
 
 -- the kept entries of a unit rise from its body on, up to its end
-table_rises : (sections : DebugSections) (unit : Unit) (reading : Result (List Mark × Ahead) (Located DwarfKind)) (table : EntryTable) (high : ℕ) → unit.body ≤ high → ListRises unit.body high reading → ((reading >>= λ marks. Ok marks.0) >>= λ marks. Ok (table_of sections unit marks)) ≡ Ok table → RisesTo (first_place sections.is_sup + unit.body) (first_place sections.is_sup + high) (table_places table)
+table_rises : (sections : DebugSections) (unit : Unit) (high : ℕ) (marks : List Mark) → unit.body ≤ high → MarksRise unit.body high marks → RisesTo (first_place sections.is_sup + unit.body) (first_place sections.is_sup + high) (table_places (table_of sections unit marks))
 unfolding table_of
-table_rises sections unit (Ok marks) table high inside rise is =
-    let same : table_by sections unit (rooted unit.body (items_from 0 marks.0)) ≡ table = cc in
-    subst (λ (t : EntryTable). RisesTo (first_place sections.is_sup + unit.body) (first_place sections.is_sup + high) (table_places t)) same
-    (by_rises sections unit (rooted unit.body (items_from 0 marks.0)) unit.body high
-    (rooted_rise unit.body high (items_from 0 marks.0) inside (items_rise 0 unit.body high marks.0 rise)))
-table_rises sections unit (Err fault) table high inside rise is = absurd (grind (arith, is))
+table_rises sections unit high marks inside rise =
+    by_rises sections unit (rooted unit.body (items_from 0 marks)) unit.body high (rooted_rise unit.body high (items_from 0 marks) inside (items_rise 0 unit.body high marks rise))
 
 pub places_rise : (sections : DebugSections) (unit : Unit) (abbrevs : List Abbrev) (table : EntryTable) → unit.body ≤ unit.end → unit.end ≤ length sections.info → entry_table sections unit abbrevs ≡ Ok table → RisesTo (first_place sections.is_sup + unit.body) (first_place sections.is_sup + unit.end) (table_places table)
 unfolding entry_table marks_at list_at
@@ -168,8 +146,12 @@ places_rise sections unit abbrevs table ordered inside is =
     let c : Ahead = entries_ahead sections unit in
     let all : length c.bytes ≡ unit.end - unit.body = length-drop unit.body (take unit.end sections.info) ∙ ap (λ n. n - unit.body) (length-take-le unit.end sections.info inside) in
     let last : end_of c ≡ unit.end = omega (arith, all, ordered) in
-    table_rises sections unit (list_at (next_mark abbrevs) c) table unit.end ordered
-    (subst (λ high. ListRises unit.body high (list_at (next_mark abbrevs) c)) last (marks_rise_in abbrevs (suc (length c.bytes)) c)) is
+    let Rises : EntryTable → Type 0 = λ t. RisesTo (first_place sections.is_sup + unit.body) (first_place sections.is_sup + unit.end) (table_places t) in
+    IfOk-at_ok Rises is
+    (then_ok (MarksRise unit.body unit.end) Rises (list_at (next_mark abbrevs) c >>= λ marks. Ok marks.0) (λ marks. Ok (table_of sections unit marks))
+    (then_ok (ListRises unit.body unit.end) (MarksRise unit.body unit.end) (list_at (next_mark abbrevs) c) (λ marks. Ok marks.0)
+    (subst (λ high. IfOk (list_at (next_mark abbrevs) c) (ListRises unit.body high)) last (marks_rise_in abbrevs (suc (length c.bytes)) c)) (λ marks rise. rise))
+    (λ marks rise. table_rises sections unit unit.end marks ordered rise))
 
 -- what stands ahead is the first and what stands after it
 pub marks_follow : (abbrevs : List Abbrev) (c : Ahead) → list_at (next_mark abbrevs) c ≡ list_cases (next_mark abbrevs) c

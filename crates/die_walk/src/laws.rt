@@ -11,11 +11,13 @@ ghost use Rattle.die_walk.specs.EntryPlaces.{RisesTo, table_places};
 
 /// What stands ahead in a unit is what stands first and what stands after it: no count of readings is part
 /// of what it is.
+#[tactic(auto, using(crate::proofs::EntryPlaceLemmas::marks_follow))]
 pub fn marks_follow()
     ensures { (abbrevs : List Abbrev) (c : Ahead) → list_at (next_mark abbrevs) c ≡ list_cases (next_mark abbrevs) c }
 {}
 
 /// The kept entries of a unit stand in rising order, after its header and up to its end, as places are counted through both files.
+#[tactic(auto, using(crate::proofs::EntryPlaceLemmas::places_rise))]
 pub fn entries_rise()
     ensures { (sections : DebugSections) (unit : Unit) (abbrevs : List Abbrev) (table : EntryTable) → unit.body ≤ unit.end → unit.end ≤ length sections.info → entry_table sections unit abbrevs ≡ Ok table → RisesTo (first_place sections.is_sup + unit.body) (first_place sections.is_sup + unit.end) (table_places table) }
 {}
