@@ -25,6 +25,7 @@ use Rattle.abbrev_units.specs.declared.value.Value.{Value}
 use Rattle.abbrev_units.specs.declared.value.Value.TheVariants as value
 use Rattle.abbrev_units.specs.FormValue.{value_of}
 use Rattle.abbrev_units.specs.Picks.{kept_by, value_in}
+use Rattle.abbrev_units.proofs.OkLemmas.{value_or}
 use Rattle.abbrev_units.specs.internal.Picked.{plain_of}
 use Rattle.abbrev_units.specs.internal.Takes.{HasClass, MakesNumbers, has_numbers, number_of}
 
@@ -43,12 +44,8 @@ keeps_plain s value.Other = other_kept s
 keeps_plain s _ = refl
 
 -- the operands of layouts
-abbrev operand_or : Operand → Result (Operand × Ahead) CursorFault → Operand
-operand_or old (Ok x) = x.0
-operand_or old (Err fault) = old
-
 number_is : (reading : Result (ℕ × Ahead) CursorFault) (x : Operand) (d : Ahead) → number_in reading ≡ Ok (x, d) → (n : ℕ) × (x ≡ operand.Num n)
-number_is (Ok n) x d is = (n.0, sym (ap (operand_or x) is))
+number_is (Ok n) x d is = (n.0, sym (ap (value_or x) is))
 number_is (Err fault) x d is = absurd (grind (arith, is))
 
 numbers : (layout : Kind) (c d : Ahead) (x : Operand) → has_numbers layout ≡ true → kind_at layout c ≡ Ok (x, d) → (n : ℕ) × (x ≡ operand.Num n)
@@ -88,20 +85,20 @@ other_class layout implicit constant c d x s constant_is is = other_kept s
 pub present_class : HasClass form.Present kind.Nothing class.Flag
 unfolding value_of kind_at
 present_class implicit constant c d x s constant_is is =
-    subst (λ (o : Operand). option_and_then (kept_by s) (value_in class.Flag (number_of constant o)) ≡ kept_by s (value.Flag true)) (ap (operand_or x) is)
+    subst (λ (o : Operand). option_and_then (kept_by s) (value_in class.Flag (number_of constant o)) ≡ kept_by s (value.Flag true)) (ap (value_or x) is)
     (ap (λ (n : ℕ). option_and_then (kept_by s) (value_in class.Flag n)) constant_is)
 
 pub implicit_class : HasClass form.Implicit kind.Nothing class.Signed
 unfolding value_of kind_at
 implicit_class implicit constant c d x s constant_is is =
-    subst (λ (o : Operand). option_and_then (kept_by s) (value_in class.Signed (number_of constant o)) ≡ kept_by s (value.Signed implicit)) (ap (operand_or x) is)
+    subst (λ (o : Operand). option_and_then (kept_by s) (value_in class.Signed (number_of constant o)) ≡ kept_by s (value.Signed implicit)) (ap (value_or x) is)
     (ap (λ (z : ℤ). kept_by s (value.Signed z)) constant_is)
 
 abbrev run_from : ℕ → List ℕ × Ahead → Result (Operand × Ahead) CursorFault
 run_from at text = Ok (operand.Run at (length text.0), text.1)
 
 text_is : (reading : Result (List ℕ × Ahead) CursorFault) (at : ℕ) (x : Operand) (d : Ahead) → (reading >>= run_from at) ≡ Ok (x, d) → (len : ℕ) × (x ≡ operand.Run at len)
-text_is (Ok text) at x d is = (length text.0, sym (ap (operand_or x) is))
+text_is (Ok text) at x d is = (length text.0, sym (ap (value_or x) is))
 text_is (Err fault) at x d is = absurd (grind (arith, is))
 
 pub text_class : HasClass form.InlineText kind.ZeroText class.InlineText
@@ -115,7 +112,7 @@ abbrev with_sign : ℤ × Ahead → Result (Operand × Ahead) CursorFault
 with_sign number = Ok (operand.Signed number.0, number.1)
 
 signed_by : (fits : Bool) (z : ℤ) (rest : Ahead) (fault : CursorFault) (x : Operand) (d : Ahead) → fits_i64 z ≡ fits → (cond fits (Ok (z, rest)) (Err fault) >>= with_sign) ≡ Ok (x, d) → (v : ℤ) × (fits_i64 v ≡ true) × (x ≡ operand.Signed v)
-signed_by true z rest fault x d fits is = (z, fits, sym (ap (operand_or x) is))
+signed_by true z rest fault x d fits is = (z, fits, sym (ap (value_or x) is))
 signed_by false z rest fault x d fits is = absurd (grind (arith, is))
 
 signed_of : (c : Ahead) (count : Option ℕ) (x : Operand) (d : Ahead) → (sleb_by c count >>= with_sign) ≡ Ok (x, d) → (v : ℤ) × (fits_i64 v ≡ true) × (x ≡ operand.Signed v)

@@ -15,7 +15,7 @@ use Rattle.abbrev_units.specs.Attributes.{first_of}
 use Rattle.abbrev_units.specs.Picks.{PickFields, IsSlot, first_values, is_asked, kept_by, kept_of, no_picks, pick_of, picks_at, picks_of, put_in, with_picks}
 use Rattle.abbrev_units.specs.SpecFields.{SpecFields}
 use Rattle.abbrev_units.specs.Values.{behind_values, only_ahead, value_at, values_at}
-use Rattle.abbrev_units.proofs.OkLemmas.{then_ok, then_any}
+use Rattle.abbrev_units.proofs.OkLemmas.{then_ok, then_any, value_or, ahead_or}
 use Rattle.abbrev_units.specs.internal.Filled.{attributes_of, fill_in, filled_by, free_in, is_among, slot_number}
 
 -- a value, unless one was there before
@@ -175,16 +175,7 @@ names_are (spec ∷ specs) c =
     (λ first. then_ok (AreNamed (attributes_of specs)) (AreNamed (spec.attribute ∷ attributes_of specs)) (values_at specs first.1) _ (names_are specs first.1)
     (λ later same. ap (λ (n : List ℕ). spec.attribute ∷ n) same))
 
--- the reading so far, and one value more
-abbrev pub picks_or : {F : Type 0} → PickFields → Result (PickFields × Ahead) F → PickFields
-picks_or old (Ok x) = x.0
-picks_or old (Err fault) = old
-
-abbrev pub ahead_or : {A F : Type 0} → Ahead → Result (A × Ahead) F → Ahead
-ahead_or old (Ok x) = x.1
-ahead_or old (Err fault) = old
-
--- where the picks so far come from
+-- the reading so far, and one value more: where the picks so far come from
 pub record Read (specs : List SpecFields) (c d : Ahead) (picks : PickFields) : Type 0 where
   pub values : List Given
   pub reads : values_at specs c ≡ Ok (values, d)
@@ -195,7 +186,7 @@ read_by : (specs : List SpecFields) (c d : Ahead) (picks : PickFields) (reading 
 read_by specs c d picks (Ok x) reads is = record {
   values = x.0;
   reads = reads ∙ ap (λ (e : Ahead). Ok (x.0, e)) (ap (ahead_or d) is);
-  are = ap (picks_or picks) is;
+  are = ap (value_or picks) is;
   names = IfOk-at_ok (AreNamed (attributes_of specs)) reads (names_are specs c);
 }
 read_by specs c d picks (Err fault) reads is = absurd (grind (arith, is))

@@ -25,7 +25,8 @@ use Rattle.abbrev_units.specs.Values.{value_at, values_at, only_ahead, behind_va
 use Rattle.abbrev_units.specs.internal.FormRows.{HasRow}
 use Rattle.abbrev_units.specs.internal.Filled.{FilledFor, GivesSlot, GoesTo, filled_by, free_in}
 use Rattle.abbrev_units.specs.internal.Takes.{AreTakes, Joins, TakesValue, kept_at, kept_with, number_at, number_of, put_taken, take_all as all_taken, take_one, takes_at}
-use Rattle.abbrev_units.proofs.PickLemmas.{ahead_or, attributes_more, picks_next, picks_or, values_next}
+use Rattle.abbrev_units.proofs.PickLemmas.{attributes_more, picks_next, values_next}
+use Rattle.abbrev_units.proofs.OkLemmas.{value_or, ahead_or}
 use Rattle.abbrev_units.proofs.SizeLemmas.{long_enough, passed_none, passed_two, sized, take_fits, take_passed, take_there}
 
 -- a reading that succeeds in two parts
@@ -37,10 +38,6 @@ pub record Parts {X Y : Type 0} (first : Result X CursorFault) (next : X → Res
 parts_of : {X Y : Type 0} (first : Result X CursorFault) (next : X → Result Y CursorFault) (y : Y) → (first >>= next) ≡ Ok y → Parts first next y
 parts_of (Ok x) next y is = record { middle = x; one = refl; two = is }
 parts_of (Err fault) next y is = absurd (grind (arith, is))
-
-abbrev number_or : ℕ → Result (ℕ × Ahead) CursorFault → ℕ
-number_or old (Ok x) = x.0
-number_or old (Err fault) = old
 
 -- a take that succeeds
 pub record Taken (take : Take) (picks after : PickFields) (c d : Ahead) : Type 0 where
@@ -66,7 +63,7 @@ taken_is take picks after c d is =
       fits = there.0;
       operand = operand.middle.0;
       reads = ap (kind_at take.layout) (sym there.1) ∙ operand.one ∙ ap (λ (e : Ahead). Ok (operand.middle.0, e)) end;
-      puts = sym (ap (λ (n : ℕ). put_in take.slot (value_in take.class n) picks) (ap (number_or 0) operand.two) ∙ ap (picks_or after) number.two);
+      puts = sym (ap (λ (n : ℕ). put_in take.slot (value_in take.class n) picks) (ap (value_or 0) operand.two) ∙ ap (value_or after) number.two);
     }
 
 -- takes that succeed, and the bytes after the last
@@ -89,7 +86,7 @@ takes_are takes tail picks after c d is =
     let there = take_passed tail front.middle.1 run.middle.1 (ap only_ahead run.one) in
     record {
       before = front.middle.1;
-      front = front.one ∙ ap (λ (p : PickFields). Ok (p, front.middle.1)) (ap (picks_or after) run.two);
+      front = front.one ∙ ap (λ (p : PickFields). Ok (p, front.middle.1)) (ap (value_or after) run.two);
       fits = there.0;
       there = sym (ap (ahead_or d) run.two) ∙ there.1;
     }
@@ -127,7 +124,7 @@ none_next : (specs : List SpecFields) (x : SpecFields) (given : Slot) (value : V
 none_next specs x given value picks c d e (Ok values) reads is none next =
     let front : values_at specs c ≡ Ok (values.0, d) = reads ∙ ap (λ (f : Ahead). Ok (values.0, f)) (ap (ahead_or d) is) in
     ap (kept_with false) (values_next specs x values.0 value c d e front next)
-    ∙ ap (λ (p : PickFields). Ok (p, e)) (ap (picks_or picks) is ∙ sym (passes_on given value picks none))
+    ∙ ap (λ (p : PickFields). Ok (p, e)) (ap (value_or picks) is ∙ sym (passes_on given value picks none))
 none_next specs x given value picks c d e (Err fault) reads is none next = absurd (grind (arith, is))
 
 kept_next : (kept : Bool) (specs : List SpecFields) (x : SpecFields) (given : Slot) (value : Value) (picks : PickFields) (c d e : Ahead) → kept_at kept specs c ≡ Ok (picks, d) → GoesTo kept specs x.attribute given → value_at x d ≡ Ok (value, e) → kept_at kept (specs ++ x ∷ []) c ≡ Ok (put_in given (kept_by given value) picks, e)
@@ -190,7 +187,7 @@ pub takes_begin : (kept : Bool) (takes : List Take) (specs : List SpecFields) �
 takes_begin kept takes specs none c d picks is =
     let whole = takes_are takes 0 no_picks picks c d is in
     let front : Ok (no_picks, c) ≡ Ok (picks, whole.before) = sym (ap (λ (t : List Take). all_taken t no_picks c) none ∙ none_taken no_picks c) ∙ whole.front in
-    nothing_kept kept c ∙ ap (λ (p : PickFields). Ok (p, c)) (ap (picks_or picks) front)
+    nothing_kept kept c ∙ ap (λ (p : PickFields). Ok (p, c)) (ap (value_or picks) front)
     ∙ ap (λ (e : Ahead). Ok (picks, e)) (ap (ahead_or d) front ∙ sym (passed_none whole.before) ∙ sym whole.there)
 
 pub goes_to : (kept : Bool) (specs : List SpecFields) (attribute name : ℕ) (given : Slot) (before after : List Bool) → FilledFor kept specs before → GivesSlot kept before after name given → name ≡ attribute → GoesTo kept specs attribute given
@@ -244,7 +241,7 @@ read_passed kept takes tail specs none picks c d are goes is =
     ahead_of kept (values_at specs c) picks d (are c d picks (ap (λ (p : PickFields). takes_at takes tail p c) (sym is) ∙ goes))
 
 none_of : (reading : Result (List Given × Ahead) FormFault) (picks : PickFields) (d : Ahead) → kept_with false reading ≡ Ok (picks, d) → picks ≡ no_picks
-none_of (Ok x) picks d is = sym (ap (picks_or picks) is)
+none_of (Ok x) picks d is = sym (ap (value_or picks) is)
 none_of (Err fault) picks d is = absurd (grind (arith, is))
 
 pub read_none : (kept : Bool) (takes : List Take) (tail : ℕ) (specs : List SpecFields) (none picks : PickFields) (c d : Ahead) → AreTakes kept takes tail specs → takes_at takes tail none c ≡ Ok (picks, d) → none ≡ no_picks → kept ≡ false → picks ≡ no_picks

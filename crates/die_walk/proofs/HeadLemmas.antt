@@ -78,24 +78,24 @@ pushed_alone homes sites wides heads head small =
     ∙ ap (λ (site : Option SiteFields). map (held_in homes sites wides) heads ++ held_by homes head site (found_in 2 head wides) ∷ []) (found_none 1 0 head sites none (λ e. omega (arith, e)))
     ∙ ap (λ (wide : Option WideFields). map (held_in homes sites wides) heads ++ held_by homes head None wide ∷ []) (found_none 2 0 head wides none (λ e. omega (arith, e)))
 
-pub pushed_site : (homes : Homes) (sites : List SiteFields) (wides : List WideFields) (heads : List Head) (head last : Head) (site : SiteFields) (number : ℕ) → AreThere (length sites) (length wides) heads → head.flags < 16 → number ≡ length sites → last ≡ with_rest head 1 number
-    → map (held_in homes (sites ++ site ∷ []) wides) (heads ++ last ∷ []) ≡ map (held_in homes sites wides) heads ++ slim homes head site ∷ []
-pushed_site homes sites wides heads head last site number there small is made =
+pub pushed_site : (homes : Homes) (sites more : List SiteFields) (wides : List WideFields) (heads longer : List Head) (head last : Head) (site : SiteFields) (number : ℕ) → AreThere (length sites) (length wides) heads → head.flags < 16 → number ≡ length sites → last ≡ with_rest head 1 number → more ≡ sites ++ site ∷ [] → longer ≡ heads ++ last ∷ []
+    → map (held_in homes more wides) longer ≡ map (held_in homes sites wides) heads ++ slim homes head site ∷ []
+pushed_site homes sites more wides heads longer head last site number there small is made added long =
     let rest : rest_of last ≡ 1 = ap rest_of made ∙ rest_put head.flags 1 small in
     let place : last.number ≡ length sites = ap (λ (h : Head). h.number) made ∙ is in
-    map-append (held_in homes (sites ++ site ∷ []) wides) heads (last ∷ [])
+    ap (λ (all : List SiteFields). map (held_in homes all wides) longer) added ∙ ap (map (held_in homes (sites ++ site ∷ []) wides)) long ∙ map-append (held_in homes (sites ++ site ∷ []) wides) heads (last ∷ [])
     ∙ ap (λ (front : List DieFields). front ++ held_in homes (sites ++ site ∷ []) wides last ∷ []) (sites_kept homes sites (site ∷ []) wides heads there)
     ∙ ap (λ (found : Option SiteFields). map (held_in homes sites wides) heads ++ held_by homes last found (found_in 2 last wides) ∷ [])
     (found_here 1 last (sites ++ site ∷ []) rest ∙ ap (slice_get (sites ++ site ∷ [])) place ∙ get_last sites site)
     ∙ ap (λ (found : Option WideFields). map (held_in homes sites wides) heads ++ held_by homes last (Some site) found ∷ []) (found_none 2 1 last wides rest (λ e. omega (arith, e)))
     ∙ ap (λ (die : DieFields). map (held_in homes sites wides) heads ++ die ∷ []) (ap (λ (h : Head). slim homes h site) made ∙ slim_rest homes head site 1 number)
 
-pub pushed_wide : (homes : Homes) (sites : List SiteFields) (wides : List WideFields) (heads : List Head) (head last : Head) (wide : WideFields) (number : ℕ) → AreThere (length sites) (length wides) heads → head.flags < 16 → number ≡ length wides → last ≡ with_rest head 2 number
-    → map (held_in homes sites (wides ++ wide ∷ [])) (heads ++ last ∷ []) ≡ map (held_in homes sites wides) heads ++ broad homes head wide ∷ []
-pushed_wide homes sites wides heads head last wide number there small is made =
+pub pushed_wide : (homes : Homes) (sites : List SiteFields) (wides more : List WideFields) (heads longer : List Head) (head last : Head) (wide : WideFields) (number : ℕ) → AreThere (length sites) (length wides) heads → head.flags < 16 → number ≡ length wides → last ≡ with_rest head 2 number → more ≡ wides ++ wide ∷ [] → longer ≡ heads ++ last ∷ []
+    → map (held_in homes sites more) longer ≡ map (held_in homes sites wides) heads ++ broad homes head wide ∷ []
+pushed_wide homes sites wides more heads longer head last wide number there small is made added long =
     let rest : rest_of last ≡ 2 = ap rest_of made ∙ rest_put head.flags 2 small in
     let place : last.number ≡ length wides = ap (λ (h : Head). h.number) made ∙ is in
-    map-append (held_in homes sites (wides ++ wide ∷ [])) heads (last ∷ [])
+    ap (λ (all : List WideFields). map (held_in homes sites all) longer) added ∙ ap (map (held_in homes sites (wides ++ wide ∷ []))) long ∙ map-append (held_in homes sites (wides ++ wide ∷ [])) heads (last ∷ [])
     ∙ ap (λ (front : List DieFields). front ++ held_in homes sites (wides ++ wide ∷ []) last ∷ []) (wides_kept homes sites wides (wide ∷ []) heads there)
     ∙ ap (λ (found : Option WideFields). map (held_in homes sites wides) heads ++ held_by homes last (found_in 1 last sites) found ∷ [])
     (found_here 2 last (wides ++ wide ∷ []) rest ∙ ap (slice_get (wides ++ wide ∷ [])) place ∙ get_last wides wide)
@@ -124,19 +124,19 @@ more_sites sites wides heads site there = there_wider (length sites) (length (si
 pub more_wides : (sites : ℕ) (wides : List WideFields) (heads : List Head) (wide : WideFields) → AreThere sites (length wides) heads → AreThere sites (length (wides ++ wide ∷ [])) heads
 more_wides sites wides heads wide there = there_wider sites sites (length wides) (length (wides ++ wide ∷ [])) heads there (omega arith) (rw length-append (omega arith))
 
-pub there_site : (sites : List SiteFields) (wides : ℕ) (heads : List Head) (head last : Head) (site : SiteFields) (number : ℕ) → AreThere (length sites) wides heads → head.flags < 16 → number ≡ length sites → last ≡ with_rest head 1 number → AreThere (length (sites ++ site ∷ [])) wides (heads ++ last ∷ [])
-there_site sites wides heads head last site number there small is made =
+pub there_site : (sites more : List SiteFields) (wides : ℕ) (heads longer : List Head) (head last : Head) (site : SiteFields) (number : ℕ) → AreThere (length sites) wides heads → head.flags < 16 → number ≡ length sites → last ≡ with_rest head 1 number → more ≡ sites ++ site ∷ [] → longer ≡ heads ++ last ∷ [] → AreThere (length more) wides longer
+there_site sites more wides heads longer head last site number there small is made added long =
     let rest : rest_of last ≡ 1 = ap rest_of made ∙ rest_put head.flags 1 small in
     let place : last.number ≡ length sites = ap (λ (h : Head). h.number) made ∙ is in
-    there_more (length (sites ++ site ∷ [])) wides heads last (more_sites sites wides heads site there)
-    ((λ e. rw length-append (omega (arith, place))), (λ e. absurd (omega (arith, e, rest))))
+    rw (added, long) (there_more (length (sites ++ site ∷ [])) wides heads last (more_sites sites wides heads site there)
+    ((λ e. rw length-append (omega (arith, place))), (λ e. absurd (omega (arith, e, rest)))))
 
-pub there_wide : (sites : ℕ) (wides : List WideFields) (heads : List Head) (head last : Head) (wide : WideFields) (number : ℕ) → AreThere sites (length wides) heads → head.flags < 16 → number ≡ length wides → last ≡ with_rest head 2 number → AreThere sites (length (wides ++ wide ∷ [])) (heads ++ last ∷ [])
-there_wide sites wides heads head last wide number there small is made =
+pub there_wide : (sites : ℕ) (wides more : List WideFields) (heads longer : List Head) (head last : Head) (wide : WideFields) (number : ℕ) → AreThere sites (length wides) heads → head.flags < 16 → number ≡ length wides → last ≡ with_rest head 2 number → more ≡ wides ++ wide ∷ [] → longer ≡ heads ++ last ∷ [] → AreThere sites (length more) longer
+there_wide sites wides more heads longer head last wide number there small is made added long =
     let rest : rest_of last ≡ 2 = ap rest_of made ∙ rest_put head.flags 2 small in
     let place : last.number ≡ length wides = ap (λ (h : Head). h.number) made ∙ is in
-    there_more sites (length (wides ++ wide ∷ [])) heads last (more_wides sites wides heads wide there)
-    ((λ e. absurd (omega (arith, e, rest))), (λ e. rw length-append (omega (arith, place))))
+    rw (added, long) (there_more sites (length (wides ++ wide ∷ [])) heads last (more_wides sites wides heads wide there)
+    ((λ e. absurd (omega (arith, e, rest))), (λ e. rw length-append (omega (arith, place)))))
 
 -- places of entries are those of their heads
 abbrev held : Homes → List SiteFields → List WideFields → List Head → List DieFields

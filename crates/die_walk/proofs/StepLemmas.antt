@@ -20,6 +20,7 @@ use Rattle.abbrev_units.specs.Picks.{PickFields, no_picks, picks_of, picks_at, w
 use Rattle.abbrev_units.specs.Attributes.{first_of, text_in_entry}
 use Rattle.die_walk.specs.EntryTable.{DieFields, RootFields, base_of, die_of, root_of}
 use Rattle.die_walk.specs.Picking.{base_by, die_by, root_by}
+use Rattle.abbrev_units.proofs.OkLemmas.{value_or, ahead_or}
 use Rattle.die_walk.proofs.SameLemmas.{base_same, die_same, root_same}
 use Rattle.die_walk.specs.Steps.{Walked, innermost, kept_at, keeps, begun, begun_by, added, added_by, entered, entered_by, opened, own_number, moved, entering, entered_at, moving, moved_at, Moves}
 
@@ -81,19 +82,10 @@ pub begun_none : (sections : DebugSections) (unit : Unit) (w : Walked) (at tag :
 unfolding die_by root_by die_of root_of text_in_entry first_of
 begun_none sections unit w at tag = refl
 
--- the parts of a reading of picks
-abbrev pick_ahead : Ahead → Result (PickFields × Ahead) FormFault → Ahead
-pick_ahead other (Ok x) = x.1
-pick_ahead other (Err fault) = other
-
-abbrev pick_or : PickFields → Result (PickFields × Ahead) FormFault → PickFields
-pick_or other (Ok x) = x.0
-pick_or other (Err fault) = other
-
 taken_by : (sections : DebugSections) (unit : Unit) (w v : Walked) (at : ℕ) (found : Abbrev) (picks : PickFields) (reading : Result (List Given × Ahead) FormFault) (d : Ahead) → with_picks reading ≡ Ok (picks, d) → v ≡ entered_by sections unit w at found.tag picks → (in_entry reading >>= entering sections unit w at found.tag) ≡ Ok (v, d)
 taken_by sections unit w v at found picks (Ok values) d is after =
-    let there : values.1 ≡ d = ap (pick_ahead d) is in
-    let same : picks_of values.0 ≡ picks = ap (pick_or picks) is in
+    let there : values.1 ≡ d = ap (ahead_or d) is in
+    let same : picks_of values.0 ≡ picks = ap (value_or picks) is in
     ap (λ (y : Walked). Ok (y, values.1)) (sym (entered_same sections unit w at found.tag values.0) ∙ ap (entered_by sections unit w at found.tag) same ∙ sym after)
     ∙ ap (λ (c : Ahead). Ok (v, c)) there
 taken_by sections unit w v at found picks (Err fault) d is after = absurd (grind (arith, is))
@@ -112,21 +104,12 @@ unfolding entered_at read_values_at picks_at
 taken_refused sections unit w at found c fault read =
     taken_refused_by sections unit w at found (values_at found.specs c) fault (sym read)
 
--- the parts of an answer
-abbrev walked_or : Walked → Result (Walked × Ahead) (Located DwarfKind) → Walked
-walked_or other (Ok x) = x.0
-walked_or other (Err fault) = other
-
-abbrev ahead_or : Ahead → Result (Walked × Ahead) (Located DwarfKind) → Ahead
-ahead_or other (Ok x) = x.1
-ahead_or other (Err fault) = other
-
 -- with the list of its children
 moved_by : (sections : DebugSections) (unit : Unit) (w v x : Walked) (at : ℕ) (found : Abbrev) (own : Option ℕ) (reading : Result (List Given × Ahead) (Located DwarfKind)) (d : Ahead) → (reading >>= entering sections unit w at found.tag) ≡ Ok (v, d) → own ≡ own_number w found.tag → x ≡ opened v found.children own → (reading >>= moving sections unit w at found) ≡ Ok (x, d)
 unfolding moved
 moved_by sections unit w v x at found own (Ok values) d is number after =
     let both : entering sections unit w at found.tag values ≡ Ok (v, d) = is in
-    let here : entered sections unit w at found.tag values.0 ≡ v = ap (walked_or v) both in
+    let here : entered sections unit w at found.tag values.0 ≡ v = ap (value_or v) both in
     let there : values.1 ≡ d = ap (ahead_or d) both in
     ap (λ (y : Walked). Ok (opened y found.children (own_number w found.tag), values.1)) here
     ∙ ap (λ (n : Option ℕ). Ok (opened v found.children n, values.1)) (sym number)
@@ -170,7 +153,7 @@ grows_by sections unit w at tag values false false one = (omega arith, refl)
 entry_grows : (sections : DebugSections) (unit : Unit) (w v : Walked) (at tag : ℕ) (reading : Result (List Given × Ahead) (Located DwarfKind)) (d : Ahead) → (reading >>= entering sections unit w at tag) ≡ Ok (v, d) → Grows w v tag
 unfolding entered
 entry_grows sections unit w v at tag (Ok values) d is =
-    let same : entered sections unit w at tag values.0 ≡ v = ap (walked_or v) is in
+    let same : entered sections unit w at tag values.0 ≡ v = ap (value_or v) is in
     let both = grows_by sections unit w at tag values.0 (nat_eq (length w.dies) 0) (is_kept_tag tag) refl in
     record { dies = ap (λ (x : Walked). length x.dies) (sym same) ∙ both.0; levels = ap (λ (x : Walked). x.open_levels) (sym same) ∙ both.1 }
 entry_grows sections unit w v at tag (Err fault) d is = absurd (grind (arith, is))

@@ -28,6 +28,7 @@ use Rattle.abbrev_units.proofs.FormLemmas.{values_pass}
 use Rattle.die_walk.specs.EntryTable.{DieFields, EntryTable, table_of, entries_ahead, entry_table}
 use Rattle.die_walk.specs.Marks.{Mark, in_entry, read_values_at, entry_by, mark_by, mark_at, next_mark, marks_at}
 use Rattle.die_walk.specs.Marks.Mark.{Close, Entry}
+use Rattle.abbrev_units.proofs.OkLemmas.{ahead_or}
 use Rattle.die_walk.proofs.TreeLemmas.{start_is, moved_few}
 use Rattle.abbrev_units.specs.KeptTags.{is_kept_tag}
 use Rattle.die_walk.specs.Steps.{Walked, begun, added, entered, opened, own_number, moved, all_moved, rounded, table_in, walked_from, moving, moved_at, step_at, Steps, Moves, IsShort, TableOf}
@@ -139,24 +140,10 @@ step_stopped sections unit abbrevs w v x code at found (Fault fault) c d e f lef
 step_stopped sections unit abbrevs w v x code at found NoMemory c d e f left read some is here moves = tt
 
 -- what a step answers
-abbrev step_ahead : Ahead → Result (Option Walked × Ahead) (Located DwarfKind) → Ahead
-step_ahead other (Ok x) = x.1
-step_ahead other (Err fault) = other
-
 abbrev step_walked : Walked → Result (Option Walked × Ahead) (Located DwarfKind) → Walked
 step_walked other (Ok (Some x, c)) = x
 step_walked other (Ok (None, c)) = other
 step_walked other (Err fault) = other
-
-abbrev HasStep : Result (Option Walked × Ahead) (Located DwarfKind) → Type 0
-HasStep (Ok (Some x, c)) = Prim.Unit {0}
-HasStep (Ok (None, c)) = ⊥
-HasStep (Err fault) = ⊥
-
-abbrev HasEnd : Result (Option Walked × Ahead) (Located DwarfKind) → Type 0
-HasEnd (Ok (Some x, c)) = ⊥
-HasEnd (Ok (None, c)) = Prim.Unit {0}
-HasEnd (Err fault) = ⊥
 
 -- the walk from a state: after a step, at the end of the unit, and where a step is refused
 abbrev finishing : DebugSections → Unit → Walked → List Mark × Ahead → Result EntryTable (Located DwarfKind)
@@ -180,7 +167,7 @@ more_finished sections unit w mark (Err fault) = refl
 more_by : (sections : DebugSections) (unit : Unit) (abbrevs : List Abbrev) (w x : Walked) (c d : Ahead) (next : Result (Option Mark × Ahead) (Located DwarfKind)) → next_mark abbrevs c ≡ next → (next >>= stepping sections unit w) ≡ Ok (Some x, d) → walked_from sections unit abbrevs w c ≡ walked_from sections unit abbrevs x d
 unfolding walked_from marks_at
 more_by sections unit abbrevs w x c d (Ok (Some mark, e)) is steps =
-    let there : e ≡ d = ap (step_ahead d) steps in
+    let there : e ≡ d = ap (ahead_or d) steps in
     let after : moved sections unit w mark ≡ x = ap (step_walked x) steps in
     walked_is sections unit abbrevs w c
     ∙ ap (λ r. (r >>= λ first. list_by first.0 first.1 (list_at (next_mark abbrevs) first.1)) >>= finishing sections unit w) is
@@ -188,8 +175,8 @@ more_by sections unit abbrevs w x c d (Ok (Some mark, e)) is steps =
     ∙ ap (λ (y : Walked). list_at (next_mark abbrevs) e >>= finishing sections unit y) after
     ∙ ap (λ (a : Ahead). list_at (next_mark abbrevs) a >>= finishing sections unit x) there
     ∙ sym (finish_is sections unit x (list_at (next_mark abbrevs) d))
-more_by sections unit abbrevs w x c d (Ok (None, e)) is steps = absurd (subst HasStep (sym steps) tt)
-more_by sections unit abbrevs w x c d (Err fault) is steps = absurd (subst HasStep (sym steps) tt)
+more_by sections unit abbrevs w x c d (Ok (None, e)) is steps = absurd (grind (arith, steps))
+more_by sections unit abbrevs w x c d (Err fault) is steps = absurd (grind (arith, steps))
 
 pub walked_more : (sections : DebugSections) (unit : Unit) (abbrevs : List Abbrev) (w x : Walked) (c d : Ahead) (want : Result EntryTable (Located DwarfKind)) → walked_from sections unit abbrevs w c ≡ want → step_at sections unit abbrevs w c ≡ Ok (Some x, d) → walked_from sections unit abbrevs x d ≡ want
 unfolding step_at
@@ -201,8 +188,8 @@ unfolding all_moved
 end_by sections unit abbrevs w c d (Ok (None, e)) is steps =
     walked_is sections unit abbrevs w c
     ∙ ap (λ r. (r >>= λ first. list_by first.0 first.1 (list_at (next_mark abbrevs) first.1)) >>= finishing sections unit w) is
-end_by sections unit abbrevs w c d (Ok (Some mark, e)) is steps = absurd (subst HasEnd (sym steps) tt)
-end_by sections unit abbrevs w c d (Err fault) is steps = absurd (subst HasEnd (sym steps) tt)
+end_by sections unit abbrevs w c d (Ok (Some mark, e)) is steps = absurd (grind (arith, steps))
+end_by sections unit abbrevs w c d (Err fault) is steps = absurd (grind (arith, steps))
 
 pub walked_end : (sections : DebugSections) (unit : Unit) (abbrevs : List Abbrev) (w : Walked) (c d : Ahead) (want : Result EntryTable (Located DwarfKind)) → walked_from sections unit abbrevs w c ≡ want → step_at sections unit abbrevs w c ≡ Ok (None, d) → want ≡ Ok (table_in (rounded sections unit w))
 unfolding step_at
@@ -244,8 +231,8 @@ own_by : (sections : DebugSections) (unit : Unit) (w x : Walked) (d : Ahead) (ne
 own_by sections unit w x d (Ok (Some mark, e)) steps =
     let after : moved sections unit w mark ≡ x = ap (step_walked x) steps in
     ap (λ (y : Walked). y.own) (sym after) ∙ moved_own sections unit w mark
-own_by sections unit w x d (Ok (None, e)) steps = absurd (subst HasStep (sym steps) tt)
-own_by sections unit w x d (Err fault) steps = absurd (subst HasStep (sym steps) tt)
+own_by sections unit w x d (Ok (None, e)) steps = absurd (grind (arith, steps))
+own_by sections unit w x d (Err fault) steps = absurd (grind (arith, steps))
 
 pub step_own : (sections : DebugSections) (unit : Unit) (abbrevs : List Abbrev) (w x : Walked) (c d : Ahead) → step_at sections unit abbrevs w c ≡ Ok (Some x, d) → x.own ≡ w.own
 unfolding step_at
@@ -254,14 +241,14 @@ step_own sections unit abbrevs w x c d steps = own_by sections unit w x d (next_
 -- places stay small, and fewer bytes are left after a step
 short_by : (sections : DebugSections) (unit : Unit) (w x : Walked) (c d : Ahead) (next : Result (Option Mark × Ahead) (Located DwarfKind)) → GoesOn c next → (next >>= stepping sections unit w) ≡ Ok (Some x, d) → IsShort (length w.dies) c → IsShort (length x.dies) d × (length d.bytes < length c.bytes)
 short_by sections unit w x c d (Ok (Some mark, e)) goes steps short =
-    let there : e ≡ d = ap (step_ahead d) steps in
+    let there : e ≡ d = ap (ahead_or d) steps in
     let after : moved sections unit w mark ≡ x = ap (step_walked x) steps in
     let fewer : length d.bytes + 1 ≤ length c.bytes = subst (λ (a : Ahead). length a.bytes + 1 ≤ length c.bytes) there goes.0 in
     let same : d.at + length d.bytes ≡ c.at + length c.bytes = subst (λ (a : Ahead). a.at + length a.bytes ≡ c.at + length c.bytes) there goes.1 in
     let few : length x.dies ≤ length w.dies + 1 = subst (λ (y : Walked). length y.dies ≤ length w.dies + 1) after (moved_few sections unit w mark) in
     (record { few = omega (arith, fewer, same, few, short.few); small = omega (arith, same, short.small) }, omega (arith, fewer))
-short_by sections unit w x c d (Ok (None, e)) goes steps short = absurd (subst HasStep (sym steps) tt)
-short_by sections unit w x c d (Err fault) goes steps short = absurd (subst HasStep (sym steps) tt)
+short_by sections unit w x c d (Ok (None, e)) goes steps short = absurd (grind (arith, steps))
+short_by sections unit w x c d (Err fault) goes steps short = absurd (grind (arith, steps))
 
 pub step_short : (sections : DebugSections) (unit : Unit) (abbrevs : List Abbrev) (w x : Walked) (c d : Ahead) → step_at sections unit abbrevs w c ≡ Ok (Some x, d) → IsShort (length w.dies) c → IsShort (length x.dies) d
 unfolding step_at
