@@ -90,10 +90,10 @@ taken_by sections unit w v at found picks (Ok values) d is after =
     ∙ ap (λ (c : Ahead). Ok (v, c)) there
 taken_by sections unit w v at found picks (Err fault) d is after = absurd (grind (arith, is))
 
-pub taken : (sections : DebugSections) (unit : Unit) (w v : Walked) (at : ℕ) (found : Abbrev) (picks : PickFields) (c d : Ahead) → picks_at found.specs c ≡ Ok (picks, d) → v ≡ entered_by sections unit w at found.tag picks → entered_at sections unit w at found c ≡ Ok (v, d)
+pub taken : (sections : DebugSections) (unit : Unit) (w v : Walked) (at tag : ℕ) (found : Abbrev) (picks : PickFields) (c d : Ahead) → picks_at found.specs c ≡ Ok (picks, d) → v ≡ entered_by sections unit w at tag picks → tag ≡ found.tag → entered_at sections unit w at found c ≡ Ok (v, d)
 unfolding entered_at read_values_at picks_at
-taken sections unit w v at found picks c d read is =
-    taken_by sections unit w v at found picks (values_at found.specs c) d read is
+taken sections unit w v at tag found picks c d read is same =
+    taken_by sections unit w v at found picks (values_at found.specs c) d read (is ∙ ap (λ (t : ℕ). entered_by sections unit w at t picks) same)
 
 taken_refused_by : (sections : DebugSections) (unit : Unit) (w : Walked) (at : ℕ) (found : Abbrev) (reading : Result (List Given × Ahead) FormFault) (fault : FormFault) → with_picks reading ≡ Err fault → (in_entry reading >>= entering sections unit w at found.tag) ≡ Err (value_fault fault)
 taken_refused_by sections unit w at found (Ok values) fault is = absurd (grind (arith, is))
