@@ -104,6 +104,9 @@ pub all_held : (before after : Lists) (heads : List Head) → Grown before after
 all_held before after [] grown held = tt
 all_held before after (head ∷ heads) grown held = (held_still before after head grown held.0, all_held before after heads grown held.1)
 
+pub held_shrunk : (before after : Lists) (heads same : List Head) → Grown before after → AreHeld before heads → same ≡ heads → AreHeld after same
+held_shrunk before after heads same grown held is = subst (AreHeld after) (sym is) (all_held before after heads grown held)
+
 same_abbrevs : (before after : Lists) (heads : List Head) → Grown before after → AreHeld before heads → abbrevs_in before.specs.items heads ≡ abbrevs_in after.specs.items heads
 same_abbrevs before after [] grown held = refl
 same_abbrevs before after (head ∷ heads) grown held =

@@ -100,6 +100,7 @@ impl AbbrevList {
     }
 
     /// Gives back the room that nothing took.
+    #[tactic(auto, using(crate::proofs::ListedLemmas::held_shrunk))]
     fn shrink(&mut self)
         ensures { self.new ≡ self.old }
     {
