@@ -1,5 +1,5 @@
 -- For `EntryList`: an entry more changes no other; and for `Walker::add`: a head says what the picks give.
-use Rattle.std.proofs.Common.{◌≡◌, ◌<◌, ◌≤◌, ◌+◌, ◌*◌, ◌/◌, ◌%◌, ℕ, zero, suc, Bool, true, false, nat_eq, cond, List, [], ◌∷◌, ◌++◌, length, map, drop, Option, None, Some, Result, Ok, Err, OnOk, IfOk, refl, sym, ap, ◌∙◌, arith, length-append, get_or}
+use Rattle.std.proofs.Common.{◌≡◌, ◌<◌, ◌≤◌, ℕ, zero, suc, Bool, true, false, nat_eq, cond, List, [], ◌∷◌, ◌++◌, length, map, drop, Option, None, Some, Result, Ok, Err, OnOk, IfOk, refl, sym, ap, ◌∙◌, arith, length-append, get_or}
 use Rattle.std.specs.List.{slice_get}
 use Rattle.std.proofs.Math.ListN.{drop_of_length-le}
 use Rattle.std.proofs.lemmas.List.{map-append}
@@ -13,7 +13,7 @@ use Rattle.die_walk.specs.Picking.{die_by}
 use Rattle.die_walk.specs.declared.entry_heads.Parts.{Parts}
 use Rattle.die_walk.specs.declared.heads.Head.{Head}
 use Rattle.die_walk.specs.internal.Sites.{SiteFields, WideFields, Homes, HeldEntries}
-use Rattle.die_walk.specs.internal.Heads.{homes_of, text_at_home, is_elsewhere_home, no_site, site_by, where_said, rest_of, with_rest, origin_said, spec_said, slim, broad, found_in, held_by, held_in, IsThere, AreThere, IsHead, IsWhole, Says, IsAdded}
+use Rattle.die_walk.specs.internal.Heads.{homes_of, no_site, site_by, rest_of, with_rest, slim, broad, found_in, held_by, held_in, IsThere, AreThere, IsHead, IsWhole, Says, IsAdded}
 use Rattle.die_walk.proofs.FlagLemmas.{parent_kept, declaration_kept, link_kept, rest_put, rest_none}
 use Rattle.sym_edges.specs.Rising.{StandBelow}
 
