@@ -24,19 +24,3 @@ link_made parent declaration link flags small is = omega (arith, is, small, bit_
 
 pub flags_small : (parent declaration : Bool) (link flags : ℕ) → link < 3 → flags ≡ cond parent 1 0 + 2 * cond declaration 1 0 + 4 * link → flags < 16
 flags_small parent declaration link flags small is = omega (arith, is, small, bit_small parent, bit_small declaration)
-
--- a rest changes no other part
-pub parent_kept : (flags rest : ℕ) → (flags + 16 * rest) % 2 ≡ flags % 2
-parent_kept flags rest = omega arith
-
-pub declaration_kept : (flags rest : ℕ) → (flags + 16 * rest) / 2 % 2 ≡ flags / 2 % 2
-declaration_kept flags rest = omega arith
-
-pub link_kept : (flags rest : ℕ) → (flags + 16 * rest) / 4 % 4 ≡ flags / 4 % 4
-link_kept flags rest = omega arith
-
-pub rest_put : (flags rest : ℕ) → flags < 16 → (flags + 16 * rest) / 16 ≡ rest
-rest_put flags rest small = omega (arith, small)
-
-pub rest_none : (flags : ℕ) → flags < 16 → flags / 16 ≡ 0
-rest_none flags small = omega (arith, small)

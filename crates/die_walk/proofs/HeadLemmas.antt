@@ -1,5 +1,5 @@
 -- For `EntryList`: an entry more changes no other; and for `Walker::add`: a head says what the picks give.
-use Rattle.std.proofs.Common.{◌≡◌, ◌<◌, ◌≤◌, ℕ, zero, suc, Bool, true, false, nat_eq, cond, List, [], ◌∷◌, ◌++◌, length, map, drop, Option, None, Some, Result, Ok, Err, OnOk, IfOk, refl, sym, ap, ◌∙◌, arith, length-append, get_or}
+use Rattle.std.proofs.Common.{◌≡◌, ◌+◌, ◌*◌, ◌/◌, ◌%◌, ◌<◌, ◌≤◌, ℕ, zero, suc, Bool, true, false, nat_eq, cond, List, [], ◌∷◌, ◌++◌, length, map, drop, Option, None, Some, Result, Ok, Err, OnOk, IfOk, refl, sym, ap, ◌∙◌, arith, length-append, get_or}
 use Rattle.std.specs.List.{slice_get}
 use Rattle.std.proofs.Math.ListN.{drop_of_length-le}
 use Rattle.std.proofs.lemmas.List.{map-append}
@@ -14,7 +14,6 @@ use Rattle.die_walk.specs.declared.entry_heads.Parts.{Parts}
 use Rattle.die_walk.specs.declared.heads.Head.{Head}
 use Rattle.die_walk.specs.internal.Sites.{SiteFields, WideFields, Homes, HeldEntries}
 use Rattle.die_walk.specs.internal.Heads.{homes_of, no_site, site_by, rest_of, with_rest, slim, broad, found_in, held_by, held_in, IsThere, AreThere, IsHead, IsWhole, Says, IsAdded}
-use Rattle.die_walk.proofs.FlagLemmas.{parent_kept, declaration_kept, link_kept, rest_put, rest_none}
 use Rattle.sym_edges.specs.Rising.{StandBelow}
 
 pub drop_past : (place : ℕ) (bytes : List ℕ) → length bytes < place → [] ≡ drop place bytes
@@ -53,9 +52,9 @@ wides_kept homes sites wides more (head ∷ heads) there =
 -- a head with a rest says the same
 slim_rest : (homes : Homes) (head : Head) (site : SiteFields) (rest number : ℕ) → slim homes (with_rest head rest number) site ≡ slim homes head site
 slim_rest homes head site rest number =
-    let parent = parent_kept head.flags rest in
-    let declaration = declaration_kept head.flags rest in
-    let link = link_kept head.flags rest in
+    let parent : (head.flags + 16 * rest) % 2 ≡ head.flags % 2 = omega arith in
+    let declaration : (head.flags + 16 * rest) / 2 % 2 ≡ head.flags / 2 % 2 = omega arith in
+    let link : (head.flags + 16 * rest) / 4 % 4 ≡ head.flags / 4 % 4 = omega arith in
     cc
 
 found_here : {X : Type 0} (rest : ℕ) (head : Head) (xs : List X) → rest_of head ≡ rest → found_in rest head xs ≡ slice_get xs head.number
@@ -73,7 +72,7 @@ found_none rest other head xs is apart = by (nat_eq (rest_of head) rest) refl
 -- an entry more
 pub pushed_alone : (homes : Homes) (sites : List SiteFields) (wides : List WideFields) (heads : List Head) (head : Head) → head.flags < 16 → map (held_in homes sites wides) (heads ++ head ∷ []) ≡ map (held_in homes sites wides) heads ++ slim homes head no_site ∷ []
 pushed_alone homes sites wides heads head small =
-    let none : rest_of head ≡ 0 = rest_none head.flags small in
+    let none : rest_of head ≡ 0 = omega (arith, small) in
     map-append (held_in homes sites wides) heads (head ∷ [])
     ∙ ap (λ (site : Option SiteFields). map (held_in homes sites wides) heads ++ held_by homes head site (found_in 2 head wides) ∷ []) (found_none 1 0 head sites none (λ e. omega (arith, e)))
     ∙ ap (λ (wide : Option WideFields). map (held_in homes sites wides) heads ++ held_by homes head None wide ∷ []) (found_none 2 0 head wides none (λ e. omega (arith, e)))
@@ -81,7 +80,7 @@ pushed_alone homes sites wides heads head small =
 pub pushed_site : (homes : Homes) (sites more : List SiteFields) (wides : List WideFields) (heads longer : List Head) (head last : Head) (site : SiteFields) (number : ℕ) → AreThere (length sites) (length wides) heads → head.flags < 16 → number ≡ length sites → last ≡ with_rest head 1 number → more ≡ sites ++ site ∷ [] → longer ≡ heads ++ last ∷ []
     → map (held_in homes more wides) longer ≡ map (held_in homes sites wides) heads ++ slim homes head site ∷ []
 pushed_site homes sites more wides heads longer head last site number there small is made added long =
-    let rest : rest_of last ≡ 1 = ap rest_of made ∙ rest_put head.flags 1 small in
+    let rest : rest_of last ≡ 1 = omega (arith, small, ap (λ (h : Head). h.flags) made) in
     let place : last.number ≡ length sites = ap (λ (h : Head). h.number) made ∙ is in
     ap (λ (all : List SiteFields). map (held_in homes all wides) longer) added ∙ ap (map (held_in homes (sites ++ site ∷ []) wides)) long ∙ map-append (held_in homes (sites ++ site ∷ []) wides) heads (last ∷ [])
     ∙ ap (λ (front : List DieFields). front ++ held_in homes (sites ++ site ∷ []) wides last ∷ []) (sites_kept homes sites (site ∷ []) wides heads there)
@@ -93,7 +92,7 @@ pushed_site homes sites more wides heads longer head last site number there smal
 pub pushed_wide : (homes : Homes) (sites : List SiteFields) (wides more : List WideFields) (heads longer : List Head) (head last : Head) (wide : WideFields) (number : ℕ) → AreThere (length sites) (length wides) heads → head.flags < 16 → number ≡ length wides → last ≡ with_rest head 2 number → more ≡ wides ++ wide ∷ [] → longer ≡ heads ++ last ∷ []
     → map (held_in homes sites more) longer ≡ map (held_in homes sites wides) heads ++ broad homes head wide ∷ []
 pushed_wide homes sites wides more heads longer head last wide number there small is made added long =
-    let rest : rest_of last ≡ 2 = ap rest_of made ∙ rest_put head.flags 2 small in
+    let rest : rest_of last ≡ 2 = omega (arith, small, ap (λ (h : Head). h.flags) made) in
     let place : last.number ≡ length wides = ap (λ (h : Head). h.number) made ∙ is in
     ap (λ (all : List WideFields). map (held_in homes sites all) longer) added ∙ ap (map (held_in homes sites (wides ++ wide ∷ []))) long ∙ map-append (held_in homes sites (wides ++ wide ∷ [])) heads (last ∷ [])
     ∙ ap (λ (front : List DieFields). front ++ held_in homes sites (wides ++ wide ∷ []) last ∷ []) (wides_kept homes sites wides (wide ∷ []) heads there)
@@ -115,7 +114,7 @@ there_more sites wides (first ∷ heads) head there here = (there.0, there_more 
 
 pub there_alone : (sites wides : ℕ) (heads : List Head) (head : Head) → AreThere sites wides heads → head.flags < 16 → AreThere sites wides (heads ++ head ∷ [])
 there_alone sites wides heads head there small =
-    let none : rest_of head ≡ 0 = rest_none head.flags small in
+    let none : rest_of head ≡ 0 = omega (arith, small) in
     there_more sites wides heads head there ((λ e. absurd (omega (arith, e, none))), (λ e. absurd (omega (arith, e, none))))
 
 pub more_sites : (sites : List SiteFields) (wides : ℕ) (heads : List Head) (site : SiteFields) → AreThere (length sites) wides heads → AreThere (length (sites ++ site ∷ [])) wides heads
@@ -126,14 +125,14 @@ more_wides sites wides heads wide there = there_wider sites sites (length wides)
 
 pub there_site : (sites more : List SiteFields) (wides : ℕ) (heads longer : List Head) (head last : Head) (site : SiteFields) (number : ℕ) → AreThere (length sites) wides heads → head.flags < 16 → number ≡ length sites → last ≡ with_rest head 1 number → more ≡ sites ++ site ∷ [] → longer ≡ heads ++ last ∷ [] → AreThere (length more) wides longer
 there_site sites more wides heads longer head last site number there small is made added long =
-    let rest : rest_of last ≡ 1 = ap rest_of made ∙ rest_put head.flags 1 small in
+    let rest : rest_of last ≡ 1 = omega (arith, small, ap (λ (h : Head). h.flags) made) in
     let place : last.number ≡ length sites = ap (λ (h : Head). h.number) made ∙ is in
     rw (added, long) (there_more (length (sites ++ site ∷ [])) wides heads last (more_sites sites wides heads site there)
     ((λ e. rw length-append (omega (arith, place))), (λ e. absurd (omega (arith, e, rest)))))
 
 pub there_wide : (sites : ℕ) (wides more : List WideFields) (heads longer : List Head) (head last : Head) (wide : WideFields) (number : ℕ) → AreThere sites (length wides) heads → head.flags < 16 → number ≡ length wides → last ≡ with_rest head 2 number → more ≡ wides ++ wide ∷ [] → longer ≡ heads ++ last ∷ [] → AreThere sites (length more) longer
 there_wide sites wides more heads longer head last wide number there small is made added long =
-    let rest : rest_of last ≡ 2 = ap rest_of made ∙ rest_put head.flags 2 small in
+    let rest : rest_of last ≡ 2 = omega (arith, small, ap (λ (h : Head). h.flags) made) in
     let place : last.number ≡ length wides = ap (λ (h : Head). h.number) made ∙ is in
     rw (added, long) (there_more sites (length (wides ++ wide ∷ [])) heads last (more_wides sites wides heads wide there)
     ((λ e. absurd (omega (arith, e, rest))), (λ e. rw length-append (omega (arith, place)))))

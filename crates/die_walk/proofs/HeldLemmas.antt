@@ -26,40 +26,36 @@ pub front_of : (bytes : List ℕ) → text_in bytes 0 ≡ front_text bytes
 front_of bytes = text_is bytes 0
 
 -- a zero byte ends a text
-abbrev is_there : {A : Type 0} → Option A → Bool
-is_there (Some x) = true
-is_there None = false
-
-said : {A : Type 0} (x : Option A) (other : A) → is_there x ≡ true → x ≡ Some (unwrap_or x other)
+said : {A : Type 0} (x : Option A) (other : A) → is_some x ≡ true → x ≡ Some (unwrap_or x other)
 said (Some y) other there = refl
 said None other there = absurd (grind (arith, there))
 
-mapped : {A B : Type 0} (f : A → B) (x : Option A) → is_there x ≡ true → is_there (option_map f x) ≡ true
+mapped : {A B : Type 0} (f : A → B) (x : Option A) → is_some x ≡ true → is_some (option_map f x) ≡ true
 mapped f (Some y) there = refl
 mapped f None there = absurd (grind (arith, there))
 
-found_by : (bytes : List ℕ) (place k : ℕ) (below : Bool) → nat_lt place (length bytes) ≡ below → place ≡ position_or_len (λ byte. nat_eq byte 0) bytes → k < length bytes → get_or bytes k 1 ≡ 0 → is_there (cond below (Some place) None) ≡ true
+found_by : (bytes : List ℕ) (place k : ℕ) (below : Bool) → nat_lt place (length bytes) ≡ below → place ≡ position_or_len (λ byte. nat_eq byte 0) bytes → k < length bytes → get_or bytes k 1 ≡ 0 → is_some (cond below (Some place) None) ≡ true
 found_by bytes place k true is at there null = refl
 found_by bytes place k false is at there null =
     let far : length bytes ≤ place = ltb-false _ _ is in
     let passes : not (nat_eq (get_or bytes k 1) 0) ≡ true = prefix_len_passes (λ byte. not (nat_eq byte 0)) bytes k 1 (omega (arith, far, at, there)) in
     absurd (grind (arith, nat_tests, passes, null))
 
-closed : (bytes : List ℕ) (k : ℕ) → k < length bytes → get_or bytes k 1 ≡ 0 → is_there (position (λ byte. nat_eq byte 0) bytes) ≡ true
+closed : (bytes : List ℕ) (k : ℕ) → k < length bytes → get_or bytes k 1 ≡ 0 → is_some (position (λ byte. nat_eq byte 0) bytes) ≡ true
 closed bytes k there null = found_by bytes (position_or_len (λ byte. nat_eq byte 0) bytes) k (nat_lt (position_or_len (λ byte. nat_eq byte 0) bytes) (length bytes)) refl refl there null
 
-ended : (bytes : List ℕ) (k : ℕ) → k < length bytes → get_or bytes k 1 ≡ 0 → is_there (front_text bytes) ≡ true
+ended : (bytes : List ℕ) (k : ℕ) → k < length bytes → get_or bytes k 1 ≡ 0 → is_some (front_text bytes) ≡ true
 unfolding front_text
 ended bytes k there null = mapped (λ n. take n bytes) (position (λ byte. nat_eq byte 0) bytes) (closed bytes k there null)
 
-behind : (bytes : List ℕ) (place : ℕ) → get_or bytes (length bytes - 1) 1 ≡ 0 → place < length bytes → is_there (front_text (drop place bytes)) ≡ true
+behind : (bytes : List ℕ) (place : ℕ) → get_or bytes (length bytes - 1) 1 ≡ 0 → place < length bytes → is_some (front_text (drop place bytes)) ≡ true
 behind bytes place last there =
     let long : length (drop place bytes) ≡ length bytes - place = length-drop place bytes in
     let same : place + (length bytes - 1 - place) ≡ length bytes - 1 = omega (arith, there) in
     ended (drop place bytes) (length bytes - 1 - place) (omega (arith, long, there))
     (get_or-drop place bytes (length bytes - 1 - place) 1 ∙ ap (λ (k : ℕ). get_or bytes k 1) same ∙ last)
 
-open_by : (bytes : List ℕ) (place : ℕ) (said_so : Bool) → IsClosed said_so bytes → said_so ≡ true → place < length bytes → is_there (front_text (drop place bytes)) ≡ true
+open_by : (bytes : List ℕ) (place : ℕ) (said_so : Bool) → IsClosed said_so bytes → said_so ≡ true → place < length bytes → is_some (front_text (drop place bytes)) ≡ true
 open_by bytes place true last is there = behind bytes place last there
 open_by bytes place false last is there = absurd (grind (arith, is))
 
@@ -70,11 +66,7 @@ open_text bytes place said_so last is there =
 -- a text that is there, and a place without one
 pub here_text : (bytes : List ℕ) (place : ℕ) (found : Bool) → found ≡ is_some (text_in bytes place) → found ≡ true → text_in bytes place ≡ text_from bytes place
 here_text bytes place found is so =
-    text_is bytes place ∙ said (front_text (drop place bytes)) (drop place bytes) (there_of (front_text (drop place bytes)) (ap is_some (sym (text_is bytes place)) ∙ sym is ∙ so))
-  where
-    there_of : (x : Option (List ℕ)) → is_some x ≡ true → is_there x ≡ true
-    there_of (Some y) so = refl
-    there_of None so = absurd (grind (arith, so))
+    text_is bytes place ∙ said (front_text (drop place bytes)) (drop place bytes) (ap is_some (sym (text_is bytes place)) ∙ sym is ∙ so)
 
 pub no_text : (bytes : List ℕ) (place : ℕ) (found : Bool) → found ≡ is_some (text_in bytes place) → found ≡ false → text_in bytes place ≡ None
 no_text bytes place found is not_so = none_of (text_in bytes place) (sym is ∙ not_so)

@@ -44,15 +44,12 @@ kept_some item [] = omega arith
 kept_some item (before ∷ earlier) = omega (arith, kept_some before earlier)
 
 -- a list of children is closed
-levels_closed : (levels : List (Option ℕ)) (k : ℕ) → k < length levels - 1 → get_or (take (length levels - 1) levels) k None ≡ get_or levels k None
-levels_closed levels k below = get_or-take (length levels - 1) levels k None below
-
 close_holds : (w x : Walked) (earlier : List Item) (depth : ℕ) → Holds w earlier depth → x ≡ record w { open_levels = take (length w.open_levels - 1) w.open_levels } → Holds x earlier (depth - 1)
 close_holds w x earlier depth holds is =
     subst (λ (y : Walked). Holds y earlier (depth - 1)) (sym is) (record {
       count = holds.count;
       levels = length-take-le (length w.open_levels - 1) w.open_levels (omega arith) ∙ ap (λ n. n - 1) holds.levels;
-      each = λ k below. levels_closed w.open_levels k (omega (arith, below, holds.levels)) ∙ holds.each k (omega (arith, below));
+      each = λ k below. get_or-take (length w.open_levels - 1) w.open_levels k None (omega (arith, below, holds.levels)) ∙ holds.each k (omega (arith, below));
     })
 
 -- an entry is taken in, kept or not, with children or without
