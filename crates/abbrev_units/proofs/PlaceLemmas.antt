@@ -63,24 +63,19 @@ dense_more n list code front there is number =
     subst (λ m. Follow 0 m list) next (follow_more 0 n list nowhere front there here)
 
 -- a code is one of the first so many, or it is not
-front_both : (code dense : ℕ) (low high : Bool) → nat_lt 0 code ≡ low → nat_le code dense ≡ high → (low && high) ≡ true → (0 < code) × (code ≤ dense)
-front_both code dense true true low high is = (grind (arith, nat_tests, low), grind (arith, nat_tests, high))
-front_both code dense true false low high is = absurd (grind (arith, is))
-front_both code dense false high low below is = absurd (grind (arith, is))
-
-front_not : (code dense : ℕ) (low high : Bool) → nat_lt 0 code ≡ low → nat_le code dense ≡ high → (low && high) ≡ false → (code ≤ 0) ⊎ (0 + dense < code)
-front_not code dense true true low high is = absurd (grind (arith, is))
-front_not code dense true false low high is = inr (grind (arith, nat_tests, high))
-front_not code dense false high low below is = inl (grind (arith, nat_tests, low))
+front_not : (code dense : ℕ) (low : Bool) → nat_lt 0 code ≡ low → (nat_lt 0 code && nat_le code dense) ≡ false → (code ≤ 0) ⊎ (0 + dense < code)
+front_not code dense true low is = inr (grind (arith, nat_tests, low, is))
+front_not code dense false low is = inl (grind (arith, nat_tests, low))
 
 pub found_front : (list : List Abbrev) (dense code : ℕ) → IsDense dense list → (nat_lt 0 code && nat_le code dense) ≡ true → slice_get list (code - 1) ≡ abbrev_of code list
 found_front list dense code front is =
-    let both = front_both code dense (nat_lt 0 code) (nat_le code dense) refl refl is in
-    sym (find_is code list ∙ ap (slice_get list) (follow_at 0 dense list (code - 1) code front (omega (arith, both.0, both.1)) (omega (arith, both.0))))
+    let some : 0 < code = grind (arith, nat_tests, is) in
+    let inside : code ≤ dense = grind (arith, nat_tests, is) in
+    sym (find_is code list ∙ ap (slice_get list) (follow_at 0 dense list (code - 1) code front (omega (arith, some, inside)) (omega (arith, some))))
 
 pub found_nowhere : (list : List Abbrev) (dense code : ℕ) → IsDense dense list → dense ≡ length list → (nat_lt 0 code && nat_le code dense) ≡ false → None ≡ abbrev_of code list
 found_nowhere list dense code front all is =
-    let away = subst (λ n. (code ≤ 0) ⊎ (0 + n < code)) all (front_not code dense (nat_lt 0 code) (nat_le code dense) refl refl is) in
+    let away = subst (λ n. (code ≤ 0) ⊎ (0 + n < code)) all (front_not code dense (nat_lt 0 code) refl is) in
     sym (find_is code list ∙ ap (slice_get list) (follow_none 0 dense list code front (omega arith) away) ∙ slice_get_past list (length list) (omega arith))
 
 -- by the map
