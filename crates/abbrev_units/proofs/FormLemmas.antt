@@ -53,17 +53,9 @@ values_pass (spec ∷ specs) c =
     (λ first. passes_then (values_at specs first.1) _ 0 0 first.1 (values_pass specs first.1) (λ later. (omega arith, refl)))
 
 -- a row that is found has the code that was looked for
-row_code_by : (code : ℕ) (first row : FormRow) (later : Option FormRow) (here : Bool) → nat_eq first.code code ≡ here → (Some row ≡ later → row.code ≡ code) → Some row ≡ cond here (Some first) later → row.code ≡ code
-row_code_by code first row later true test rest is =
-    let same : row ≡ first = cc in
-    let tests : first.code ≡ code = grind (arith, nat_tests) in
-    ap (λ (r : FormRow). r.code) same ∙ tests
-row_code_by code first row later false test rest is = rest is
-
 row_code : (code : ℕ) (rows : List FormRow) (row : FormRow) → Some row ≡ find (λ (r : FormRow). nat_eq r.code code) rows → row.code ≡ code
 row_code code [] row is = absurd (grind (arith, is))
-row_code code (first ∷ rows) row is =
-    row_code_by code first row (find (λ (r : FormRow). nat_eq r.code code) rows) (nat_eq first.code code) refl (row_code code rows row) is
+row_code code (first ∷ rows) row is = grind (arith, nat_tests, row_code code rows row, is)
 
 pub row_known : (form : ℕ) (rows : List FormRow) (row : FormRow) → Some row ≡ form_row form rows → Some (record { code = form; layout = row.layout; class = row.class }) ≡ form_row form rows
 unfolding form_row

@@ -31,34 +31,15 @@ abbrev given : ℕ → Value → Given
 given attribute value = record { attribute = attribute; value = value }
 
 -- one value more at the end of a list
-note_some : (same : Bool) (old value : Value) → note_if same (Some old) value ≡ Some old
-note_some true old value = refl
-note_some false old value = refl
-
-first_by : (wanted attribute : ℕ) (value : Value) (before : Given) (same : Bool) (rest : List Given) → first_of wanted (rest ++ given attribute value ∷ []) ≡ note_if (nat_eq attribute wanted) (first_of wanted rest) value → option_map (λ (g : Given). g.value) (cond same (Some before) (find (λ g. nat_eq g.attribute wanted) (rest ++ given attribute value ∷ []))) ≡ note_if (nat_eq attribute wanted) (option_map (λ (g : Given). g.value) (cond same (Some before) (find (λ g. nat_eq g.attribute wanted) rest))) value
-unfolding first_of
-first_by wanted attribute value before true rest later = sym (note_some (nat_eq attribute wanted) before.value value)
-first_by wanted attribute value before false rest later = later
-
-last_by : (same : Bool) (attribute : ℕ) (value : Value) → option_map (λ (g : Given). g.value) (cond same (Some (given attribute value)) None) ≡ note_if same None value
-last_by true attribute value = refl
-last_by false attribute value = refl
-
 first_more : (wanted attribute : ℕ) (value : Value) (seen : List Given) → first_of wanted (seen ++ given attribute value ∷ []) ≡ note_if (nat_eq attribute wanted) (first_of wanted seen) value
 unfolding first_of
-first_more wanted attribute value [] = last_by (nat_eq attribute wanted) attribute value
-first_more wanted attribute value (before ∷ rest) = first_by wanted attribute value before (nat_eq before.attribute wanted) rest (first_more wanted attribute value rest)
+first_more wanted attribute value [] = grind (arith, nat_tests)
+first_more wanted attribute value (before ∷ rest) = grind (arith, nat_tests, first_more wanted attribute value rest)
 
 -- one attribute more at the end of a list
-among_by : (x y later rest : Bool) → later ≡ (x || rest) → (y || later) ≡ (x || (y || rest))
-among_by true true later rest is = refl
-among_by false true later rest is = refl
-among_by true false later rest is = is
-among_by false false later rest is = is
-
 among_more : (wanted attribute : ℕ) (seen : List ℕ) → is_among wanted (seen ++ attribute ∷ []) ≡ (nat_eq attribute wanted || is_among wanted seen)
 among_more wanted attribute [] = refl
-among_more wanted attribute (before ∷ rest) = among_by (nat_eq attribute wanted) (nat_eq before wanted) _ _ (among_more wanted attribute rest)
+among_more wanted attribute (before ∷ rest) = grind (arith, nat_tests, among_more wanted attribute rest)
 
 -- an attribute that nobody asks for is none of those that are asked for
 unasked : (attribute asked : ℕ) → is_asked attribute ≡ false → is_asked asked ≡ true → nat_eq attribute asked ≡ false
@@ -84,15 +65,10 @@ fills_more _ attribute before is = rw is (simp among_more)
 abbrev names_of : List Given → List ℕ
 names_of values = map (λ (g : Given). g.attribute) values
 
-seen_by : (wanted : ℕ) (before : Given) (same : Bool) (rest : List Given) → is_among wanted (names_of rest) ≡ is_some (first_of wanted rest) → (same || is_among wanted (names_of rest)) ≡ is_some (option_map (λ (g : Given). g.value) (cond same (Some before) (find (λ g. nat_eq g.attribute wanted) rest)))
-unfolding first_of
-seen_by wanted before true rest later = refl
-seen_by wanted before false rest later = later
-
 seen_is : (wanted : ℕ) (values : List Given) → is_among wanted (names_of values) ≡ is_some (first_of wanted values)
 unfolding first_of
 seen_is wanted [] = refl
-seen_is wanted (before ∷ rest) = seen_by wanted before (nat_eq before.attribute wanted) rest (seen_is wanted rest)
+seen_is wanted (before ∷ rest) = grind (arith, nat_tests, seen_is wanted rest)
 
 slot_seen : (s : Slot) (values : List Given) → get_or (filled_by (names_of values)) (slot_number s) false ≡ is_some (pick_of s (first_values values))
 slot_seen slot.Passed values = refl

@@ -15,37 +15,25 @@ use Rattle.abbrev_units.specs.Abbreviations.{abbrev_of}
 use Rattle.abbrev_units.specs.Places.{first_place, Follow, IsDense, HasPlaces}
 
 -- the abbreviation of a code stands at its first place
-find_by : (same : Bool) (code : ℕ) (a : Abbrev) (rest : List Abbrev) → abbrev_of code rest ≡ slice_get rest (first_place code rest) → cond same (Some a) (abbrev_of code rest) ≡ slice_get (a ∷ rest) (cond same 0 (suc (first_place code rest)))
-find_by true code a rest later = refl
-find_by false code a rest later = later
-
 find_is : (code : ℕ) (list : List Abbrev) → abbrev_of code list ≡ slice_get list (first_place code list)
 unfolding abbrev_of first_place
 find_is code [] = refl
-find_is code (a ∷ rest) = find_by (nat_eq a.code code) code a rest (find_is code rest)
+find_is code (a ∷ rest) = grind (arith, nat_tests, find_is code rest)
 
 -- codes that follow a number one by one
 follow_at : (before n : ℕ) (list : List Abbrev) (k code : ℕ) → Follow before n list → k < n → code ≡ before + k + 1 → first_place code list ≡ k
 unfolding first_place
 follow_at before zero list k code front below is = absurd (omega arith)
 follow_at before (suc n) [] k code front below is = absurd front
-follow_at before (suc n) (a ∷ rest) zero code front below is =
-    let same : nat_eq a.code code ≡ true = grind (arith, nat_tests, front.0) in
-    cond-true _ _ _ same
-follow_at before (suc n) (a ∷ rest) (suc k) code front below is =
-    let other : nat_eq a.code code ≡ false = grind (arith, nat_tests, front.0) in
-    cond-false _ _ _ other ∙ ap suc (follow_at (before + 1) n rest k code front.1 (omega arith) (omega arith))
+follow_at before (suc n) (a ∷ rest) zero code front below is = grind (arith, nat_tests, front.0)
+follow_at before (suc n) (a ∷ rest) (suc k) code front below is = grind (arith, nat_tests, front.0, follow_at (before + 1) n rest k code front.1 (omega arith) (omega arith))
 
 follow_none : (before n : ℕ) (list : List Abbrev) (code : ℕ) → Follow before n list → length list ≤ n → (code ≤ before) ⊎ (before + length list < code) → first_place code list ≡ length list
 unfolding first_place
 follow_none before n [] code front all away = refl
 follow_none before zero (a ∷ rest) code front all away = absurd (omega arith)
-follow_none before (suc n) (a ∷ rest) code front all (inl below) =
-    let other : nat_eq a.code code ≡ false = grind (arith, nat_tests, front.0) in
-    cond-false _ _ _ other ∙ ap suc (follow_none (before + 1) n rest code front.1 (omega arith) (inl (omega arith)))
-follow_none before (suc n) (a ∷ rest) code front all (inr above) =
-    let other : nat_eq a.code code ≡ false = grind (arith, nat_tests, front.0) in
-    cond-false _ _ _ other ∙ ap suc (follow_none (before + 1) n rest code front.1 (omega arith) (inr (omega arith)))
+follow_none before (suc n) (a ∷ rest) code front all (inl below) = grind (arith, nat_tests, front.0, follow_none (before + 1) n rest code front.1 (omega arith) (inl (omega arith)))
+follow_none before (suc n) (a ∷ rest) code front all (inr above) = grind (arith, nat_tests, front.0, follow_none (before + 1) n rest code front.1 (omega arith) (inr (omega arith)))
 
 follow_more : (before n : ℕ) (list : List Abbrev) (d : Abbrev) → Follow before n list → n < length list → (get_or list n d).code ≡ before + n + 1 → Follow before (suc n) list
 follow_more before n [] d front there is = absurd (omega arith)
