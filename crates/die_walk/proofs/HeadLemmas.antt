@@ -31,11 +31,7 @@ get_last (y ∷ xs) x = get_last xs x
 
 -- what a head leads to stays where more is added
 found_kept : {X : Type 0} (rest : ℕ) (head : Head) (xs more : List X) → (rest_of head ≡ rest → head.number < length xs) → found_in rest head (xs ++ more) ≡ found_in rest head xs
-found_kept rest head xs more there = by (nat_eq (rest_of head) rest) refl
-  where
-    by : (here : Bool) → nat_eq (rest_of head) rest ≡ here → cond here (slice_get (xs ++ more) head.number) None ≡ cond here (slice_get xs head.number) None
-    by true is = get_before xs more head.number (there (grind (arith, nat_tests, is)))
-    by false is = refl
+found_kept rest head xs more there = grind (arith, nat_tests, get_before xs more head.number, there)
 
 sites_kept : (homes : Homes) (sites more : List SiteFields) (wides : List WideFields) (heads : List Head) → AreThere (length sites) (length wides) heads → map (held_in homes (sites ++ more) wides) heads ≡ map (held_in homes sites wides) heads
 sites_kept homes sites more wides [] there = refl
@@ -58,16 +54,10 @@ slim_rest homes head site rest number =
     cc
 
 found_here : {X : Type 0} (rest : ℕ) (head : Head) (xs : List X) → rest_of head ≡ rest → found_in rest head xs ≡ slice_get xs head.number
-found_here rest head xs is =
-    let test : nat_eq (rest_of head) rest ≡ true = grind (arith, nat_tests, is) in
-    cond-true _ _ _ test
+found_here rest head xs is = grind (arith, nat_tests, is)
 
 found_none : {X : Type 0} (rest other : ℕ) (head : Head) (xs : List X) → rest_of head ≡ other → (other ≡ rest → ⊥) → found_in rest head xs ≡ None
-found_none rest other head xs is apart = by (nat_eq (rest_of head) rest) refl
-  where
-    by : (here : Bool) → nat_eq (rest_of head) rest ≡ here → cond here (slice_get xs head.number) None ≡ None
-    by true test = absurd (apart (sym is ∙ grind (arith, nat_tests, test)))
-    by false test = refl
+found_none rest other head xs is apart = grind (arith, nat_tests, is, apart)
 
 -- an entry more
 pub pushed_alone : (homes : Homes) (sites : List SiteFields) (wides : List WideFields) (heads : List Head) (head : Head) → head.flags < 16 → map (held_in homes sites wides) (heads ++ head ∷ []) ≡ map (held_in homes sites wides) heads ++ slim homes head no_site ∷ []

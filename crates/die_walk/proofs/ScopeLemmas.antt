@@ -2,6 +2,7 @@
 use Rattle.std.proofs.Common.{◌≡◌, if◌then◌else◌, ◌<◌, ◌≤◌, ◌++◌, ℕ, zero, suc, true, false, List, [], ◌∷◌, length, Option, None, Some, option_and_then, refl, sym, ap, ◌∙◌, arith, ⊎_elim, length-append}
 use Rattle.std.specs.List.{slice_get}
 use Rattle.std.proofs.lemmas.Bool.{cond-true, cond-false, eq-eqb, ne_eqb, cases_lt}
+use Rattle.std.proofs.lemmas.Bool.Decides.{nat_tests}
 use Rattle.std.proofs.lemmas.Option.{slice_get_within}
 use Rattle.die_walk.specs.EntryTable.{DieFields}
 use Rattle.die_walk.specs.EntryKinds.{is_scope}
@@ -25,14 +26,7 @@ around_past dies (suc limit) number past = cond-false _ _ _ (ne_eqb _ _ (λ (e :
 around_here : (dies : List DieFields) (limit number : ℕ) → number < limit → scope_around dies limit (Some number) ≡ option_and_then (from_here dies number) (slice_get dies number)
 unfolding scope_around
 around_here dies zero number below = absurd (omega arith)
-around_here dies (suc limit) number below =
-    ⊎_elim
-    (λ less. cond-false _ _ _ (ne_eqb _ _ (λ (e : number ≡ limit). absurd (omega arith))) ∙ around_here dies limit number less)
-    (λ from.
-    let here : limit ≡ number = omega arith in
-    cond-true _ _ _ (eq-eqb _ _ (sym here))
-    ∙ ap (λ (n : ℕ). option_and_then (from_here dies n) (slice_get dies n)) here)
-    (cases_lt number limit)
+around_here dies (suc limit) number below = grind (arith, nat_tests, around_here dies limit number, below)
 
 entry_here : (dies : List DieFields) (limit number : ℕ) (next whole : Option ℕ) (o : Option DieFields) → next ≡ Some number → number < limit → o ≡ slice_get dies number → scope_around dies limit next ≡ whole → option_and_then (from_here dies number) o ≡ whole
 entry_here dies limit number next whole o to below is rest =

@@ -32,9 +32,7 @@ first_alone (y ∷ xs) x none = absurd (grind (arith, none))
 -- an entry that is not kept leaves all as it is, whatever its values
 unkept : (sections : DebugSections) (unit : Unit) (w : Walked) (at tag : ℕ) (values : List Given) (first kept : Bool) → nat_eq (length w.dies) 0 ≡ first → is_kept_tag tag ≡ kept → (first || kept) ≡ false → entered sections unit w at tag values ≡ w
 unfolding entered
-unkept sections unit w at tag values true kept one two none = absurd (grind (arith, none))
-unkept sections unit w at tag values false true one two none = absurd (grind (arith, none))
-unkept sections unit w at tag values false false one two none = cond-false _ _ _ one ∙ cond-false _ _ _ two
+unkept sections unit w at tag values first kept one two none = grind (arith, nat_tests, one, two, none)
 
 over_by : (sections : DebugSections) (unit : Unit) (w : Walked) (at tag : ℕ) (reading : Result (List Given × Ahead) FormFault) (d : Ahead) → ((values : List Given) → entered sections unit w at tag values ≡ w) → Ok d ≡ only_ahead reading → (in_entry reading >>= entering sections unit w at tag) ≡ Ok (w, d)
 over_by sections unit w at tag (Ok x) d same is =
@@ -171,10 +169,7 @@ kept_few sections unit w v at found c d kept is says few so =
     few_by kept w v ((taken_grows sections unit w v at found c d is).dies ∙ ap (λ b. length w.dies + cond b 1 0) (sym says)) so few
 
 own_by : (kept : Bool) (w v : Walked) → length v.dies ≡ length w.dies + cond kept 1 0 → v.open_levels ≡ w.open_levels → cond kept (Some (length v.dies - 1)) (innermost v.open_levels) ≡ cond kept (Some (length w.dies)) (innermost w.open_levels)
-own_by true w v dies levels =
-    let same : length v.dies - 1 ≡ length w.dies = omega (arith, dies) in
-    ap Some same
-own_by false w v dies levels = ap innermost levels
+own_by kept w v dies levels = grind (arith, nat_tests, dies, levels)
 
 pub own_is : (sections : DebugSections) (unit : Unit) (w v : Walked) (at : ℕ) (found : Abbrev) (c d : Ahead) (kept : Bool) → entered_at sections unit w at found c ≡ Ok (v, d) → kept ≡ keeps w found.tag → cond kept (Some (length v.dies - 1)) (innermost v.open_levels) ≡ own_number w found.tag
 own_is sections unit w v at found c d kept is says =

@@ -24,9 +24,7 @@ pub record Holds (w : Walked) (earlier : List Item) (depth : ℕ) : Type 0 where
 ancestor_none : (earlier : List Item) → ancestor 0 earlier ≡ None
 unfolding ancestor
 ancestor_none [] = refl
-ancestor_none (item ∷ earlier) =
-    let deeper : nat_eq (item.depth + 1) 0 ≡ false = grind (arith, nat_tests) in
-    cond-false _ _ _ deeper ∙ ancestor_none earlier
+ancestor_none (item ∷ earlier) = grind (arith, nat_tests, ancestor_none earlier)
 
 inner_by : (levels : List (Option ℕ)) (depth : ℕ) (earlier : List Item) → length levels ≡ depth → ((k : ℕ) → k < depth → get_or levels k None ≡ ancestor (k + 1) earlier) → innermost levels ≡ ancestor depth earlier
 inner_by [] zero earlier same each = sym (ancestor_none earlier)
@@ -55,18 +53,12 @@ close_holds w x earlier depth holds is =
 -- an entry is taken in, kept or not, with children or without
 levels_kept : (w : Walked) (item : Item) (earlier : List Item) (depth : ℕ) → Holds w earlier depth → item.depth ≡ depth → (k : ℕ) → k < depth → get_or w.open_levels k None ≡ ancestor (k + 1) (item ∷ earlier)
 unfolding ancestor
-levels_kept w item earlier depth holds same k below =
-    let other : nat_eq (item.depth + 1) (k + 1) ≡ false = grind (arith, nat_tests, same) in
-    holds.each k below ∙ sym (cond-false _ _ _ other)
+levels_kept w item earlier depth holds same k below = grind (arith, nat_tests, same, holds.each k below)
 
 own_is : (w : Walked) (item before : Item) (earlier : List Item) (depth : ℕ) (kept : Bool) → Holds w (before ∷ earlier) depth → item.depth ≡ depth → is_kept_tag item.tag ≡ kept → cond kept (Some (length w.dies)) (innermost w.open_levels) ≡ ancestor (depth + 1) (item ∷ before ∷ earlier)
 unfolding ancestor
-own_is w item before earlier depth true holds same kept =
-    let here : nat_eq (item.depth + 1) (depth + 1) ≡ true = grind (arith, nat_tests, same) in
-    ap Some holds.count ∙ sym (cond-true _ _ _ here ∙ cond-true _ _ _ kept)
-own_is w item before earlier depth false holds same kept =
-    let here : nat_eq (item.depth + 1) (depth + 1) ≡ true = grind (arith, nat_tests, same) in
-    inner_by w.open_levels depth (before ∷ earlier) holds.levels holds.each ∙ ap (λ d. ancestor d (before ∷ earlier)) (sym same) ∙ sym (cond-true _ _ _ here ∙ cond-false _ _ _ kept)
+own_is w item before earlier depth kept holds same is =
+    grind (arith, nat_tests, holds.count, same, is, inner_by w.open_levels depth (before ∷ earlier) holds.levels holds.each)
 
 -- the lists of children that are open, with one more
 opened_each : (w v : Walked) (item before : Item) (earlier : List Item) (depth : ℕ) (own : Option ℕ) → Holds w (before ∷ earlier) depth → item.depth ≡ depth → v.open_levels ≡ w.open_levels → own ≡ ancestor (depth + 1) (item ∷ before ∷ earlier) → (k : ℕ) → k ≤ depth → (last : Bool) → nat_eq k depth ≡ last → get_or (v.open_levels ++ own ∷ []) k None ≡ ancestor (k + 1) (item ∷ before ∷ earlier)
@@ -108,17 +100,10 @@ die_is sections unit base at depth tag values inner around same = ap (λ p. die_
 -- after the first entry, one more
 entered_is : (sections : DebugSections) (unit : Unit) (w : Walked) (at tag : ℕ) (values : List Given) (kept : Bool) → 1 ≤ length w.dies → is_kept_tag tag ≡ kept → entered sections unit w at tag values ≡ cond kept (added sections unit w at tag values) w
 unfolding entered
-entered_is sections unit w at tag values kept some is =
-    let not_first : nat_eq (length w.dies) 0 ≡ false = grind (arith, nat_tests, some) in
-    cond-false _ _ _ not_first ∙ ap (λ b. cond b (added sections unit w at tag values) w) is
+entered_is sections unit w at tag values kept some is = grind (arith, nat_tests, some, is)
 
 number_is : (w : Walked) (tag : ℕ) (kept : Bool) → 1 ≤ length w.dies → is_kept_tag tag ≡ kept → own_number w tag ≡ cond kept (Some (length w.dies)) (innermost w.open_levels)
-number_is w tag true some is =
-    let both : keeps w tag ≡ true = grind (arith, nat_tests, is, some) in
-    cond-true _ _ _ both
-number_is w tag false some is =
-    let none : keeps w tag ≡ false = grind (arith, nat_tests, is, some) in
-    cond-false _ _ _ none
+number_is w tag kept some is = grind (arith, nat_tests, is, some)
 
 -- the table after a state: what it has, and the kept ones of the entries to come
 abbrev pub behind_state : DebugSections → Unit → Walked → List Item → List Item → EntryTable
@@ -144,13 +129,8 @@ count_of kept = cond kept 1 0
 
 taken_count : (sections : DebugSections) (unit : Unit) (w : Walked) (item before : Item) (earlier : List Item) (kept : Bool) → is_kept_tag item.tag ≡ kept → length w.dies ≡ kept_count (before ∷ earlier) → length (cond kept (added sections unit w item.at item.tag item.values) w).dies ≡ kept_count (item ∷ before ∷ earlier)
 unfolding kept_count
-taken_count sections unit w item before earlier true is count =
-    let more : length (w.dies ++ die_of sections unit w.root.str_offsets_base (kept_at item.at (innermost w.open_levels) item.tag item.values) ∷ []) ≡ length w.dies + 1 = length-append w.dies _ in
-    let one : count_of (is_kept_tag item.tag) ≡ 1 = ap count_of is in
-    omega (arith, more, one, count)
-taken_count sections unit w item before earlier false is count =
-    let none : count_of (is_kept_tag item.tag) ≡ 0 = ap count_of is in
-    omega (arith, none, count)
+taken_count sections unit w item before earlier kept is count =
+    grind (arith, nat_tests, is, count, length-append w.dies (die_of sections unit w.root.str_offsets_base (kept_at item.at (innermost w.open_levels) item.tag item.values) ∷ []))
 
 taken_levels : (sections : DebugSections) (unit : Unit) (w : Walked) (item : Item) (kept : Bool) → (cond kept (added sections unit w item.at item.tag item.values) w).open_levels ≡ w.open_levels
 taken_levels sections unit w item true = refl
@@ -184,10 +164,7 @@ started root own = record { dies = []; root = root; open_levels = []; own = own 
 
 rounded_is : (sections : DebugSections) (unit : Unit) (w : Walked) (die : DieFields) (dies : List DieFields) → w.dies ≡ die ∷ dies → rounded sections unit w ≡ w
 unfolding rounded
-rounded_is sections unit w die dies is =
-    let long : length w.dies ≡ suc (length dies) = ap length is in
-    let some : nat_eq (length w.dies) 0 ≡ false = grind (arith, nat_tests, long) in
-    cond-false _ _ _ some
+rounded_is sections unit w die dies is = grind (arith, nat_tests, ap length is)
 
 first_level : (at tag : ℕ) (values : List Given) (k : ℕ) → k < 1 → get_or (Some 0 ∷ []) k None ≡ ancestor (k + 1) (record { at = at; depth = 0; tag = tag; values = values } ∷ [])
 unfolding kept_count ancestor
@@ -225,19 +202,8 @@ start_is sections unit (Entry at tag children values ∷ marks) root own =
     ∙ first_table sections unit root own at tag values children items
 
 -- a mark adds one kept entry at most
-entered_few : (sections : DebugSections) (unit : Unit) (w : Walked) (at tag : ℕ) (values : List Given) (first kept : Bool) → length (cond first (begun sections unit w at tag values) (cond kept (added sections unit w at tag values) w)).dies ≤ length w.dies + 1
-entered_few sections unit w at tag values true kept = omega arith
-entered_few sections unit w at tag values false true = omega (arith, length-append w.dies (die_of sections unit w.root.str_offsets_base (kept_at at (innermost w.open_levels) tag values) ∷ []))
-entered_few sections unit w at tag values false false = omega arith
-
-opened_few : (v : Walked) (children : Bool) (own : Option ℕ) → length (opened v children own).dies ≡ length v.dies
-opened_few v true own = refl
-opened_few v false own = refl
-
 pub moved_few : (sections : DebugSections) (unit : Unit) (w : Walked) (mark : Mark) → length (moved sections unit w mark).dies ≤ length w.dies + 1
 unfolding moved entered
 moved_few sections unit w Close = omega arith
 moved_few sections unit w (Entry at tag children values) =
-    let same = opened_few (entered sections unit w at tag values) children (own_number w tag) in
-    let few : length (entered sections unit w at tag values).dies ≤ length w.dies + 1 = entered_few sections unit w at tag values (nat_eq (length w.dies) 0) (is_kept_tag tag) in
-    omega (arith, same, few)
+    grind (arith, nat_tests, length-append w.dies (die_of sections unit w.root.str_offsets_base (kept_at at (innermost w.open_levels) tag values) ∷ []))

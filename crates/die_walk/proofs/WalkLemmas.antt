@@ -1,6 +1,7 @@
 -- The walk, step by step.
 use Rattle.std.proofs.Common.{◌≡◌, ◌<◌, ◌≤◌, ◌+◌, ◌^◌, ℕ, Bool, true, false, nat_eq, cond, List, [], ◌∷◌, length, Option, None, Some, Result, Ok, Err, refl, sym, ap, subst, ◌∙◌, arith, take, ◌-◌, length-drop, length-take-le}
 use Rattle.std.proofs.lemmas.Bool.{cond-true, cond-false}
+use Rattle.std.proofs.lemmas.Bool.Decides.{nat_tests}
 use Rattle.std.specs.Option.{option_map}
 use Rattle.sym_edges.specs.Results.{◌>>=◌}
 use Rattle.sym_edges.specs.declared.fault.Stop.{Stop}
@@ -211,21 +212,10 @@ walked_stopped sections unit abbrevs w x c d (Fault fault) want so_far steps =
 walked_stopped sections unit abbrevs w x c d NoMemory want so_far steps = tt
 
 -- no step changes what is walked over
-opened_own : (w : Walked) (children : Bool) (own : Option ℕ) → (opened w children own).own ≡ w.own
-opened_own w true own = refl
-opened_own w false own = refl
-
-entered_own : (sections : DebugSections) (unit : Unit) (w : Walked) (at tag : ℕ) (values : List Given) (first kept : Bool) → (cond first (begun sections unit w at tag values) (cond kept (added sections unit w at tag values) w)).own ≡ w.own
-entered_own sections unit w at tag values true kept = refl
-entered_own sections unit w at tag values false true = refl
-entered_own sections unit w at tag values false false = refl
-
 moved_own : (sections : DebugSections) (unit : Unit) (w : Walked) (mark : Mark) → (moved sections unit w mark).own ≡ w.own
 unfolding moved entered
 moved_own sections unit w Close = refl
-moved_own sections unit w (Entry at tag children values) =
-    opened_own (entered sections unit w at tag values) children (own_number w tag)
-    ∙ entered_own sections unit w at tag values (nat_eq (length w.dies) 0) (is_kept_tag tag)
+moved_own sections unit w (Entry at tag children values) = grind (arith, nat_tests)
 
 own_by : (sections : DebugSections) (unit : Unit) (w x : Walked) (d : Ahead) (next : Result (Option Mark × Ahead) (Located DwarfKind)) → (next >>= stepping sections unit w) ≡ Ok (Some x, d) → x.own ≡ w.own
 own_by sections unit w x d (Ok (Some mark, e)) steps =
