@@ -94,12 +94,7 @@ same_code : (a b : ℕ) (same : Bool) → is_at (nat_cmp a) b ≡ same → nat_e
 same_code a b same is = grind (arith, nat_tests, is)
 
 placed_by : (n i rest code : ℕ) (same : Bool) (found old : Option ℕ) → found ≡ cond same (Some i) old → unwrap_or old n ≡ (i + 1) + rest → unwrap_or found n ≡ i + cond same 0 (suc rest)
-placed_by n i rest code true found old is later =
-    let first : i ≡ i + 0 = omega arith in
-    ap (λ o. unwrap_or o n) is ∙ first
-placed_by n i rest code false found old is later =
-    let next : (i + 1) + rest ≡ i + suc rest = omega arith in
-    ap (λ o. unwrap_or o n) is ∙ later ∙ next
+placed_by n i rest code same found old is later = grind (arith, nat_tests, is, later)
 
 pub places_more : (list : List Abbrev) (places more : BTreeMap ℕ ℕ) (i j at : ℕ) → HasPlaces places j list → j ≡ i + 1 → i < length list → ((other : Abbrev) → at ≡ (get_or list i other).code) → Updates nat_cmp places more at (Some i) → HasPlaces more i list
 unfolding first_place

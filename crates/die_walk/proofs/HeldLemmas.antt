@@ -56,8 +56,7 @@ behind bytes place last there =
     (get_or-drop place bytes (length bytes - 1 - place) 1 ∙ ap (λ (k : ℕ). get_or bytes k 1) same ∙ last)
 
 open_by : (bytes : List ℕ) (place : ℕ) (said_so : Bool) → IsClosed said_so bytes → said_so ≡ true → place < length bytes → is_some (front_text (drop place bytes)) ≡ true
-open_by bytes place true last is there = behind bytes place last there
-open_by bytes place false last is there = absurd (grind (arith, is))
+open_by bytes place said_so last is there = behind bytes place (grind (arith, is, last)) there
 
 pub open_text : (bytes : List ℕ) (place : ℕ) (said_so : Bool) → IsClosed said_so bytes → said_so ≡ true → place < length bytes → text_in bytes place ≡ text_from bytes place
 open_text bytes place said_so last is there =

@@ -142,11 +142,8 @@ pub record Grows (w v : Walked) (tag : ℕ) : Type 0 where
 grows_by : (sections : DebugSections) (unit : Unit) (w : Walked) (at tag : ℕ) (values : List Given) (first kept : Bool) → nat_eq (length w.dies) 0 ≡ first
     → (length (cond first (begun sections unit w at tag values) (cond kept (added sections unit w at tag values) w)).dies ≡ length w.dies + cond (first || kept) 1 0)
     × ((cond first (begun sections unit w at tag values) (cond kept (added sections unit w at tag values) w)).open_levels ≡ w.open_levels)
-grows_by sections unit w at tag values true kept one =
-    let none : length w.dies ≡ 0 = grind (arith, nat_tests, one) in
-    (omega (arith, none), refl)
-grows_by sections unit w at tag values false true one = (length-append w.dies _, refl)
-grows_by sections unit w at tag values false false one = (omega arith, refl)
+grows_by sections unit w at tag values first kept one =
+    (grind (arith, nat_tests, one, length-append w.dies (die_of sections unit w.root.str_offsets_base (kept_at at (innermost w.open_levels) tag values) ∷ [])), grind (arith, nat_tests))
 
 entry_grows : (sections : DebugSections) (unit : Unit) (w v : Walked) (at tag : ℕ) (reading : Result (List Given × Ahead) (Located DwarfKind)) (d : Ahead) → (reading >>= entering sections unit w at tag) ≡ Ok (v, d) → Grows w v tag
 unfolding entered

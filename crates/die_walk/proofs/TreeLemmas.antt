@@ -62,14 +62,8 @@ own_is w item before earlier depth kept holds same is =
 
 -- the lists of children that are open, with one more
 opened_each : (w v : Walked) (item before : Item) (earlier : List Item) (depth : ℕ) (own : Option ℕ) → Holds w (before ∷ earlier) depth → item.depth ≡ depth → v.open_levels ≡ w.open_levels → own ≡ ancestor (depth + 1) (item ∷ before ∷ earlier) → (k : ℕ) → k ≤ depth → (last : Bool) → nat_eq k depth ≡ last → get_or (v.open_levels ++ own ∷ []) k None ≡ ancestor (k + 1) (item ∷ before ∷ earlier)
-opened_each w v item before earlier depth own holds same levels number k below true last =
-    let long : k ≡ length v.open_levels = grind (arith, nat_tests, last, ap length levels, holds.levels) in
-    let there : depth ≡ k = grind (arith, nat_tests, last) in
-    ap (λ n. get_or (v.open_levels ++ own ∷ []) n None) long ∙ get_or-append_seam v.open_levels own [] None ∙ number ∙ ap (λ n. ancestor (n + 1) (item ∷ before ∷ earlier)) there
-opened_each w v item before earlier depth own holds same levels number k below false last =
-    let short : k < depth = grind (arith, nat_tests, last) in
-    let inside : k < length v.open_levels = omega (arith, short, ap length levels, holds.levels) in
-    get_or_append_left v.open_levels (own ∷ []) None k inside ∙ ap (λ l. get_or l k None) levels ∙ levels_kept w item (before ∷ earlier) depth holds same k short
+opened_each w v item before earlier depth own holds same levels number k below last is =
+    grind (arith, nat_tests, is, below, levels, ap length levels, holds.levels, number, get_or-append_seam v.open_levels own [] None, get_or_append_left v.open_levels (own ∷ []) None k, levels_kept w item (before ∷ earlier) depth holds same k)
 
 -- the same kept entries, and one list of children more
 opened_holds : (w v : Walked) (item before : Item) (earlier : List Item) (depth : ℕ) (own : Option ℕ) → Holds w (before ∷ earlier) depth → item.depth ≡ depth → v.open_levels ≡ w.open_levels → length v.dies ≡ kept_count (item ∷ before ∷ earlier) → own ≡ ancestor (depth + 1) (item ∷ before ∷ earlier) → Holds (record v { open_levels = v.open_levels ++ own ∷ [] }) (item ∷ before ∷ earlier) (depth + 1)
