@@ -61,12 +61,11 @@ passed_by sections unit w at found c d later unkept_tag is =
 entered_same : (sections : DebugSections) (unit : Unit) (w : Walked) (at tag : ℕ) (values : List Given) → entered_by sections unit w at tag (picks_of values) ≡ entered sections unit w at tag values
 unfolding entered_by entered
 entered_same sections unit w at tag values =
-    ap (λ (first : Walked). cond (nat_eq (length w.dies) 0) first (cond (is_kept_tag tag) (added_by sections unit w at tag (picks_of values)) w))
-    (ap (λ (base : Option ℕ). record w { dies = die_by sections unit base (first_place sections.is_sup + at) (innermost w.open_levels) tag (picks_of values) ∷ []; root = root_by sections unit at (picks_of values) }) (base_same sections unit values)
-    ∙ ap (λ (die : DieFields). record w { dies = die ∷ []; root = root_by sections unit at (picks_of values) }) (die_same sections unit (base_of values) at (innermost w.open_levels) tag values)
-    ∙ ap (λ (root : RootFields). record w { dies = die_of sections unit (base_of values) (kept_at at (innermost w.open_levels) tag values) ∷ []; root = root }) (root_same sections unit at values))
-    ∙ ap (λ (die : DieFields). cond (nat_eq (length w.dies) 0) (begun sections unit w at tag values) (cond (is_kept_tag tag) (record w { dies = w.dies ++ die ∷ [] }) w))
-    (die_same sections unit w.root.str_offsets_base at (innermost w.open_levels) tag values)
+    let base = base_same sections unit values in
+    let first = die_same sections unit (base_of values) at (innermost w.open_levels) tag values in
+    let root = root_same sections unit at values in
+    let later = die_same sections unit w.root.str_offsets_base at (innermost w.open_levels) tag values in
+    cc
 
 -- the first entry, once the root is known
 pub begun_is : {E : Type 0} (answer : Result (Prim.Unit {0}) E) (sections : DebugSections) (unit : Unit) (w v : Walked) (root : RootFields) (at tag : ℕ) (picks : PickFields) → length w.dies ≡ 0 → root ≡ root_by sections unit at picks → OnOk answer (v ≡ added_by sections unit (record w { root = root }) at tag picks) → OnOk answer (v ≡ begun_by sections unit w at tag picks)
@@ -109,10 +108,7 @@ moved_by sections unit w v x at found own (Ok values) d is number after =
     let both : entering sections unit w at found.tag values ≡ Ok (v, d) = is in
     let here : entered sections unit w at found.tag values.0 ≡ v = ap (value_or v) both in
     let there : values.1 ≡ d = ap (ahead_or d) both in
-    ap (λ (y : Walked). Ok (opened y found.children (own_number w found.tag), values.1)) here
-    ∙ ap (λ (n : Option ℕ). Ok (opened v found.children n, values.1)) (sym number)
-    ∙ ap (λ (y : Walked). Ok (y, values.1)) (sym after)
-    ∙ ap (λ (c : Ahead). Ok (x, c)) there
+    cc
 moved_by sections unit w v x at found own (Err fault) d is number after = absurd (grind (arith, is))
 
 pub moved_plain : (sections : DebugSections) (unit : Unit) (w v : Walked) (at : ℕ) (found : Abbrev) (c d : Ahead) → entered_at sections unit w at found c ≡ Ok (v, d) → found.children ≡ false → moved_at sections unit w at found c ≡ Ok (v, d)

@@ -30,10 +30,7 @@ inner_by : (levels : List (Option ℕ)) (depth : ℕ) (earlier : List Item) → 
 inner_by [] zero earlier same each = sym (ancestor_none earlier)
 inner_by [] (suc d) earlier same each = absurd (omega (arith, same))
 inner_by (x ∷ levels) zero earlier same each = absurd (omega (arith, same))
-inner_by (x ∷ levels) (suc d) earlier same each =
-    let last : length (x ∷ levels) - 1 ≡ d = omega (arith, same) in
-    let next : d + 1 ≡ suc d = omega arith in
-    ap (λ k. get_or (x ∷ levels) k None) last ∙ each d (omega arith) ∙ ap (λ k. ancestor k earlier) next
+inner_by (x ∷ levels) (suc d) earlier same each = grind (arith, same, each d (omega arith))
 
 -- the first entry is always kept
 kept_some : (item : Item) (earlier : List Item) → 1 ≤ kept_count (item ∷ earlier)
