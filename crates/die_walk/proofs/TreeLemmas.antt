@@ -1,6 +1,5 @@
 -- The table as it grows is the table of the tree.
 use Rattle.std.proofs.Common.{◌≡◌, ◌<◌, ◌≤◌, ◌+◌, ◌-◌, ℕ, zero, suc, Bool, true, false, nat_eq, cond, List, [], ◌∷◌, ◌++◌, length, take, map, get_or, Option, None, Some, refl, sym, ap, subst, ◌∙◌, arith, append_assoc, append-nil, get_or-take, length-take-le, length-append}
-use Rattle.std.proofs.lemmas.Bool.{cond-true, cond-false}
 use Rattle.std.proofs.lemmas.List.{get_or_append_left}
 use Rattle.std.proofs.Math.Seq.{get_or-append_seam}
 use Rattle.std.proofs.lemmas.Bool.Decides.{nat_tests}
@@ -12,7 +11,7 @@ use Rattle.die_walk.specs.Marks.Mark.{Close, Entry}
 use Rattle.abbrev_units.specs.KeptTags.{is_kept_tag}
 use Rattle.die_walk.specs.EntryTree.{Item, items_from, kept_count, ancestor, kept_from}
 use Rattle.die_walk.specs.EntryTable.{DieFields, RootFields, EntryTable, base_of, die_of, root_of, table_by, table_of}
-use Rattle.die_walk.specs.Steps.{Owned, Walked, kept_at, innermost, keeps, begun, added, entered, opened, own_number, moved, all_moved, rounded, table_in}
+use Rattle.die_walk.specs.Steps.{Owned, Walked, kept_at, innermost, begun, added, entered, opened, own_number, moved, all_moved, rounded, table_in}
 
 -- a state holds the kept ones among earlier entries, and around what comes next so many lists are open
 pub record Holds (w : Walked) (earlier : List Item) (depth : ℕ) : Type 0 where

@@ -31,8 +31,7 @@ use Rattle.die_walk.specs.Marks.{Mark, in_entry, read_values_at, entry_by, mark_
 use Rattle.die_walk.specs.Marks.Mark.{Close, Entry}
 use Rattle.abbrev_units.proofs.OkLemmas.{ahead_or}
 use Rattle.die_walk.proofs.TreeLemmas.{start_is, moved_few}
-use Rattle.abbrev_units.specs.KeptTags.{is_kept_tag}
-use Rattle.die_walk.specs.Steps.{Walked, begun, added, entered, opened, own_number, moved, all_moved, rounded, table_in, walked_from, moving, moved_at, step_at, Steps, Moves, IsShort, TableOf}
+use Rattle.die_walk.specs.Steps.{Walked, entered, moved, all_moved, rounded, table_in, walked_from, moving, moved_at, step_at, Steps, Moves, IsShort, TableOf}
 
 -- how far a mark goes
 entry_passes : {A : Type 0} (reading : Result (A × Ahead) FormFault) (least : ℕ) (c : Ahead) → Passes least c reading → Passes least c (in_entry reading)
