@@ -12,6 +12,7 @@ mod RunLemmas
 mod PathLemmas
 mod EndLemmas
 mod PassingLemmas
+mod ConstantLemmas
 mod ShownLemmas
 mod WholeLemmas
 mod VisibleLemmas

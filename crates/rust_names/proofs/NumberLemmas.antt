@@ -83,14 +83,10 @@ hex_is b bytes = refl
 pub hex_at : (bytes : List ℕ) (i : ℕ) → i < length bytes → hex_digits (drop i bytes) ≡ hex_by (get_or bytes i 0) (drop (i + 1) bytes) (get_or bytes i 0 == 95)
 hex_at bytes i within = at_drop_more hex_digits bytes i 0 within ∙ hex_is (get_or bytes i 0) (drop (i + 1) bytes)
 
-one_after : (bytes : List ℕ) (i : ℕ) → i < length bytes → drop 1 (drop i bytes) ≡ drop (i + 1) bytes
-one_after bytes i within = at_drop_more (drop 1) bytes i 0 within
-
-pub hex_stop : (bytes digits later after : List ℕ) (i : ℕ) → i < length bytes → get_or bytes i 0 ≡ 95 → digits ≡ take i bytes → later ≡ drop i bytes → after ≡ drop 1 later → hex_digits bytes ≡ after_digits (take i bytes) (hex_digits (drop i bytes)) → Some (digits, after) ≡ hex_digits bytes
-hex_stop bytes digits later after i within is first second third so_far =
+pub hex_stop : (bytes : List ℕ) (i : ℕ) → i < length bytes → get_or bytes i 0 ≡ 95 → hex_digits bytes ≡ after_digits (take i bytes) (hex_digits (drop i bytes)) → Some (take i bytes, drop (i + 1) bytes) ≡ hex_digits bytes
+hex_stop bytes i within is so_far =
     let found : hex_digits (drop i bytes) ≡ Some ([], drop (i + 1) bytes) = hex_at bytes i within ∙ ap (hex_by (get_or bytes i 0) (drop (i + 1) bytes)) (same (get_or bytes i 0) 95 is) in
-    ap (λ xs. Some (xs, after)) (first ∙ sym (append-nil (take i bytes))) ∙ ap (λ xs. Some (take i bytes ++ [], xs)) (third ∙ ap (drop 1) second ∙ one_after bytes i within)
-    ∙ sym (so_far ∙ ap (after_digits (take i bytes)) found)
+    ap (λ xs. Some (xs, drop (i + 1) bytes)) (sym (append-nil (take i bytes))) ∙ sym (so_far ∙ ap (after_digits (take i bytes)) found)
 
 pub hex_none : (bytes : List ℕ) (i : ℕ) → i < length bytes → get_or bytes i 0 ≢ 95 → None ≡ hex_digit (get_or bytes i 0) → hex_digits bytes ≡ after_digits (take i bytes) (hex_digits (drop i bytes)) → None ≡ hex_digits bytes
 hex_none bytes i within isnt none so_far =

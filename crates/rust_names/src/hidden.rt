@@ -91,6 +91,7 @@ fn read_hidden<'a>(
 {
     room.stack.clear();
     room.text.clear();
+    room.constants.clear();
     room.opened = ahead.opened;
     room.stack.push(Frame {
         part: Part::Deep(Kind::Path),

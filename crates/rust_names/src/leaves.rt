@@ -7,22 +7,14 @@ ghost use Rattle.rust_names.specs.V0Leaves as v0;
 ghost use Rattle.rust_names.specs.declared.grammar.Leaf.TheVariants as leaf;
 ghost use Rattle.rust_names.specs.internal.Reading.{kept};
 
+use crate::constants::{constant_of, read_constant};
 use crate::grammar::{Leaf, Scope};
 use crate::identifiers::{add_identifier, identifier};
-use crate::numbers::{after_letter, front, hex_digit, hex_digits, hex_value};
-use crate::texts::{
-    add, add_decimal, add_for_all, add_integer, add_quoted, character, show, show_lifetime,
-};
+use crate::numbers::{after_letter, count_hex, front, hex_digit};
+use crate::texts::{add, add_decimal, add_for_all, add_quoted, after_if, show, show_lifetime};
 use crate::words::{Word, word_text};
 use std::alloc::Global;
 use sym_edges::OutOfMemory;
-
-/// What stands after a leaf, where all of it was added.
-fn after_if(said: bool, bytes: &[u8]) -> Option<&[u8]>
-    ensures { option_map (λ a. a.now) result ≡ v0.after_if said bytes.now }
-{
-    if said { Some(bytes) } else { None }
-}
 
 /// A word.
 #[tactic(auto, unfolding(crate::specs::V0Leaves::read_leaf, crate::specs::V0Leaves::leaf_of))]
@@ -108,85 +100,6 @@ fn read_convention<'a>(
     Ok(after_if(said, after))
 }
 
-/// An integer.
-#[tactic(auto, unfolding(crate::specs::V0Leaves::read_leaf, crate::specs::V0Leaves::leaf_of))]
-fn read_number<'a>(
-    text: &mut Vec<u8>,
-    scope: Scope,
-    bytes: &'a [u8],
-) -> Result<Option<&'a [u8]>, OutOfMemory>
-    ensures { IfOk result (λ after. v0.read_leaf leaf.Number scope bytes.now text.old.items ≡ option_map (λ a. (a.now, text.new.items)) after) }
-{
-    let Some((digits, after)) = hex_digits(bytes) else {
-        return Ok(None);
-    };
-    let said = !scope.visible || add_integer(text, digits)?;
-    Ok(after_if(said, after))
-}
-
-/// The word of a `bool`.
-fn boolean(value: Option<u64>) -> Option<&'static [u8]>
-    ensures { option_map (λ a. a.now) result ≡ shows.boolean_by value }
-{
-    match value {
-        Some(0) => Some(b"false"),
-        Some(1) => Some(b"true"),
-        _ => None,
-    }
-}
-
-/// A `bool`.
-#[tactic(auto, unfolding(crate::specs::V0Leaves::read_leaf, crate::specs::V0Leaves::leaf_of))]
-fn read_boolean<'a>(
-    text: &mut Vec<u8>,
-    scope: Scope,
-    bytes: &'a [u8],
-) -> Result<Option<&'a [u8]>, OutOfMemory>
-    ensures { IfOk result (λ after. v0.read_leaf leaf.Boolean scope bytes.now text.old.items ≡ option_map (λ a. (a.now, text.new.items)) after) }
-{
-    let Some((digits, after)) = hex_digits(bytes) else {
-        return Ok(None);
-    };
-    match boolean(hex_value(digits)) {
-        Some(word) => {
-            let said = show(text, scope.visible, word)?;
-            Ok(after_if(said, after))
-        }
-        None => Ok(None),
-    }
-}
-
-/// The character of a code.
-fn character_of(code: Option<u64>) -> Option<char>
-    ensures { shows.character_by code ≡ option_map (λ c. shows.quoted 39 (c ∷ [])) result }
-{
-    match code {
-        Some(code) => character(code),
-        None => None,
-    }
-}
-
-/// A `char`.
-#[tactic(auto, unfolding(crate::specs::V0Leaves::read_leaf, crate::specs::V0Leaves::leaf_of))]
-fn read_character<'a>(
-    text: &mut Vec<u8>,
-    scope: Scope,
-    bytes: &'a [u8],
-) -> Result<Option<&'a [u8]>, OutOfMemory>
-    ensures { IfOk result (λ after. v0.read_leaf leaf.Character scope bytes.now text.old.items ≡ option_map (λ a. (a.now, text.new.items)) after) }
-{
-    let Some((digits, after)) = hex_digits(bytes) else {
-        return Ok(None);
-    };
-    match character_of(hex_value(digits)) {
-        Some(c) => {
-            let said = !scope.visible || add_quoted(text, b'\'', &[c])?;
-            Ok(after_if(said, after))
-        }
-        None => Ok(None),
-    }
-}
-
 /// The byte that two digits write, and the digits after them.
 #[tactic(auto, using(crate::proofs::LeafLemmas::byte_some, crate::proofs::LeafLemmas::one_digit, crate::proofs::LeafLemmas::no_high, crate::proofs::LeafLemmas::no_low))]
 fn byte_in_front(a: u8, digits: &[u8]) -> Option<(u8, &[u8])>
@@ -260,13 +173,13 @@ fn read_string<'a>(
 ) -> Result<Option<&'a [u8]>, OutOfMemory>
     ensures { IfOk result (λ after. v0.read_leaf leaf.Text scope bytes.now text.old.items ≡ option_map (λ a. (a.now, text.new.items)) after) }
 {
-    let Some((digits, after)) = hex_digits(bytes) else {
+    let Some(count) = count_hex(bytes) else {
         return Ok(None);
     };
-    match characters_of(alloc, digits)? {
+    match characters_of(alloc, bytes.split_at(count).0)? {
         Some(characters) => {
             let said = !scope.visible || add_quoted(text, b'"', characters.as_slice())?;
-            Ok(after_if(said, after))
+            Ok(after_if(said, bytes.split_at(count + 1).1))
         }
         None => Ok(None),
     }
@@ -315,9 +228,10 @@ pub(crate) fn read_leaf<'a>(
         Leaf::Disambiguator => read_disambiguator(text, scope, bytes),
         Leaf::Identifier => read_identifier(alloc, text, scope, bytes),
         Leaf::Convention => read_convention(alloc, text, scope, bytes),
-        Leaf::Number => read_number(text, scope, bytes),
-        Leaf::Boolean => read_boolean(text, scope, bytes),
-        Leaf::Character => read_character(text, scope, bytes),
+        Leaf::Number | Leaf::Boolean | Leaf::Character => match constant_of(bytes) {
+            Some(constant) => read_constant(text, leaf, scope, constant, bytes),
+            None => Ok(None),
+        },
         Leaf::Text => read_string(alloc, text, scope, bytes),
         Leaf::End => {
             if !is_end(bytes) {

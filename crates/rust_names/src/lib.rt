@@ -19,6 +19,7 @@ mod part;
 mod piece;
 
 // In the v0 mangling.
+mod constants;
 mod frames;
 mod grammar;
 mod hidden;

@@ -145,15 +145,14 @@ pub(crate) fn hex_digit(b: u8) -> Option<u8>
     }
 }
 
-/// The hexadecimal digits up to `_`, and what stands after it.
-pub(crate) fn hex_digits(bytes: &[u8]) -> Option<(&[u8], &[u8])>
-    ensures digits { option_map (λ x. (x.0.now, x.1.now)) result ≡ hex_digits bytes.now }
-    ensures within { IfSome result (λ x. length x.1.now ≤ length bytes.now) }
+/// How many hexadecimal digits stand in front of a `_`.
+pub(crate) fn count_hex(bytes: &[u8]) -> Option<usize>
+    ensures digits { option_map (λ n. (take n bytes.now, drop (n + 1) bytes.now)) result ≡ hex_digits bytes.now }
+    ensures within { IfSome result (λ n. n < length bytes.now) }
 {
     for (at, b) in bytes.iter().enumerate() {
         if *b == b'_' {
-            let (digits, after) = bytes.split_at(at);
-            return Some((digits, after.split_at(1).1));
+            return Some(at);
         }
         match hex_digit(*b) {
             Some(_) => {}

@@ -1,11 +1,11 @@
 //! The text that a v0 name shows, which has at most 65,536 bytes.
 ghost use Rattle.std.specs.Prelude.{◌≡◌, ◌<◌, ◌+◌, ◌-◌, ◌^◌, length, drop, decimal, Some, true, false, IfOk, MatchOption};
 ghost use Rattle.std.specs.List.{flat_map};
+ghost use Rattle.std.specs.Option.{option_map};
 ghost use Rattle.rust_names.specs.V0Texts as v0;
-ghost use Rattle.rust_names.specs.V0Leaves.{shown_on};
+ghost use Rattle.rust_names.specs.V0Leaves.{after_if, shown_on};
 ghost use Rattle.rust_names.specs.internal.Reading.{kept};
 
-use crate::numbers::hex_value;
 use itoa::Buffer;
 use sym_edges::OutOfMemory;
 use sym_records::HexText;
@@ -33,6 +33,13 @@ pub(crate) fn show(text: &mut Vec<u8>, visible: bool, more: &[u8]) -> Result<boo
         return Ok(true);
     }
     add(text, more)
+}
+
+/// What stands after a leaf, where all of it was added.
+pub(crate) fn after_if(said: bool, bytes: &[u8]) -> Option<&[u8]>
+    ensures { option_map (λ a. a.now) result ≡ after_if said bytes.now }
+{
+    if said { Some(bytes) } else { None }
 }
 
 /// Adds a number.
@@ -116,12 +123,16 @@ pub(crate) fn add_for_all(text: &mut Vec<u8>, bound: u64, count: u64) -> Result<
     add(text, b"> ")
 }
 
-/// Adds an integer by its hexadecimal digits.
-#[tactic(auto, unfolding(crate::specs::V0Texts::integer_text), using(crate::proofs::TextLemmas::say_then, crate::proofs::TextLemmas::say_stop))]
-pub(crate) fn add_integer(text: &mut Vec<u8>, digits: &[u8]) -> Result<bool, OutOfMemory>
-    ensures { IfOk result (λ said. v0.say text.old.items (v0.integer_text digits.now) ≡ kept said text.new.items) }
+/// Adds an integer by its value and its hexadecimal digits.
+#[tactic(auto, using(crate::proofs::TextLemmas::say_then, crate::proofs::TextLemmas::say_stop))]
+pub(crate) fn add_integer(
+    text: &mut Vec<u8>,
+    value: Option<u64>,
+    digits: &[u8],
+) -> Result<bool, OutOfMemory>
+    ensures { IfOk result (λ said. v0.say text.old.items (v0.integer_by digits.now value) ≡ kept said text.new.items) }
 {
-    match hex_value(digits) {
+    match value {
         Some(number) => add_decimal(text, number),
         None => {
             if !add(text, b"0x")? {

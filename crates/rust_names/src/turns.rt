@@ -1,14 +1,17 @@
 //! The reading of a v0 name, frame by frame.
 ghost use Rattle.std.specs.Prelude.{◌≡◌, ◌∷◌, ◌++◌, false, true, [], drop, reverse, None, IfOk, IfSome, MatchOption};
 ghost use Rattle.std.specs.Option.{option_map};
-ghost use Rattle.rust_names.specs.internal.Passing.{IsEnd, Stopped, Turned, is_hidden};
+ghost use Rattle.rust_names.specs.internal.Passing.{AreConstants, IsEnd, Stopped, Turned, is_hidden};
+ghost use Rattle.rust_names.specs.V0Leaves.{read_leaf};
 ghost use Rattle.rust_names.specs.internal.Running.{at, is_made, read_frame, run};
 
+use crate::constants::{Constant, constant_at, is_constant, read_constant};
 use crate::frames::expand;
-use crate::grammar::{Frame, Inner, Part, Phrase};
+use crate::grammar::{Frame, Inner, Leaf, Part, Phrase, Scope};
 use crate::leaves::read_leaf;
 use crate::paths::{crate_front, enter, read_crate, read_named};
 use std::alloc::Global;
+use std::collections::BTreeMap;
 use sym_edges::OutOfMemory;
 
 /// Room for what is read by frames.
@@ -20,6 +23,8 @@ pub(crate) struct Room {
     pub(crate) text: Vec<u8>,
     /// Whether the last trait's arguments are left open.
     pub(crate) opened: bool,
+    /// The constants of many digits, by their place.
+    pub(crate) constants: BTreeMap<u64, Constant>,
 }
 
 impl Room {
@@ -28,6 +33,7 @@ impl Room {
             stack: Vec::new(alloc),
             text: Vec::new(alloc),
             opened: false,
+            constants: BTreeMap::new(alloc),
         }
     }
 }
@@ -75,37 +81,65 @@ pub(crate) fn from_place(name: &[u8], place: usize) -> &[u8]
     name.split_at(place).1
 }
 
+/// Reads a leaf, and adds what it shows. A constant of many digits is read once.
+#[inline(always)]
+fn read_known_leaf<'a>(
+    alloc: Global,
+    room: &mut Room,
+    name: &'a [u8],
+    leaf: Leaf,
+    scope: Scope,
+    rest: &'a [u8],
+) -> Result<Option<&'a [u8]>, OutOfMemory>
+    requires ends { IsEnd name.now rest.now }
+    requires constants { AreConstants name.now room.old.constants }
+    ensures read { IfOk result (λ next. read_leaf leaf scope rest.now room.old.text.items ≡ option_map (λ a. (a.now, room.new.text.items)) next) }
+    ensures stack { IfOk result (λ next. room.new.stack.items ≡ room.old.stack.items) }
+    ensures opened { IfOk result (λ next. room.new.opened ≡ room.old.opened) }
+    ensures constants { IfOk result (λ next. AreConstants name.now room.new.constants) }
+{
+    if !is_constant(leaf) {
+        return read_leaf(alloc, &mut room.text, leaf, scope, rest);
+    }
+    match constant_at(&mut room.constants, name, rest)? {
+        Some(constant) => read_constant(&mut room.text, leaf, scope, constant, rest),
+        None => Ok(None),
+    }
+}
+
 /// Reads a part by itself, and adds what it shows.
 #[tactic(auto, unfolding(crate::specs::internal::Running::read_frame), using(crate::proofs::PathLemmas::no_named, crate::proofs::PathLemmas::named_frame))]
 #[inline(always)]
 fn read_plain<'a>(
     alloc: Global,
-    text: &mut Vec<u8>,
-    opened: &mut bool,
+    room: &mut Room,
     name: &'a [u8],
     frame: Frame,
     rest: &'a [u8],
 ) -> Result<Option<&'a [u8]>, OutOfMemory>
     requires plain { is_made frame.part ≡ false }
     requires ends { IsEnd name.now rest.now }
-    ensures read { IfOk result (λ next. read_frame name.now frame (at rest.now text.old.items opened.old) ≡ option_map (λ a. at a.now text.new.items opened.new) next) }
+    requires constants { AreConstants name.now room.old.constants }
+    ensures read { IfOk result (λ next. read_frame name.now frame (at rest.now room.old.text.items room.old.opened) ≡ option_map (λ a. at a.now room.new.text.items room.new.opened) next) }
     ensures ends { IfOk result (λ next. IfSome next (λ a. IsEnd name.now a.now)) }
+    ensures stack { IfOk result (λ next. room.new.stack.items ≡ room.old.stack.items) }
+    ensures constants { IfOk result (λ next. AreConstants name.now room.new.constants) }
 {
     match frame.part {
         Part::Leaf(leaf) => {
-            let next = read_leaf(alloc, text, leaf, frame.scope, rest)?;
+            let next = read_known_leaf(alloc, room, name, leaf, frame.scope, rest)?;
             Ok(next)
         }
         Part::Phrase(_) => {
             if frame.width == 0 {
                 return Ok(None);
             }
-            let next = read_named(alloc, text, frame.scope, rest)?;
+            let next = read_named(alloc, &mut room.text, frame.scope, rest)?;
             Ok(next)
         }
         Part::Goto(place) => Ok(Some(from_place(name, place))),
         Part::Opened(open) => {
-            *opened = open;
+            room.opened = open;
             Ok(Some(rest))
         }
         _ => Ok(None),
@@ -121,11 +155,13 @@ fn turn<'a>(
     top: Frame,
     begin: &'a [u8],
 ) -> Result<Option<&'a [u8]>, OutOfMemory>
-    requires { IsEnd name.now begin.now }
-    ensures { IfOk result (λ next. Turned name.now (room.old.stack.items ++ top ∷ []) (at begin.now room.old.text.items room.old.opened) room.new.stack.items room.new.text.items room.new.opened next) }
+    requires ends { IsEnd name.now begin.now }
+    requires constants { AreConstants name.now room.old.constants }
+    ensures turned { IfOk result (λ next. Turned name.now (room.old.stack.items ++ top ∷ []) (at begin.now room.old.text.items room.old.opened) room.new.stack.items room.new.text.items room.new.opened next) }
+    ensures constants { IfOk result (λ next. AreConstants name.now room.new.constants) }
 {
     if !is_made(top.part) {
-        let next = read_plain(alloc, &mut room.text, &mut room.opened, name, top, begin)?;
+        let next = read_plain(alloc, room, name, top, begin)?;
         return Ok(next);
     }
     let mut frame = top;
@@ -146,8 +182,10 @@ pub(crate) fn read_frames<'a>(
     begin: &'a [u8],
     stops: bool,
 ) -> Result<Option<Stop<'a>>, OutOfMemory>
-    requires { IsEnd name.now begin.now }
-    ensures { IfOk result (λ next. MatchOption next (run name.now (reverse room.old.stack.items) (at begin.now room.old.text.items room.old.opened) ≡ None) (Stopped name.now room.old.stack.items (at begin.now room.old.text.items room.old.opened) stops room.new.stack.items room.new.text.items room.new.opened)) }
+    requires ends { IsEnd name.now begin.now }
+    requires constants { AreConstants name.now room.old.constants }
+    ensures constants { IfOk result (λ next. IfSome next (λ stop. AreConstants name.now room.new.constants)) }
+    ensures read { IfOk result (λ next. MatchOption next (run name.now (reverse room.old.stack.items) (at begin.now room.old.text.items room.old.opened) ≡ None) (Stopped name.now room.old.stack.items (at begin.now room.old.text.items room.old.opened) stops room.new.stack.items room.new.text.items room.new.opened)) }
 {
     let mut rest = begin;
     'frames: while let Some(top) = room.stack.pop() {

@@ -1,17 +1,21 @@
 -- The loop over frames. Paths of v0 names that are not shown: where they lie, and what is known of those that were read.
-use Rattle.std.specs.Prelude.{◌≡◌, ℕ, ◌+◌, ◌*◌, ◌<◌, ◌≤◌, Bool, true, false, if◌then◌else◌, List, [], ◌++◌, length, reverse, drop, Option, Some, IfSome, MatchOption}
+use Rattle.std.specs.Prelude.{◌≡◌, ℕ, ◌+◌, ◌*◌, ◌<◌, ◌≤◌, Bool, true, false, if◌then◌else◌, List, [], ◌++◌, length, reverse, take, drop, Option, Some, IfSome, MatchOption}
 use Rattle.std.specs.Borrow.{Bor}
 use Rattle.std.specs.Option.{option_and_then, option_to_list}
 use Rattle.std.specs.Ordering.{nat_cmp}
 use Rattle.std.specs.BTreeMap.{BTreeMap, get}
 use Rattle.rust_names.specs.declared.grammar.Kind.TheVariants as kind
 use Rattle.rust_names.specs.declared.grammar.Inner.TheVariants as inner
+use Rattle.rust_names.specs.declared.constants.Constant.{Constant}
+use Rattle.rust_names.specs.declared.grammar.Leaf.{Leaf}
+use Rattle.rust_names.specs.declared.grammar.Leaf.TheVariants as leaf
 use Rattle.rust_names.specs.declared.grammar.Part.{Part}
 use Rattle.rust_names.specs.declared.grammar.Part.TheVariants.{Deep, Inner as Within}
 use Rattle.rust_names.specs.declared.grammar.Scope.{Scope}
 use Rattle.rust_names.specs.declared.grammar.Frame.{Frame}
 use Rattle.rust_names.specs.declared.hidden.HiddenPath.{HiddenPath}
 use Rattle.rust_names.specs.declared.turns.Stop.{Stop}
+use Rattle.rust_names.specs.V0Numbers.{hex_digits, hex_from}
 use Rattle.rust_names.specs.V0Names.{State, read_level}
 use Rattle.rust_names.specs.internal.Running.{at, run, weight}
 
@@ -56,3 +60,19 @@ key place opened = 2 * place + (if opened then 1 else 0)
 
 abbrev pub AreHidden : List ℕ → BTreeMap ℕ HiddenPath → Type 0
 AreHidden name known = (place : ℕ) (opened : Bool) → IfSome (get nat_cmp known (key place opened)) (IsHidden name place opened)
+
+-- a constant by a value
+abbrev pub is_constant : Leaf → Bool
+is_constant leaf.Number = true
+is_constant leaf.Boolean = true
+is_constant leaf.Character = true
+is_constant a = false
+
+-- what is known of the constant that bytes begin with
+pub record IsConstant (bytes : List ℕ) (c : Constant) : Type 0 where
+  pub digits : hex_digits bytes ≡ Some (take c.count bytes, drop (c.count + 1) bytes)
+  pub value : hex_from 0 (take c.count bytes) ≡ c.value
+  pub within : c.count < length bytes
+
+abbrev pub AreConstants : List ℕ → BTreeMap ℕ Constant → Type 0
+AreConstants name known = (place : ℕ) → IfSome (get nat_cmp known place) (IsConstant (drop place name))

@@ -1,8 +1,8 @@
 use Rattle.rust_names.proofs.NumberLemmas.{hex_stop, hex_none, hex_more, hex_end}
-use Rattle.rust_names.proofs.numbers.hex_digits.Goals as goal
+use Rattle.rust_names.proofs.numbers.count_hex.Goals as goal
 
 pub returns-then-b-eq95-clause-digits : goal.returns-then-b-eq95-clause-digits
-returns-then-b-eq95-clause-digits c = hex_stop c.args.bytes.now c.split_at.result.0.now c.split_at.result.1.now c.split_at-then-b-eq95.result.1.now c.loop-at.at c.loop-at-test.true c.if-b-eq95.true c.split_at.ensures.front c.split_at.ensures.back c.split_at-then-b-eq95.ensures.back c.loop-at.invariant
+returns-then-b-eq95-clause-digits c = hex_stop c.args.bytes.now c.loop-at.at c.loop-at-test.true c.if-b-eq95.true c.loop-at.invariant
 
 pub returns-in-None-clause-digits : goal.returns-in-None-clause-digits
 returns-in-None-clause-digits c = hex_none c.args.bytes.now c.loop-at.at c.loop-at-test.true c.if-b-eq95.false c.in-None.ensures.value c.loop-at.invariant
