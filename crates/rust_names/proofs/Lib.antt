@@ -13,6 +13,7 @@ mod PathLemmas
 mod EndLemmas
 mod PassingLemmas
 mod ConstantLemmas
+mod StepLemmas
 mod ShownLemmas
 mod WholeLemmas
 mod VisibleLemmas

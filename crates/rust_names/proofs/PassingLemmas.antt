@@ -85,9 +85,9 @@ parts_dark f g same s t text (Some x) is = all_dark f g same (record s { rest = 
 
 -- a symbol with a scope of its own has none in the dark
 
-record DarkParts (m n : ℕ) (x : List Part × Scope × List ℕ) (o : Option (List Part × Scope × List ℕ)) : Type 0 where
-  own : x.1 ≡ dark m
-  same : o ≡ Some (x.0, dark n, x.2)
+pub record DarkParts (m n : ℕ) (x : List Part × Scope × List ℕ) (o : Option (List Part × Scope × List ℕ)) : Type 0 where
+  pub own : x.1 ≡ dark m
+  pub same : o ≡ Some (x.0, dark n, x.2)
 
 dark_at : (m n : ℕ) (parts : List Part) (rest : List ℕ) (x : List Part × Scope × List ℕ) → ◌≡◌ {A = Option (List Part × Scope × List ℕ)} (Some (parts, dark m, rest)) (Some x) → DarkParts m n x (Some (parts, dark n, rest))
 dark_at m n parts rest x is = record {
@@ -103,7 +103,7 @@ binder_dark : (m n : ℕ) (parts : List Part) (x : List Part × Scope × List �
 binder_dark m n parts x None is = cc
 binder_dark m n parts x (Some y) is = dark_at m n ((Read (leaf.ForAll y.0) ∷ []) ++ parts) y.1 x is
 
-inner_dark : (m n : ℕ) (rest : List ℕ) (x : List Part × Scope × List ℕ) (p : Inner) → inner_parts p (dark m) rest ≡ Some x → DarkParts m n x (inner_parts p (dark n) rest)
+pub inner_dark : (m n : ℕ) (rest : List ℕ) (x : List Part × Scope × List ℕ) (p : Inner) → inner_parts p (dark m) rest ≡ Some x → DarkParts m n x (inner_parts p (dark n) rest)
 unfolding inner_parts binder_parts
 inner_dark m n rest x inner.ImplPath is = dark_at m n (Deep kind.Path ∷ []) rest x is
 inner_dark m n rest x inner.Instance is = instance_dark m n rest x (begins_path (front rest)) is
@@ -121,7 +121,7 @@ own_dark f g m n same s t text (Some x) p parts is =
 
 -- a symbol within a level
 
-within_dark : (name : List ℕ) (d e : Part → Scope → State → Option State) (m n : ℕ) → ((p : Part) (s t : State) (text : List ℕ) → d p (dark m) s ≡ Some t → e p (dark n) (showing text s) ≡ Some (showing text t))
+pub within_dark : (name : List ℕ) (d e : Part → Scope → State → Option State) (m n : ℕ) → ((p : Part) (s t : State) (text : List ℕ) → d p (dark m) s ≡ Some t → e p (dark n) (showing text s) ≡ Some (showing text t))
     → (a b : ℕ) → a ≤ b → SameDark (read_within d name a (dark m)) (read_within e name b (dark n))
 within_dark name d e m n down a b fits (Deep k) s t text is = down (Deep k) s t text is
 within_dark name d e m n down a b fits (Back k) s t text is = down (Back k) s t text is

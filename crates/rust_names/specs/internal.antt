@@ -3,3 +3,4 @@ pub mod Reading
 pub mod Running
 pub mod Finding
 pub mod Passing
+pub mod Stepping

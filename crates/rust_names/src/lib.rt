@@ -26,6 +26,7 @@ mod hidden;
 mod identifiers;
 mod leaves;
 mod numbers;
+mod passing;
 mod paths;
 mod phrases;
 mod productions;

@@ -60,7 +60,7 @@ fn is_hidden(part: Part) -> bool
 
 /// Whether a part is read by the parts that it is made of.
 #[inline(always)]
-fn is_made(part: Part) -> bool
+pub(crate) fn is_made(part: Part) -> bool
     ensures { result ≡ is_made part }
 {
     match part {
@@ -110,7 +110,7 @@ fn read_known_leaf<'a>(
 /// Reads a part by itself, and adds what it shows.
 #[tactic(auto, unfolding(crate::specs::internal::Running::read_frame), using(crate::proofs::PathLemmas::no_named, crate::proofs::PathLemmas::named_frame))]
 #[inline(always)]
-fn read_plain<'a>(
+pub(crate) fn read_plain<'a>(
     alloc: Global,
     room: &mut Room,
     name: &'a [u8],
