@@ -15,12 +15,13 @@ use Rattle.rust_names.specs.declared.grammar.Part.{Part}
 use Rattle.rust_names.specs.declared.grammar.Part.TheVariants.{Deep, Back, Phrase as Made, Inner as Within, Leaf as Read, Goto, Opened}
 use Rattle.rust_names.specs.declared.grammar.Scope.{Scope}
 use Rattle.rust_names.specs.declared.grammar.Frame.{Frame}
-use Rattle.rust_names.specs.declared.hidden.HiddenPath.{HiddenPath}
+use Rattle.rust_names.specs.declared.passing.Reached.{Reached}
 use Rattle.rust_names.specs.V0Numbers.{front, after_letter}
 use Rattle.rust_names.specs.V0Leaves.{leaf_of, read_leaf, shown_on}
 use Rattle.rust_names.specs.V0Grammar.{phrase_parts, inner_parts, binder_parts, binder_by, begins_path, function_parts, list_of}
 use Rattle.rust_names.specs.V0Names.{State, all, after_leaf, level_parts, most_width, read_within, read_level}
-use Rattle.rust_names.specs.internal.Passing.{AreHidden, IsEnd, IsHidden, Reads, dark, is_hidden, key}
+use Rattle.rust_names.specs.internal.Passing.{IsEnd, Reads, dark, is_hidden}
+use Rattle.rust_names.specs.internal.Stepping.{Passes}
 use Rattle.rust_names.specs.internal.Running.{at, inside, read_frame, run}
 use Rattle.rust_names.proofs.EndLemmas.{placed}
 use Rattle.rust_names.proofs.FrameLemmas.{run_one}
@@ -191,48 +192,10 @@ pub path_read : (name : List ℕ) (levels bound : ℕ) (below frames : List Fram
 path_read name levels bound below frames rest text shown opened o none is empty reads =
     path_by name levels bound rest text opened o (sym (path_run name levels frames (at rest [] opened) (is ∙ ap (λ fs. fs ++ inside (dark 0) levels 0 (Deep kind.Path) ∷ []) none)) ∙ ap (λ ts. run name (reverse frames) (at rest ts opened)) (sym empty) ∙ reads)
 
--- it does so at any levels above
-pub lifted : (name : List ℕ) (few levels : ℕ) (rest after : List ℕ) (opened leaves : Bool) → few ≤ levels → Reads name few rest opened after leaves → Reads name levels rest opened after leaves
-lifted name few levels rest after opened leaves fits reads = λ bound text. level_dark name few levels 0 bound fits (Deep kind.Path) (at rest [] opened) (at after [] leaves) text (reads 0 [])
-
--- what is known of it then
-pub known_so : (name : List ℕ) (levels : ℕ) (rest after : List ℕ) (opened : Bool) (p : HiddenPath) → IsEnd name rest → IsEnd name after → Reads name levels rest opened after p.opened → p.levels ≡ levels → p.end ≡ length name - length after → IsHidden name (length name - length rest) opened p
-known_so name levels rest after opened p begins ends reads enough end = λ more fits bound text.
-    ap (λ r. read_level name more (Deep kind.Path) (dark bound) (at r text opened)) (sym (placed name rest begins))
-    ∙ lifted name levels more rest after opened p.opened (omega (arith, fits, enough)) reads bound text
-    ∙ ap (λ r. Some (at r text p.opened)) (placed name after ends ∙ ap (λ k. drop k name) (sym end))
-
-pub known_at : (name : List ℕ) (known : BTreeMap ℕ HiddenPath) (levels : ℕ) (rest after : List ℕ) (opened : Bool) (p : HiddenPath) → AreHidden name known → IsEnd name rest → Some p ≡ get nat_cmp known (key (length name - length rest) opened) → p.levels ≤ levels → after ≡ drop p.end name
-    → Reads name levels rest opened after p.opened
-known_at name known levels rest after opened p are begins is fits end = λ bound text.
-    let each : IsHidden name (length name - length rest) opened p = subst (λ o. IfSome o (IsHidden name (length name - length rest) opened)) (sym is) (are (length name - length rest) opened) in
-    ap (λ r. read_level name levels (Deep kind.Path) (dark bound) (at r text opened)) (placed name rest begins) ∙ each levels fits bound text ∙ ap (λ r. Some (at r text p.opened)) (sym end)
-
--- keys
-
-one_place : (p q : ℕ) (a b : Bool) → key p a ≡ key q b → p ≡ q
-one_place p q true true is = omega (arith, is)
-one_place p q true false is = omega (arith, is)
-one_place p q false true is = omega (arith, is)
-one_place p q false false is = omega (arith, is)
-
-one_opened : (p q : ℕ) (a b : Bool) → key p a ≡ key q b → a ≡ b
-one_opened p q true true is = refl
-one_opened p q true false is = absurd (omega (arith, is))
-one_opened p q false true is = absurd (omega (arith, is))
-one_opened p q false false is = refl
-
-other_key : (k q : ℕ) → (k ≡ q → ⊥) → is_at (nat_cmp k) q ≡ false
-other_key k q apart = grind (arith, common_steps)
-
-kept_by : (name : List ℕ) (old new : BTreeMap ℕ HiddenPath) (place : ℕ) (opened : Bool) (p : HiddenPath) → AreHidden name old → Updates nat_cmp old new (key place opened) (Some p) → IsHidden name place opened p → AreHidden name new
-kept_by name old new place opened p are updates is = λ q b.
-    ⊎_elim (λ same.
-    subst (λ r. IfSome r (IsHidden name q b)) (sym (ap (get nat_cmp new) (sym same) ∙ updates.1)) (subst (λ r. IsHidden name r b p) (one_place place q opened b same) (subst (λ c. IsHidden name place c p) (one_opened place q opened b same) is)))
-    (λ apart. subst (λ r. IfSome r (IsHidden name q b)) (sym (updates.2 (key q b) (other_key (key place opened) (key q b) apart))) (are q b)) (cases_eq (key place opened) (key q b))
-
-pub kept_so : (name : List ℕ) (old new : BTreeMap ℕ HiddenPath) (k place : ℕ) (opened : Bool) (p : HiddenPath) → k ≡ key place opened → AreHidden name old → Updates nat_cmp old new k (Some p) → IsHidden name place opened p → AreHidden name new
-kept_so name old new k place opened p same are updates is = kept_by name old new place opened p are (subst (λ n. Updates nat_cmp old new n (Some p)) same updates) is
+-- what one does that was passed by steps
+pub steps_read : (name : List ℕ) (levels : ℕ) (rest after : List ℕ) (opened : Bool) (end : Reached) → IsEnd name rest → Passes name (Deep kind.Path) (length name - length rest) opened end → end.levels ≤ levels → after ≡ drop end.place name → Reads name levels rest opened after end.opened
+steps_read name levels rest after opened end ends passes fits is = λ bound text.
+    ap (λ r. read_level name levels (Deep kind.Path) (dark bound) (at r text opened)) (placed name rest ends) ∙ passes levels end.width bound text fits (omega arith) ∙ ap (λ r. Some (at r text end.opened)) (sym is)
 
 -- the path of an impl
 

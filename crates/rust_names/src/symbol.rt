@@ -1,7 +1,8 @@
 //! A name in the v0 mangling.
 ghost use Rattle.std.specs.Prelude.{◌≡◌, reverse, IfOk};
 ghost use Rattle.rust_names.specs.V0Names as v0;
-ghost use Rattle.rust_names.specs.internal.Passing.{AreConstants, AreHidden};
+ghost use Rattle.rust_names.specs.internal.Passing.{AreConstants};
+ghost use Rattle.rust_names.specs.internal.Stepping.{AreHidden};
 ghost use Rattle.rust_names.specs.internal.Reading.{kept};
 ghost use Rattle.rust_names.specs.internal.Running.{at, run, shown_after};
 
@@ -37,7 +38,7 @@ impl Rooms {
 
 /// Reads frames from the top of a stack, and adds what they show; false where they cannot be read so. Paths of impls are passed.
 fn read_shown(alloc: Global, rooms: &mut Rooms, name: &[u8]) -> Result<bool, OutOfMemory>
-    requires hidden { AreHidden name.now rooms.old.hidden.known }
+    requires hidden { AreHidden name.now rooms.old.hidden.parts.known }
     requires constants { AreConstants name.now rooms.old.shown.constants }
     ensures { IfOk result (λ said. shown_after (run name.now (reverse rooms.old.shown.stack.items) (at name.now rooms.old.shown.text.items rooms.old.shown.opened)) ≡ kept said rooms.new.shown.text.items) }
 {

@@ -1,4 +1,4 @@
--- The loop over frames. Paths of v0 names that are not shown: where they lie, and what is known of those that were read.
+-- The loop over frames. Paths of v0 names that are not shown; constants that were read.
 use Rattle.std.specs.Prelude.{◌≡◌, ℕ, ◌+◌, ◌*◌, ◌<◌, ◌≤◌, Bool, true, false, if◌then◌else◌, List, [], ◌++◌, length, reverse, take, drop, Option, Some, IfSome, MatchOption}
 use Rattle.std.specs.Borrow.{Bor}
 use Rattle.std.specs.Option.{option_and_then, option_to_list}
@@ -13,7 +13,6 @@ use Rattle.rust_names.specs.declared.grammar.Part.{Part}
 use Rattle.rust_names.specs.declared.grammar.Part.TheVariants.{Deep, Inner as Within}
 use Rattle.rust_names.specs.declared.grammar.Scope.{Scope}
 use Rattle.rust_names.specs.declared.grammar.Frame.{Frame}
-use Rattle.rust_names.specs.declared.hidden.HiddenPath.{HiddenPath}
 use Rattle.rust_names.specs.declared.turns.Stop.{Stop}
 use Rattle.rust_names.specs.V0Numbers.{hex_digits, hex_from}
 use Rattle.rust_names.specs.V0Names.{State, read_level}
@@ -49,17 +48,6 @@ pub record Stopped (name : List ℕ) (old : List Frame) (s : State) (stops : Boo
 -- a path that is not shown ends so, whatever is bound and was shown before
 abbrev pub Reads : List ℕ → ℕ → List ℕ → Bool → List ℕ → Bool → Type 0
 Reads name levels rest opened after leaves = (bound : ℕ) (text : List ℕ) → read_level name levels (Deep kind.Path) (dark bound) (at rest text opened) ≡ Some (at after text leaves)
-
--- what is known of the path at a place holds wherever at least so many levels may nest
-abbrev pub IsHidden : List ℕ → ℕ → Bool → HiddenPath → Type 0
-IsHidden name place opened p = (levels : ℕ) → p.levels ≤ levels → Reads name levels (drop place name) opened (drop p.end name) p.opened
-
--- a place, and whether the last trait's arguments are left open there, as one number
-abbrev pub key : ℕ → Bool → ℕ
-key place opened = 2 * place + (if opened then 1 else 0)
-
-abbrev pub AreHidden : List ℕ → BTreeMap ℕ HiddenPath → Type 0
-AreHidden name known = (place : ℕ) (opened : Bool) → IfSome (get nat_cmp known (key place opened)) (IsHidden name place opened)
 
 -- a constant by a value
 abbrev pub is_constant : Leaf → Bool
