@@ -136,6 +136,28 @@ def hidden_path(size):
     return b"PUBLIC 0 0 _RINvC1a1fMIC1b" + b"u" * (size // 2) + b"Eu" + b"B7_" * (size // 6) + b"E\n"
 
 
+def base_62(place):
+    """A place behind the first as backreferences write it."""
+    digits, number = b"_", place - 1
+    while number > 0:
+        digits = b"0123456789abcdefghijklmnopqrstuvwxyzABCDEFGHIJKLMNOPQRSTUVWXYZ"[number % 62:number % 62 + 1] + digits
+        number //= 62
+    return digits
+
+
+def long_zeros(size):
+    """A name of the current mangling: half of its bytes are a constant with zeros in front, and the others lead back to it."""
+    return b"PUBLIC 0 0 _RINvC1a1fKj" + b"0" * (size // 2) + b"1_" + b"KB8_" * (size // 8) + b"E\n"
+
+
+def lists_in_one_identifier(size):
+    """A name of the current mangling: half of its bytes are an identifier, and the others lead to types in it, whose paths have the rest of it as a list."""
+    inside = b"C4MIC0" * (size // 12) + b"Eh"
+    front = b"INvC1a1fC%d_" % len(inside)
+    places = range(len(front) + 2, len(front) + len(inside) - 8, 6)
+    return b"PUBLIC 0 0 _R" + front + inside + b"".join(b"B" + base_62(place) for place in places) + b"E\n"
+
+
 LOOKUP, WALK, FRAME, JUDGE = ("lookup", "SYM", "1"), ("walk", "SYM", "STATE"), ("frame", "SYM", "1", "STATE"), ("judge", "ELF", "SYM")
 CHECK, NAMES = ("check", "SYM"), ("names", "SYM")
 M = 500_000
@@ -171,6 +193,8 @@ CASES = (
     ("a million legacy names", NAMES, lambda n: many(legacy(3), n * M)),
     ("2,000 legacy names of 49,152 bytes", NAMES, lambda n: many(legacy(49_152), n * 1000)),
     ("200 names of 60,000 bytes whose path that is not shown is met 10,000 times", NAMES, lambda n: many(hidden_path(n * 30_000), 200)),
+    ("20 names of 44,000 bytes whose constant with many zeros is met 5,500 times", NAMES, lambda n: many(long_zeros(n * 22_000), 20)),
+    ("20 names of 40,000 bytes with lists that are not shown at 3,600 places of one identifier", NAMES, lambda n: many(lists_in_one_identifier(n * 22_000), 20)),
     ("a million INIT records in no order", CHECK, lambda n: scattered(b"STACK CFI INIT %x 1 a: 1\n", n * M)),
     ("a million INIT records that overlap, falling", WALK, lambda n: with_reach(b"STACK CFI INIT %x %x a: 1\n", n * M)),
     ("a million changes of one INIT, falling", CHECK, lambda n: under(INIT, falling(b"STACK CFI %x a: 1\n", n * M))),

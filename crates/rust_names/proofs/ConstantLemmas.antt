@@ -1,5 +1,5 @@
 -- Constants by a value (read_known_leaf).
-use Rattle.std.proofs.Common.{◌≡◌, ℕ, Bool, true, List, Option, Some, None, ap}
+use Rattle.std.proofs.Common.{◌≡◌, ℕ, true, List, Option, Some, None, ap}
 use Rattle.std.specs.Option.{option_map, option_and_then}
 use Rattle.rust_names.specs.declared.grammar.Leaf.{Leaf}
 use Rattle.rust_names.specs.declared.grammar.Leaf.TheVariants as leaf

@@ -1,12 +1,11 @@
 -- Parts that are not shown, by steps (do_step).
-use Rattle.std.proofs.Common.{◌≡◌, ℕ, zero, suc, ◌+◌, ◌-◌, ◌*◌, ◌<◌, ◌≤◌, Bool, true, false, List, [], ◌∷◌, ◌++◌, length, map, drop, reverse, Option, Some, None, IfSome, refl, sym, ◌∙◌, ap, arith, subst, ⊎_elim, append_assoc}
+use Rattle.std.proofs.Common.{◌≡◌, ℕ, zero, suc, ◌+◌, ◌-◌, ◌<◌, ◌≤◌, Bool, true, false, List, [], ◌∷◌, ◌++◌, length, map, drop, reverse, Option, Some, None, IfSome, refl, sym, ◌∙◌, ap, arith, subst, ⊎_elim, append_assoc}
 use Rattle.std.specs.BTreeMap.{BTreeMap, Updates, get, is_at}
 use Rattle.std.specs.Ordering.{nat_cmp}
 use Rattle.std.specs.Option.{option_map, option_and_then}
 use Rattle.std.proofs.lemmas.Bool.{cases_eq}
 use Rattle.std.proofs.lemmas.List.{append-nil, map-append, reverse-append, reverse-reverse}
 use Rattle.std.proofs.lemmas.Grind.{common_steps}
-use Rattle.rust_names.specs.declared.grammar.Inner.{Inner}
 use Rattle.rust_names.specs.declared.grammar.Part.{Part}
 use Rattle.rust_names.specs.declared.grammar.Part.TheVariants.{Deep, Back, Phrase as Made, Inner as Within, Leaf as Leafed, Goto, Opened}
 use Rattle.rust_names.specs.declared.grammar.Scope.{Scope}
@@ -16,7 +15,7 @@ use Rattle.rust_names.specs.declared.passing.Reached.{Reached}
 use Rattle.rust_names.specs.declared.passing.Step.{Step}
 use Rattle.rust_names.specs.declared.passing.Step.TheVariants.{Read, End}
 use Rattle.rust_names.specs.V0Grammar.{deep_parts, back_parts, phrase_parts, inner_parts}
-use Rattle.rust_names.specs.V0Names.{State, all, read_within, read_level, most_width}
+use Rattle.rust_names.specs.V0Names.{State, all, read_within, read_level}
 use Rattle.rust_names.specs.internal.Passing.{IsEnd, dark}
 use Rattle.rust_names.specs.internal.Running.{Expanded, at, expand, in_scope, in_own_scope, inside, is_made, read_frame}
 use Rattle.rust_names.proofs.EndLemmas.{placed}

@@ -238,7 +238,13 @@ fn begin(
         levels: 1,
         width: 1,
     };
-    match expand(stack, name.len(), frame, now.opened, from_place(name, now.place))? {
+    match expand(
+        stack,
+        name.len(),
+        frame,
+        now.opened,
+        from_place(name, now.place),
+    )? {
         Some(after) => {
             steps.push(Step::End(Begun { part, from: now }))?;
             push_reads(steps, stack.as_slice())?;

@@ -1,5 +1,4 @@
-use Rattle.std.proofs.Common.{[], ◌∷◌, reverse, subst}
-use Rattle.rust_names.specs.internal.Stepping.{Waits}
+use Rattle.std.proofs.Common.{[], reverse}
 use Rattle.rust_names.proofs.StepLemmas.{moved}
 use Rattle.rust_names.proofs.passing.do_step.Goals as goal
 
