@@ -19,8 +19,7 @@ use Rattle.abbrev_units.proofs.UnitPlaceLemmas.{units_follow}
 rises_append : (low mid high : ℕ) (xs ys : List ℕ) → low ≤ mid + 1 → mid ≤ high → RisesTo low mid xs → RisesTo (mid + 1) high ys → RisesTo low high (xs ++ ys)
 rises_append low mid high [] ys below inside first later = rises_lower low (mid + 1) high ys below later
 rises_append low mid high (x ∷ xs) ys below inside first later =
-    let most : x ≤ mid = first.1 in
-    (first.0, omega arith, rises_append (x + 1) mid high xs ys (omega arith) inside first.2 later)
+    (first.0, omega (arith, first.1), rises_append (x + 1) mid high xs ys (omega (arith, first.1)) inside first.2 later)
 
 rises_from : (low high : ℕ) (xs : List ℕ) → RisesTo low high xs → RisesFrom low xs
 rises_from low high [] rise = tt
@@ -28,22 +27,15 @@ rises_from low high (x ∷ xs) rise = (rise.0, rises_from (x + 1) high xs rise.2
 
 rises_count : (low high : ℕ) (xs : List ℕ) → low ≤ high + 1 → RisesTo low high xs → length xs + low ≤ high + 1
 rises_count low high [] below rise = omega arith
-rises_count low high (x ∷ xs) below rise =
-    let first : low ≤ x = rise.0 in
-    let most : x ≤ high = rise.1 in
-    let later : length xs + (x + 1) ≤ high + 1 = rises_count (x + 1) high xs (omega arith) rise.2 in
-    omega arith
+rises_count low high (x ∷ xs) below rise = omega (arith, rise.0, rise.1, rises_count (x + 1) high xs (omega (arith, rise.1)) rise.2)
 
 -- the entries of all units, after a place
 unit_rises : (s : ℕ) (sections : DebugSections) (unit : Unit) (which : UnitPart) (later : List Unit) (parts : List UnitRead) (low high : ℕ) → s ≡ first_place sections.is_sup → low ≤ unit.start → unit.end ≤ high → high ≤ length sections.info → BodyInside unit which → AreTables sections (with_read unit which later) parts → ((rest : List UnitRead) → AreTables sections later rest → RisesTo (s + unit.end + 1) (s + high) (places rest)) → unit.start < unit.end → RisesTo (s + low + 1) (s + high) (places parts)
 unit_rises s sections unit Read later [] low high is start last small body tables rise some = absurd tables
 unit_rises s sections unit Read later (part ∷ parts) low high is start last small body tables rise some =
-    let behind : unit.start < unit.body = body.0 in
-    let own : RisesTo (s + unit.body) (s + unit.end) (map (λ (d : DieFields). d.at) part.die.dies) =
-    subst (λ k. RisesTo (k + unit.body) (k + unit.end) (map (λ (d : DieFields). d.at) part.die.dies)) (sym is)
-    (places_rise sections unit tables.0.abbrevs part.die body.1 (omega arith) tables.0.table) in
+    let own = places_rise sections unit tables.0.abbrevs part.die body.1 (omega arith) tables.0.table in
     rises_append (s + low + 1) (s + unit.end) (s + high) (map (λ (d : DieFields). d.at) part.die.dies) (places parts) (omega arith) (omega arith)
-    (rises_lower (s + low + 1) (s + unit.body) (s + unit.end) (map (λ (d : DieFields). d.at) part.die.dies) (omega arith) own) (rise parts tables.1)
+    (rises_lower (s + low + 1) (s + unit.body) (s + unit.end) (map (λ (d : DieFields). d.at) part.die.dies) (omega (arith, body.0)) (rw is own)) (rise parts tables.1)
 unit_rises s sections unit Passed later parts low high is start last small body tables rise some = rises_lower (s + low + 1) (s + unit.end + 1) (s + high) (places parts) (omega arith) (rise parts tables)
 unit_rises s sections unit Skipped later parts low high is start last small body tables rise some = rises_lower (s + low + 1) (s + unit.end + 1) (s + high) (places parts) (omega arith) (rise parts tables)
 
@@ -57,14 +49,9 @@ parts_rise s sections (unit ∷ units) parts low high is small follow tables =
 unit_few : (sections : DebugSections) (unit : Unit) (which : UnitPart) (later : List Unit) (parts : List UnitRead) (low high : ℕ) → low ≤ unit.start → unit.start < unit.end → AreTables sections (with_read unit which later) parts → ((rest : List UnitRead) → AreTables sections later rest → length rest + unit.end ≤ high) → length parts + low ≤ high
 unit_few sections unit Read later [] low high start some tables few = absurd tables
 unit_few sections unit Read later (part ∷ parts) low high start some tables few =
-    let rest : length parts + unit.end ≤ high = few parts tables.1 in
-    omega arith
-unit_few sections unit Passed later parts low high start some tables few =
-    let rest : length parts + unit.end ≤ high = few parts tables in
-    omega arith
-unit_few sections unit Skipped later parts low high start some tables few =
-    let rest : length parts + unit.end ≤ high = few parts tables in
-    omega arith
+    omega (arith, few parts tables.1)
+unit_few sections unit Passed later parts low high start some tables few = omega (arith, few parts tables)
+unit_few sections unit Skipped later parts low high start some tables few = omega (arith, few parts tables)
 
 parts_few : (sections : DebugSections) (units : List Unit) (parts : List UnitRead) (low high : ℕ) → low ≤ high → Follow low high units → AreTables sections (read_units units) parts → length parts + low ≤ high
 parts_few sections [] [] low high inside follow tables = omega arith
@@ -80,17 +67,14 @@ record RiseIn (low high : ℕ) (parts : List UnitRead) : Type 0 where
 rise_in : (s : ℕ) (sections : DebugSections) (units : List Unit) (parts : List UnitRead) → s ≡ first_place sections.is_sup → units_in sections.info ≡ Ok units → AreTables sections (read_units units) parts → RiseIn s (length sections.info) parts
 rise_in s sections units parts first is tables =
     let follow = units_follow sections.info units is in
-    let few : length parts + 0 ≤ length sections.info = parts_few sections units parts 0 (length sections.info) (omega arith) follow tables in
     record {
-      few = omega (arith, few);
+      few = omega (arith, parts_few sections units parts 0 (length sections.info) (omega arith) follow tables);
       rise = rises_lower (s + 1) (s + 0 + 1) (s + length sections.info) (places parts) (omega arith) (parts_rise s sections units parts 0 (length sections.info) first (omega arith) follow tables);
     }
 
 rises_higher : (low high more : ℕ) (xs : List ℕ) → high ≤ more → RisesTo low high xs → RisesTo low more xs
 rises_higher low high more [] above rise = tt
-rises_higher low high more (x ∷ xs) above rise =
-    let most : x ≤ high = rise.1 in
-    (rise.0, omega arith, rises_higher (x + 1) high more xs above rise.2)
+rises_higher low high more (x ∷ xs) above rise = (rise.0, omega (arith, rise.1), rises_higher (x + 1) high more xs above rise.2)
 
 both_places : (parts more : List UnitRead) → places (parts ++ more) ≡ places parts ++ places more
 both_places [] more = refl
@@ -107,13 +91,10 @@ both_rise most own other parts more small others first second =
 
 read_by : (most own other : ℕ) (parts more : List UnitRead) → most ≡ 2 ^ 29 → own ≤ most → other ≤ most → RiseIn 0 own parts → RiseIn most other more → ArePairs (parts ++ more) → AreRead (parts ++ more)
 read_by most own other parts more is small others first second pairs =
-    let rise : RisesTo 1 (most + other) (places (parts ++ more)) = both_rise most own other parts more small others first second in
-    let count : length (places (parts ++ more)) + 1 ≤ most + other + 1 = rises_count 1 (most + other) (places (parts ++ more)) (omega arith) rise in
-    let few : length (parts ++ more) ≡ length parts + length more = length-append parts more in
-    let one = first.few in
-    let two = second.few in
+    let rise = both_rise most own other parts more small others first second in
+    let count = rises_count 1 (most + other) (places (parts ++ more)) (omega arith) rise in
     record {
-      few = omega (arith, few, one, two, is, small, others);
+      few = omega (arith, length-append parts more, first.few, second.few, is, small, others);
       few_entries = omega (arith, count, is, others);
       paired = pairs;
       rising = rises_from 0 (most + other) (places (parts ++ more)) (rises_lower 0 1 (most + other) (places (parts ++ more)) (omega arith) rise);

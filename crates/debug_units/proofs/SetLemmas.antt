@@ -1,9 +1,9 @@
 -- For `SpanSets`: sets by their numbers, each listed in the one way.
-use Rattle.std.proofs.Common.{◌≡◌, ◌<◌, ◌+◌, ℕ, zero, suc, List, [], ◌∷◌, ◌++◌, length, Some, None, refl, arith, sym, ap, subst, ◌∙◌, length-append}
+use Rattle.std.proofs.Common.{◌≡◌, ◌<◌, ℕ, zero, suc, List, [], ◌∷◌, ◌++◌, length, Some, None, refl, arith, sym, ap, subst, ◌∙◌}
 use Rattle.std.specs.List.{All, slice_get}
-use Rattle.std.proofs.lemmas.List.{get_or_append_left}
+use Rattle.std.proofs.lemmas.List.{get_or_append_left, length_push}
 use Rattle.std.proofs.lemmas.List.Elements.{All-nil, All-push, All-weaker, All-get_or, All-head, All-tail}
-use Rattle.std.proofs.lemmas.Option.{slice_get_within, slice_get-get_or, get_or_from_slice_get}
+use Rattle.std.proofs.lemmas.Option.{slice_get_within, slice_get-get_or, get_or_from_slice_get, same_Some}
 use Rattle.std.proofs.Math.Seq.{get_or-append_seam}
 use Rattle.sym_edges.specs.Addresses.{Range}
 use Rattle.range_set.specs.Canonical.{IsCanonical}
@@ -12,23 +12,15 @@ use Rattle.debug_units.specs.internal.NumberedSets.{set_of, sets_of, AreNumbered
 -- no entry yet: the empty set alone
 pub none_numbered : (sets before : List (List Range)) (numbers : List ℕ) → before ≡ [] → sets ≡ before ++ [] ∷ [] → numbers ≡ [] → AreNumbered sets numbers
 none_numbered sets before numbers none is empty =
-    let one : sets ≡ [] ∷ [] = is ∙ ap (λ (s : List (List Range)). s ++ [] ∷ []) none in
-    subst (λ (n : List ℕ). AreNumbered sets n) (sym empty)
-    (subst (λ (s : List (List Range)). AreNumbered s []) (sym one)
-    (record { there = All-nil (λ number. number < 1); canonical = All-push IsCanonical [] [] (All-nil IsCanonical) tt; some = omega arith; empty = refl }))
+    rw (empty, is, none) (record { there = All-nil (λ number. number < 1); canonical = All-push IsCanonical [] [] (All-nil IsCanonical) tt; some = omega arith; empty = refl })
 
 pub numbered_kept : (sets more : List (List Range)) (numbers later : List ℕ) → AreNumbered sets numbers → more ≡ sets → later ≡ numbers → AreNumbered more later
-numbered_kept sets more numbers later are same kept =
-    subst (λ (n : List ℕ). AreNumbered more n) (sym kept) (subst (λ (s : List (List Range)). AreNumbered s numbers) (sym same) are)
+numbered_kept sets more numbers later are same kept = rw (same, kept) are
 
 -- a number more, of a set that there is
 pub number_added : (sets : List (List Range)) (numbers more : List ℕ) (number : ℕ) → AreNumbered sets numbers → number < length sets → more ≡ numbers ++ number ∷ [] → AreNumbered sets more
-number_added sets numbers more number are there is = record {
-  there = subst (All (λ n. n < length sets)) (sym is) (All-push (λ n. n < length sets) numbers number are.there there);
-  canonical = are.canonical;
-  some = are.some;
-  empty = are.empty;
-}
+number_added sets numbers more number are there is =
+    rw is (record { there = All-push (λ n. n < length sets) numbers number are.there there; canonical = are.canonical; some = are.some; empty = are.empty })
 
 sets_and : (sets : List (List Range)) (numbers : List ℕ) (number : ℕ) → sets_of sets (numbers ++ number ∷ []) ≡ sets_of sets numbers ++ set_of sets number ∷ []
 sets_and sets [] number = refl
@@ -41,43 +33,28 @@ empty_added sets numbers more are is = ap (sets_of sets) is ∙ sets_and sets nu
 same_sets : (sets : List (List Range)) (set : List Range) (numbers : List ℕ) → All (λ n. n < length sets) numbers → sets_of (sets ++ set ∷ []) numbers ≡ sets_of sets numbers
 same_sets sets set [] there = refl
 same_sets sets set (n ∷ numbers) there =
-    ap (λ s. s ∷ sets_of (sets ++ set ∷ []) numbers) (get_or_append_left sets (set ∷ []) [] n (All-head (λ n. n < length sets) n numbers there))
-    ∙ ap (λ later. set_of sets n ∷ later) (same_sets sets set numbers (All-tail (λ n. n < length sets) n numbers there))
-
-one_longer : (sets : List (List Range)) (set : List Range) → length (sets ++ set ∷ []) ≡ length sets + 1
-one_longer sets set = length-append sets (set ∷ [])
+    rw (get_or_append_left sets (set ∷ []) [] n (All-head (λ n. n < length sets) n numbers there), same_sets sets set numbers (All-tail (λ n. n < length sets) n numbers there)) refl
 
 pub set_numbered : (sets more : List (List Range)) (numbers later : List ℕ) (set : List Range) (number : ℕ) → AreNumbered sets numbers → IsCanonical set → number ≡ length sets → more ≡ sets ++ set ∷ [] → later ≡ numbers ++ number ∷ [] → AreNumbered more later
 set_numbered sets more numbers later set number are canonical at is grown =
-    subst (λ (s : List (List Range)). AreNumbered s later) (sym is)
-    (number_added (sets ++ set ∷ []) numbers later number
+    let long = length_push sets set in
+    rw is (number_added (sets ++ set ∷ []) numbers later number
     (record {
-      there = All-weaker (λ n. n < length sets) (λ n. n < length (sets ++ set ∷ [])) (λ n below. omega (arith, below, one_longer sets set)) numbers are.there;
+      there = All-weaker (λ n. n < length sets) (λ n. n < length (sets ++ set ∷ [])) (λ n below. omega (arith, below, long)) numbers are.there;
       canonical = All-push IsCanonical sets set are.canonical canonical;
-      some = omega (arith, are.some, one_longer sets set);
+      some = omega (arith, are.some, long);
       empty = get_or_append_left sets (set ∷ []) [] 0 are.some ∙ are.empty;
     })
-    (omega (arith, at, one_longer sets set)) grown)
+    (omega (arith, at, long)) grown)
 
 pub set_added : (sets more : List (List Range)) (numbers later : List ℕ) (set : List Range) (number : ℕ) → AreNumbered sets numbers → number ≡ length sets → more ≡ sets ++ set ∷ [] → later ≡ numbers ++ number ∷ [] → sets_of more later ≡ sets_of sets numbers ++ set ∷ []
 set_added sets more numbers later set number are at is grown =
-    ap (λ (s : List (List Range)). sets_of s later) is
-    ∙ ap (sets_of (sets ++ set ∷ [])) grown
-    ∙ sets_and (sets ++ set ∷ []) numbers number
-    ∙ ap (λ xs. xs ++ set_of (sets ++ set ∷ []) number ∷ []) (same_sets sets set numbers are.there)
-    ∙ ap (λ s. sets_of sets numbers ++ s ∷ []) (ap (set_of (sets ++ set ∷ [])) at ∙ get_or-append_seam sets set [] [])
-
-some_same : {A : Type 0} {x y : A} → Some x ≡ Some y → x ≡ y
-some_same is = cc
+    rw (is, grown, sets_and (sets ++ set ∷ []) numbers number, same_sets sets set numbers are.there, at, get_or-append_seam sets set [] []) refl
 
 -- the set of an entry's number
-pub count_is : (sets : List (List Range)) (numbers : List ℕ) → length (sets_of sets numbers) ≡ length numbers
-count_is sets [] = refl
-count_is sets (n ∷ numbers) = ap suc (count_is sets numbers)
-
 pub set_there : (sets : List (List Range)) (numbers : List ℕ) (entry number : ℕ) → Some number ≡ slice_get numbers entry → slice_get (sets_of sets numbers) entry ≡ Some (set_of sets number)
 set_there sets [] entry number is = absurd (cc)
-set_there sets (n ∷ numbers) zero number is = let same : number ≡ n = cc in ap (λ m. Some (set_of sets m)) (sym same)
+set_there sets (n ∷ numbers) zero number is = grind (arith, is)
 set_there sets (n ∷ numbers) (suc entry) number is = set_there sets numbers entry number is
 
 pub none_there : (sets : List (List Range)) (numbers : List ℕ) (entry : ℕ) → None ≡ slice_get numbers entry → None ≡ slice_get (sets_of sets numbers) entry
@@ -85,14 +62,9 @@ none_there sets [] entry is = refl
 none_there sets (n ∷ numbers) zero is = absurd (cc)
 none_there sets (n ∷ numbers) (suc entry) is = none_there sets numbers entry is
 
-there_in : (sets : List (List Range)) (numbers : List ℕ) (entry number : ℕ) → All (λ n. n < length sets) numbers → Some number ≡ slice_get numbers entry → number < length sets
-there_in sets [] entry number are is = absurd (cc)
-there_in sets (n ∷ numbers) zero number are is =
-    let same : number ≡ n = cc in subst (λ m. m < length sets) (sym same) (All-head (λ m. m < length sets) n numbers are)
-there_in sets (n ∷ numbers) (suc entry) number are is = there_in sets numbers entry number (All-tail (λ m. m < length sets) n numbers are) is
-
 pub number_there : (sets : List (List Range)) (numbers : List ℕ) (entry number : ℕ) → AreNumbered sets numbers → Some number ≡ slice_get numbers entry → number < length sets
-number_there sets numbers entry number are is = there_in sets numbers entry number are.there is
+number_there sets numbers entry number are is =
+    subst (λ n. n < length sets) (get_or_from_slice_get numbers entry number 0 (sym is)) (All-get_or (λ n. n < length sets) numbers entry 0 (slice_get_within numbers entry number (sym is)) are.there)
 
 pub empty_there : (sets : List (List Range)) (numbers : List ℕ) (entry number : ℕ) → AreNumbered sets numbers → Some number ≡ slice_get numbers entry → number ≡ 0 → Some [] ≡ slice_get (sets_of sets numbers) entry
 empty_there sets numbers entry number are is none =
@@ -114,7 +86,7 @@ never_past sets (n ∷ numbers) (suc entry) there none = never_past sets numbers
 
 pub again_added : (sets : List (List Range)) (numbers more : List ℕ) (entry number : ℕ) (set : List Range) → Some number ≡ slice_get numbers entry → more ≡ numbers ++ number ∷ [] → slice_get (sets_of sets numbers) entry ≡ Some set → sets_of sets more ≡ sets_of sets numbers ++ set ∷ []
 again_added sets numbers more entry number set is grown there =
-    let same : set_of sets number ≡ set = some_same (sym (set_there sets numbers entry number is) ∙ there) in
+    let same = same_Some (set_of sets number) set (sym (set_there sets numbers entry number is) ∙ there) in
     ap (sets_of sets) grown ∙ sets_and sets numbers number ∙ ap (λ s. sets_of sets numbers ++ s ∷ []) same
 
 -- entries with one number
