@@ -1,5 +1,5 @@
 -- A search among units, by halves.
-use Rattle.std.proofs.Common.{◌≡◌, ◌<◌, ◌≤◌, ◌+◌, ◌++◌, ℕ, zero, suc, false, eqb, List, [], ◌∷◌, take, drop, length, Option, None, Some, IfSome, get_or, unwrap_or, refl, sym, ap, subst, ◌∙◌, arith}
+use Rattle.std.proofs.Common.{◌≡◌, ◌<◌, ◌≤◌, ◌+◌, ◌++◌, ℕ, zero, suc, false, eqb, List, [], ◌∷◌, take, drop, length, Option, None, Some, IfSome, get_or, refl, sym, ap, subst, ◌∙◌, arith}
 use Rattle.std.specs.List.{find, slice_get}
 use Rattle.std.specs.Option.{option_or, option_map}
 use Rattle.std.proofs.lemmas.Option.{none-some, slice_get-get_or}
@@ -122,15 +122,11 @@ left_inside left right (Some s) inside = record {
 
 head_rises : (low : ℕ) (dies : List DieFields) (d : DieFields) (more : List ℕ) → slice_get dies 0 ≡ Some d → RisesFrom low (dies_places dies ++ more) → RisesFrom d.at (dies_places dies ++ more)
 head_rises low [] d more is rises = absurd (none-some _ is)
-head_rises low (x ∷ dies) d more is rises =
-    let same : x.at ≡ d.at = ap (λ (o : Option DieFields). (unwrap_or o x).at) is in
-    (omega arith, rises.1)
+head_rises low (x ∷ dies) d more is rises = (grind (arith, is), rises.1)
 
 head_le : (low : ℕ) (dies : List DieFields) (d : DieFields) (more : List ℕ) (xs : List ℕ) (place : ℕ) → slice_get dies 0 ≡ Some d → d.at ≤ place → RisesFrom low (xs ++ (dies_places dies ++ more)) → Avoids place xs
 head_le low [] d more xs place is le rises = absurd (none-some _ is)
-head_le low (x ∷ dies) d more xs place is le rises =
-    let same : x.at ≡ d.at = ap (λ (o : Option DieFields). (unwrap_or o x).at) is in
-    below place low xs x.at (dies_places dies ++ more) rises (omega arith)
+head_le low (x ∷ dies) d more xs place is le rises = below place low xs x.at (dies_places dies ++ more) rises (grind (arith, is, le))
 
 parted : (left : List UnitRead) (part : UnitRead) (rest : List UnitRead) → RisesFrom 0 (places (left ++ (part ∷ rest))) → RisesFrom 0 (places left ++ (dies_places part.die.dies ++ places rest))
 parted left part rest rises = subst (RisesFrom 0) (places_append left (part ∷ rest)) rises
@@ -149,15 +145,11 @@ earlier_none place first left part rest d rises is le =
 left_is : (place first : ℕ) (left : List UnitRead) (part : UnitRead) (rest : List UnitRead) (d : DieFields) (r : Option Standing) → RisesFrom 0 (places (left ++ (part ∷ rest))) → slice_get part.die.dies 0 ≡ Some d → place < d.at
     → IfSome r (λ s. IsInside left s) → found_from first left r ≡ among place first left → found_from first (left ++ (part ∷ rest)) r ≡ among place first (left ++ (part ∷ rest))
 left_is place first left part rest d r rises is less inside found =
-    left_found first left (part ∷ rest) r inside ∙ found ∙ sym (or_none (among place first left))
-    ∙ ap (λ o. option_or (among place first left) o) (sym (later_none place first left part rest d rises is less))
-    ∙ sym (split place first left part rest)
+    grind (arith, left_found first left (part ∷ rest) r inside, found, or_none (among place first left), later_none place first left part rest d rises is less, split place first left part rest)
 
 pub at_left : (place first : ℕ) (units left : List UnitRead) (part : UnitRead) (rest : List UnitRead) (half : ℕ) (d : DieFields) (r : Option Standing) → Halves units left part rest half → RisesFrom 0 (places units) → slice_get part.die.dies 0 ≡ Some d → place < d.at
     → IfSome r (λ s. IsInside left s) → found_from first left r ≡ among place first left → found_from first units r ≡ among place first units
-at_left place first units left part rest half d r h rises is less inside found =
-    subst (λ (us : List UnitRead). found_from first us r ≡ among place first us) (sym h.whole)
-    (left_is place first left part rest d r (subst (λ us. RisesFrom 0 (places us)) h.whole rises) is less inside found)
+at_left place first units left part rest half d r h rises is less inside found = rw h.whole (left_is place first left part rest d r (rw h.whole at rises) is less inside found)
 
 pub inside_left : (units left : List UnitRead) (part : UnitRead) (rest : List UnitRead) (half : ℕ) (r : Option Standing) → Halves units left part rest half → IfSome r (λ s. IsInside left s) → IfSome r (λ s. IsInside units s)
 inside_left units left part rest half r h inside = subst (λ us. IfSome r (λ s. IsInside us s)) (sym h.whole) (left_inside left (part ∷ rest) r inside)
@@ -177,26 +169,19 @@ middle_is : (place first : ℕ) (left : List UnitRead) (part : UnitRead) (rest :
     → entry < length part.die.dies → found_in (first + length left) part.die.dies (Some entry) ≡ in_unit place (first + length left) part.die.dies
     → entry_in (first + length left) entry (slice_get (left ++ (part ∷ rest)) (length left)) ≡ among place first (left ++ (part ∷ rest))
 middle_is place first left part rest d entry rises is le within found =
-    ap (λ u. entry_in (first + length left) entry u) (middle_get left part rest)
-    ∙ found
-    ∙ sym (or_some (in_unit place (first + length left) part.die.dies) (among place (first + length left + 1) rest) _ (sym found ∙ there (first + length left) part.die.dies entry d within))
-    ∙ ap (λ o. option_or o (option_or (in_unit place (first + length left) part.die.dies) (among place (first + length left + 1) rest))) (sym (earlier_none place first left part rest d rises is le))
-    ∙ sym (split place first left part rest)
+    rw (split place first left part rest, earlier_none place first left part rest d rises is le, middle_get left part rest)
+    (found ∙ sym (or_some (in_unit place (first + length left) part.die.dies) (among place (first + length left + 1) rest) _ (sym found ∙ there (first + length left) part.die.dies entry d within)))
 
 pub at_middle : (place first : ℕ) (units left : List UnitRead) (part : UnitRead) (rest : List UnitRead) (half : ℕ) (d : DieFields) (entry : ℕ) → Halves units left part rest half → RisesFrom 0 (places units) → slice_get part.die.dies 0 ≡ Some d → d.at ≤ place
     → entry < length part.die.dies → ((unit : ℕ) → found_in unit part.die.dies (Some entry) ≡ in_unit place unit part.die.dies)
     → entry_in (first + half) entry (slice_get units half) ≡ among place first units
 at_middle place first units left part rest half d entry h rises is le within found =
-    subst (λ (us : List UnitRead). entry_in (first + half) entry (slice_get us half) ≡ among place first us) (sym h.whole)
-    (subst (λ (n : ℕ). entry_in (first + n) entry (slice_get (left ++ (part ∷ rest)) n) ≡ among place first (left ++ (part ∷ rest))) (sym h.long)
-    (middle_is place first left part rest d entry (subst (λ us. RisesFrom 0 (places us)) h.whole rises) is le within (found (first + length left))))
+    rw (h.whole, h.long) (middle_is place first left part rest d entry (rw h.whole at rises) is le within (found (first + length left)))
 
 pub inside_middle : (units left : List UnitRead) (part : UnitRead) (rest : List UnitRead) (half : ℕ) (entry : ℕ) → Halves units left part rest half → entry < length part.die.dies → IsInside units (record { unit = half; entry = entry })
 inside_middle units left part rest half entry h within = record {
   unit = rw h.whole (rw length-append (omega (arith, h.long)));
-  entry = subst (λ (us : List UnitRead). entry < die_count (slice_get us half)) (sym h.whole)
-      (subst (λ (n : ℕ). entry < die_count (slice_get (left ++ (part ∷ rest)) n)) (sym h.long)
-      (subst (λ u. entry < die_count u) (sym (middle_get left part rest)) within));
+  entry = rw (h.whole, h.long, middle_get left part rest) within;
 }
 
 -- the second half
@@ -213,20 +198,14 @@ right_is : (place first : ℕ) (left : List UnitRead) (part : UnitRead) (rest : 
     → found_from (first + length left + 1) rest r ≡ among place (first + length left + 1) rest
     → found_from first (left ++ (part ∷ rest)) (moved (length left + 1) r) ≡ among place first (left ++ (part ∷ rest))
 right_is place first left part rest r earlier middle found =
-    right_found first left part rest r ∙ found
-    ∙ ap (λ o. option_or o (among place (first + length left + 1) rest)) (sym middle)
-    ∙ ap (λ o. option_or o (option_or (in_unit place (first + length left) part.die.dies) (among place (first + length left + 1) rest))) (sym earlier)
-    ∙ sym (split place first left part rest)
+    right_found first left part rest r ∙ found ∙ sym (rw (split place first left part rest, earlier, middle) refl)
 
 at_right : (place first : ℕ) (units left : List UnitRead) (part : UnitRead) (rest : List UnitRead) (half : ℕ) (r q : Option Standing) → Halves units left part rest half → q ≡ moved (half + 1) r
     → among place first left ≡ None → ((unit : ℕ) → None ≡ in_unit place unit part.die.dies)
     → ((from : ℕ) → found_from from rest r ≡ among place from rest)
     → found_from first units q ≡ among place first units
 at_right place first units left part rest half r q h is earlier middle found =
-    ap (λ o. found_from first units o) is
-    ∙ subst (λ (us : List UnitRead). found_from first us (moved (half + 1) r) ≡ among place first us) (sym h.whole)
-    (subst (λ (n : ℕ). found_from first (left ++ (part ∷ rest)) (moved (n + 1) r) ≡ among place first (left ++ (part ∷ rest))) (sym h.long)
-    (right_is place first left part rest r earlier (sym (middle (first + length left))) (found (first + length left + 1))))
+    rw (is, h.whole, h.long) (right_is place first left part rest r earlier (sym (middle (first + length left))) (found (first + length left + 1)))
 
 pub behind_middle : (place first : ℕ) (units left : List UnitRead) (part : UnitRead) (rest : List UnitRead) (half : ℕ) (d : DieFields) (r q : Option Standing) → Halves units left part rest half → q ≡ moved (half + 1) r → RisesFrom 0 (places units)
     → slice_get part.die.dies 0 ≡ Some d → d.at ≤ place → ((unit : ℕ) → None ≡ in_unit place unit part.die.dies)
@@ -262,8 +241,7 @@ before_is : (place first : ℕ) (left : List UnitRead) (part : UnitRead) (rest :
 before_is place first left part rest s inside found =
     left_found first left (part ∷ rest) (Some s) inside
     ∙ sym (found_there first left s inside _ refl (or_none _) (option_or (in_unit place (first + length left) part.die.dies) (among place (first + length left + 1) rest)))
-    ∙ ap (λ o. option_or o (option_or (in_unit place (first + length left) part.die.dies) (among place (first + length left + 1) rest))) found
-    ∙ sym (split place first left part rest)
+    ∙ sym (rw (split place first left part rest, ← found) refl)
 
 pub before_empty : (place first : ℕ) (units left : List UnitRead) (part : UnitRead) (rest : List UnitRead) (half : ℕ) (s : Standing) → Halves units left part rest half → IsInside left s → found_from first left (Some s) ≡ among place first left
     → found_from first units (Some s) ≡ among place first units
@@ -279,9 +257,7 @@ right_inside left part rest (Some s) inside = record {
 
 pub inside_right : (units left : List UnitRead) (part : UnitRead) (rest : List UnitRead) (half : ℕ) (r q : Option Standing) → Halves units left part rest half → q ≡ moved (half + 1) r → IfSome r (λ s. IsInside rest s) → IfSome q (λ s. IsInside units s)
 inside_right units left part rest half r q h is inside =
-    subst (λ (o : Option Standing). IfSome o (λ s. IsInside units s)) (sym is)
-    (subst (λ (us : List UnitRead). IfSome (moved (half + 1) r) (λ s. IsInside us s)) (sym h.whole)
-    (subst (λ (n : ℕ). IfSome (moved (n + 1) r) (λ s. IsInside (left ++ (part ∷ rest)) s)) (sym h.long) (right_inside left part rest r inside)))
+    rw (is, h.whole, h.long) (right_inside left part rest r inside)
 
 -- what the halves ask for
 pub rises_in_left : (units left : List UnitRead) (part : UnitRead) (rest : List UnitRead) (half : ℕ) → Halves units left part rest half → RisesFrom 0 (places units) → RisesFrom 0 (places left)

@@ -1,5 +1,5 @@
 -- The way of an entry, entry by entry.
-use Rattle.std.proofs.Common.{◌≡◌, ◌<◌, ◌≤◌, ◌+◌, ◌-◌, ◌^◌, ℕ, zero, suc, true, false, List, [], ◌∷◌, map, length, Option, None, Some, unwrap_or, refl, sym, ap, ◌∙◌, arith}
+use Rattle.std.proofs.Common.{◌≡◌, ◌<◌, ◌≤◌, ◌-◌, ◌^◌, ℕ, zero, suc, true, false, List, [], ◌∷◌, map, length, Option, None, Some, refl, sym, ap, ◌∙◌, arith}
 use Rattle.std.specs.List.{slice_get}
 use Rattle.std.specs.Option.{option_map}
 use Rattle.std.proofs.lemmas.Bool.{cond-true, cond-false}
@@ -71,21 +71,12 @@ next_is units links best s die to made some is has noting linking =
 -- numbers of entries are small
 within_places : (units : List UnitRead) (k : ℕ) (part : UnitRead) → slice_get units k ≡ Some part → length part.die.dies ≤ length (places units)
 within_places [] k part is = absurd (none-some _ is)
-within_places (u ∷ units) zero part is =
-    let same : length u.die.dies ≡ length part.die.dies = ap (λ (o : Option UnitRead). length ((unwrap_or o u).die.dies)) is in
-    let whole : length (places (u ∷ units)) ≡ length (map (λ (d : DieFields). d.at) u.die.dies) + length (places units) = length-append _ _ in
-    let long : length (map (λ (d : DieFields). d.at) u.die.dies) ≡ length u.die.dies = length-map _ _ in
-    omega arith
-within_places (u ∷ units) (suc k) part is =
-    let later : length part.die.dies ≤ length (places units) = within_places units k part is in
-    let whole : length (places (u ∷ units)) ≡ length (map (λ (d : DieFields). d.at) u.die.dies) + length (places units) = length-append _ _ in
-    omega arith
+within_places (u ∷ units) zero part is = grind (arith, is, length-append (map (λ (d : DieFields). d.at) u.die.dies) (places units), length-map u.die.dies (λ (d : DieFields). d.at))
+within_places (u ∷ units) (suc k) part is = omega (arith, within_places units k part is, length-append (map (λ (d : DieFields). d.at) u.die.dies) (places units))
 
 entry_by : (units : List UnitRead) (s : Standing) (part : Option UnitRead) → slice_get units s.unit ≡ part → s.entry < die_count part → s.entry < length (places units)
 entry_by units s None is inside = absurd (omega arith)
-entry_by units s (Some part) is inside =
-    let few : length part.die.dies ≤ length (places units) = within_places units s.unit part is in
-    omega arith
+entry_by units s (Some part) is inside = omega (arith, within_places units s.unit part is)
 
 pub small_unit : (units : List UnitRead) (s : Standing) → AreRead units → IsInside units s → s.unit < 2 ^ 32
 small_unit units s read inside = omega (arith, read.few, inside.unit)

@@ -1,8 +1,9 @@
 -- The scopes around an entry, and what they put in front of a name.
-use Rattle.std.proofs.Common.{◌≡◌, ◌<◌, ◌++◌, ◌==◌, if◌then◌else◌, ℕ, zero, suc, Bool, true, false, List, [], ◌∷◌, Option, None, Some, option_and_then, refl, sym, ap, ◌∙◌, arith, append-nil}
+use Rattle.std.proofs.Common.{◌≡◌, ◌<◌, ◌++◌, ◌==◌, if◌then◌else◌, ℕ, zero, suc, Bool, false, List, [], ◌∷◌, Option, None, Some, option_and_then, refl, sym, ap, ◌∙◌, arith, append-nil}
 use Rattle.std.specs.List.{slice_get, filter}
 use Rattle.std.specs.Option.{option_map_or}
-use Rattle.std.proofs.lemmas.Bool.{cond-true, cond-false}
+use Rattle.std.proofs.lemmas.Bool.{cond-false}
+use Rattle.std.proofs.lemmas.Bool.Decides.{nat_tests}
 use Rattle.std.proofs.lemmas.List.{append_assoc}
 use Rattle.die_walk.specs.EntryTable.{DieFields}
 use Rattle.die_walk.specs.EntryKinds.{is_scope}
@@ -29,37 +30,16 @@ pub scopes_are : (dies : List DieFields) (entry : ℕ) (o : Option DieFields) �
 unfolding scopes_of
 scopes_are dies entry o is = ap (λ (found : Option DieFields). option_map_or (λ (die : DieFields). scopes_in dies entry die.parent) found []) is
 
-by_kind : (dies : List DieFields) (number : ℕ) (d : DieFields) (scope : Bool) → slice_get dies number ≡ Some d → is_scope d ≡ scope
-    → ((parent : Option ℕ) → scopes_in dies number parent ≡ hopped dies (scope_around dies number parent))
-    → filter (is_scope_at dies) (number ∷ around dies number d.parent) ≡ hopped dies (from_here dies number d)
-by_kind dies number d true is says below =
-    cond-true _ _ _ (ap (λ (o : Option DieFields). option_map_or is_scope o false) is ∙ says)
-    ∙ ap (λ (outer : List ℕ). number ∷ outer) (sym (scopes_are dies number (Some d) is))
-    ∙ ap (hopped dies) (sym (cond-true _ _ _ says))
-by_kind dies number d false is says below =
-    cond-false _ _ _ (ap (λ (o : Option DieFields). option_map_or is_scope o false) is ∙ says)
-    ∙ below d.parent
-    ∙ ap (hopped dies) (sym (cond-false _ _ _ says))
-
 by_entry : (dies : List DieFields) (number : ℕ) (o : Option DieFields) → slice_get dies number ≡ o
     → ((parent : Option ℕ) → scopes_in dies number parent ≡ hopped dies (scope_around dies number parent))
     → filter (is_scope_at dies) (option_map_or (λ (die : DieFields). number ∷ around dies number die.parent) o []) ≡ hopped dies (option_and_then (from_here dies number) o)
 by_entry dies number None is below = refl
-by_entry dies number (Some d) is below = by_kind dies number d (is_scope d) is refl below
-
-by_parent : (dies : List DieFields) (number : ℕ) (parent : Option ℕ) (here : Bool) → is_parent parent number ≡ here
-    → ((next : Option ℕ) → scopes_in dies number next ≡ hopped dies (scope_around dies number next))
-    → scopes_in dies (suc number) parent ≡ hopped dies (scope_around dies (suc number) parent)
-unfolding around scope_around
-by_parent dies number parent true is below =
-    ap (filter (is_scope_at dies)) (cond-true _ _ _ is) ∙ by_entry dies number (slice_get dies number) refl below ∙ ap (hopped dies) (sym (cond-true _ _ _ is))
-by_parent dies number parent false is below =
-    ap (filter (is_scope_at dies)) (cond-false _ _ _ is) ∙ below parent ∙ ap (hopped dies) (sym (cond-false _ _ _ is))
+by_entry dies number (Some d) is below = grind (arith, nat_tests, is, below d.parent, scopes_are dies number (Some d) is)
 
 pub scopes_next : (dies : List DieFields) (limit : ℕ) (parent : Option ℕ) → scopes_in dies limit parent ≡ hopped dies (scope_around dies limit parent)
 unfolding around scope_around
 scopes_next dies zero parent = refl
-scopes_next dies (suc number) parent = by_parent dies number parent (is_parent parent number) refl (scopes_next dies number)
+scopes_next dies (suc number) parent = grind (arith, nat_tests, by_entry dies number (slice_get dies number) refl (scopes_next dies number), scopes_next dies number parent)
 
 hop_by : (dies : List DieFields) (entry : ℕ) (o : Option DieFields) → option_map_or (λ (die : DieFields). scopes_in dies entry die.parent) o [] ≡ hopped dies (option_and_then (λ (die : DieFields). scope_around dies entry die.parent) o)
 hop_by dies entry None = refl
@@ -80,35 +60,16 @@ gathered_more dies done added limit number whole to rest adding =
     ∙ ap (λ (l : List ℕ). done ++ l) (sym (scopes_hop dies limit)) ∙ rest
 
 -- a scope stands before what it is around
-before_by : (dies : List DieFields) (number found : ℕ) (d : DieFields) (scope : Bool) → is_scope d ≡ scope
-    → ((parent : Option ℕ) → scope_around dies number parent ≡ Some found → found < number)
-    → from_here dies number d ≡ Some found → found < suc number
-before_by dies number found d true says below is =
-    let same : Some number ≡ Some found = sym (cond-true _ _ _ says) ∙ is in
-    let equal : number ≡ found = cc in
-    omega (arith, equal)
-before_by dies number found d false says below is = omega (arith, below d.parent (sym (cond-false _ _ _ says) ∙ is))
-
 before_entry : (dies : List DieFields) (number found : ℕ) (o : Option DieFields)
     → ((parent : Option ℕ) → scope_around dies number parent ≡ Some found → found < number)
     → option_and_then (from_here dies number) o ≡ Some found → found < suc number
 before_entry dies number found None below is = absurd (cc)
-before_entry dies number found (Some d) below is = before_by dies number found d (is_scope d) refl below is
-
-before_parent : (dies : List DieFields) (number found : ℕ) (parent : Option ℕ) (here : Bool) → is_parent parent number ≡ here
-    → ((next : Option ℕ) → scope_around dies number next ≡ Some found → found < number)
-    → scope_around dies (suc number) parent ≡ Some found → found < suc number
-unfolding scope_around
-before_parent dies number found parent true says below is = before_entry dies number found (slice_get dies number) below (sym (cond-true _ _ _ says) ∙ is)
-before_parent dies number found parent false says below is = omega (arith, below parent (sym (cond-false _ _ _ says) ∙ is))
-
-none_before : (dies : List DieFields) (found : ℕ) (parent : Option ℕ) → scope_around dies zero parent ≡ Some found → found < zero
-unfolding scope_around
-none_before dies found parent is = absurd (cc)
+before_entry dies number found (Some d) below is = grind (arith, nat_tests, below d.parent, is)
 
 around_before : (dies : List DieFields) (limit found : ℕ) (parent : Option ℕ) → scope_around dies limit parent ≡ Some found → found < limit
-around_before dies zero found parent is = none_before dies found parent is
-around_before dies (suc number) found parent is = before_parent dies number found parent (is_parent parent number) refl (around_before dies number found) is
+unfolding scope_around
+around_before dies zero found parent is = absurd (cc)
+around_before dies (suc number) found parent is = grind (arith, nat_tests, is, before_entry dies number found (slice_get dies number) (around_before dies number found), around_before dies number found parent)
 
 before_of : (dies : List DieFields) (entry found : ℕ) (o : Option DieFields) → option_and_then (λ (die : DieFields). scope_around dies entry die.parent) o ≡ Some found → found < entry
 before_of dies entry found None is = absurd (cc)
@@ -123,15 +84,9 @@ unfolding scope_front
 bare_by None bare = refl
 bare_by (Some die) bare = cond-false _ _ _ bare
 
-kept_by : (dies : List DieFields) (number : ℕ) (outer : List ℕ) (scope : Bool) → is_scope_at dies number ≡ scope → fronts dies (filter (is_scope_at dies) outer) ≡ fronts dies outer
-    → fronts dies (filter (is_scope_at dies) (number ∷ outer)) ≡ fronts dies (number ∷ outer)
-kept_by dies number outer true is same = ap (fronts dies) (cond-true _ _ _ is) ∙ ap (λ (front : List ℕ). front ++ front_at dies number) same
-kept_by dies number outer false is same =
-    ap (fronts dies) (cond-false _ _ _ is) ∙ same ∙ sym (append-nil (fronts dies outer)) ∙ ap (λ (front : List ℕ). fronts dies outer ++ front) (sym (bare_by (slice_get dies number) is))
-
 fronts_kept : (dies : List DieFields) (numbers : List ℕ) → fronts dies (filter (is_scope_at dies) numbers) ≡ fronts dies numbers
 fronts_kept dies [] = refl
-fronts_kept dies (number ∷ outer) = kept_by dies number outer (is_scope_at dies number) refl (fronts_kept dies outer)
+fronts_kept dies (number ∷ outer) = grind (arith, nat_tests, fronts_kept dies outer, append-nil (fronts dies outer), bare_by (slice_get dies number))
 
 pub fronts_of : (dies : List DieFields) (entry : ℕ) (d : DieFields) → Some d ≡ slice_get dies entry → fronts dies (scopes_of dies entry) ≡ front_in dies entry d.parent
 fronts_of dies entry d is = ap (fronts dies) (scopes_are dies entry (Some d) (sym is)) ∙ fronts_kept dies (around dies entry d.parent)

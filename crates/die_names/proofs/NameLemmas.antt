@@ -1,8 +1,8 @@
 -- The entry that gives a name, and what it is.
-use Rattle.std.proofs.Common.{◌≡◌, ◌+◌, ◌++◌, ℕ, zero, suc, Bool, true, false, cond, true≢false, ◌&&◌, List, [], ◌∷◌, length, codes, Option, None, Some, unwrap_or, option_and_then, refl, sym, ap, subst, ◌∙◌}
+use Rattle.std.proofs.Common.{◌≡◌, ◌+◌, ◌++◌, ℕ, zero, suc, Bool, true, false, true≢false, List, [], ◌∷◌, length, codes, Option, None, Some, unwrap_or, option_and_then, refl, sym, ap, subst, ◌∙◌, arith}
 use Rattle.std.specs.List.{find, slice_get}
 use Rattle.std.specs.Option.{option_map, is_some}
-use Rattle.std.proofs.lemmas.Bool.{cond-true, cond-false}
+use Rattle.std.proofs.lemmas.Bool.Decides.{nat_tests}
 use Rattle.std.proofs.lemmas.List.{append_assoc, length-append}
 use Rattle.clean_names.specs.Cleaning.{cleaned}
 use Rattle.abbrev_units.specs.Attributes.{or_else}
@@ -14,44 +14,17 @@ use Rattle.debug_units.specs.UnitEntries.{Placed, unit_entries, entries_from, en
 use Rattle.die_names.specs.Names.{way, linked_from, link_of, front_of, first_linkage, first_joined, entry_name}
 use Rattle.die_names.specs.NameRefs.{name_at, has_linkage, has_name, joined_or, linkage_or, name_ref, bytes_by, name_bytes}
 use Rattle.die_names.specs.internal.Finding.{is_at}
-use Rattle.die_names.specs.internal.Following.{is_omitted, noted, followed}
+use Rattle.die_names.specs.internal.Following.{is_omitted, followed}
 
 -- once an entry with a name has come
-named_by : (best : NameRef) (p : Placed) (rest : List Placed) (has : Bool) → has_linkage p ≡ has → followed (noted best p) rest ≡ linkage_or best (find has_linkage rest) → followed best (p ∷ rest) ≡ linkage_or best (find has_linkage (p ∷ rest))
-named_by best p rest true is later = cond-true _ _ _ is ∙ ap (linkage_or best) (sym (cond-true _ _ _ is))
-named_by best p rest false is later = cond-false _ _ _ is ∙ later ∙ ap (linkage_or best) (sym (cond-false _ _ _ is))
-
-noted_same : (best : NameRef) (p : Placed) → is_omitted best.how ≡ false → noted best p ≡ best
-noted_same best p not = ap (λ b. cond (b && has_name p) (name_at p Joined) best) not
-
 followed_named : (best : NameRef) (entries : List Placed) → is_omitted best.how ≡ false → followed best entries ≡ linkage_or best (find has_linkage entries)
 followed_named best [] not = refl
-followed_named best (p ∷ rest) not = named_by best p rest (has_linkage p) refl (ap (λ b. followed b rest) (noted_same best p not) ∙ followed_named best rest not)
+followed_named best (p ∷ rest) not = grind (arith, nat_tests, not, followed_named best rest not)
 
 -- before that
-omitted_by : (best : NameRef) (p : Placed) (rest : List Placed) (has : Bool) → has_name p ≡ has → is_omitted best.how ≡ true
-    → followed best rest ≡ linkage_or (joined_or best (find has_name rest)) (find has_linkage rest)
-    → followed (noted best p) rest ≡ linkage_or (joined_or best (find has_name (p ∷ rest))) (find has_linkage rest)
-omitted_by best p rest true is begun later =
-    ap (λ b. followed (cond (b && has_name p) (name_at p Joined) best) rest) begun
-    ∙ ap (λ b. followed (cond b (name_at p Joined) best) rest) is
-    ∙ followed_named (name_at p Joined) rest refl
-    ∙ ap (λ o. linkage_or (joined_or best o) (find has_linkage rest)) (sym (cond-true _ _ _ is))
-omitted_by best p rest false is begun later =
-    ap (λ b. followed (cond (b && has_name p) (name_at p Joined) best) rest) begun
-    ∙ ap (λ b. followed (cond b (name_at p Joined) best) rest) is
-    ∙ later
-    ∙ ap (λ o. linkage_or (joined_or best o) (find has_linkage rest)) (sym (cond-false _ _ _ is))
-
-first_by : (best : NameRef) (p : Placed) (rest : List Placed) (has : Bool) → has_linkage p ≡ has
-    → followed (noted best p) rest ≡ linkage_or (joined_or best (find has_name (p ∷ rest))) (find has_linkage rest)
-    → followed best (p ∷ rest) ≡ linkage_or (joined_or best (find has_name (p ∷ rest))) (find has_linkage (p ∷ rest))
-first_by best p rest true is later = cond-true _ _ _ is ∙ ap (linkage_or (joined_or best (find has_name (p ∷ rest)))) (sym (cond-true _ _ _ is))
-first_by best p rest false is later = cond-false _ _ _ is ∙ later ∙ ap (linkage_or (joined_or best (find has_name (p ∷ rest)))) (sym (cond-false _ _ _ is))
-
 followed_first : (best : NameRef) (entries : List Placed) → is_omitted best.how ≡ true → followed best entries ≡ linkage_or (joined_or best (find has_name entries)) (find has_linkage entries)
 followed_first best [] begun = refl
-followed_first best (p ∷ rest) begun = first_by best p rest (has_linkage p) refl (omitted_by best p rest (has_name p) refl begun (followed_first best rest begun))
+followed_first best (p ∷ rest) begun = grind (arith, nat_tests, begun, followed_named (name_at p Joined) rest refl, followed_first best rest begun)
 
 pub reference_is : (units : List UnitRead) (unit entry : ℕ) → followed (record { unit = unit; entry = entry; how = Omitted }) (way units 16 (entry_of units unit entry)) ≡ name_ref units unit entry
 unfolding name_ref
@@ -70,20 +43,16 @@ all_append P (x ∷ xs) ys left right = (left.0, all_append P xs ys left.1 right
 abbrev pub IsThere : List UnitRead → Placed → Type 0
 IsThere units p = entry_in p.unit p.entry (slice_get units p.unit) ≡ Some p
 
-die_there : (done : List DieFields) (d : DieFields) (dies : List DieFields) → slice_get (done ++ (d ∷ dies)) (length done) ≡ Some d
-die_there [] d dies = refl
-die_there (x ∷ done) d dies = die_there done d dies
-
-unit_there : (done : List UnitRead) (u : UnitRead) (units : List UnitRead) → slice_get (done ++ (u ∷ units)) (length done) ≡ Some u
-unit_there [] u units = refl
-unit_there (x ∷ done) u units = unit_there done u units
+at_length : {X : Type 0} (done : List X) (x : X) (xs : List X) → slice_get (done ++ (x ∷ xs)) (length done) ≡ Some x
+at_length [] x xs = refl
+at_length (y ∷ done) x xs = at_length done x xs
 
 dies_there : (units : List UnitRead) (unit : ℕ) (part : UnitRead) (done dies : List DieFields) → slice_get units unit ≡ Some part → done ++ dies ≡ part.die.dies → AllOf (IsThere units) (unit_entries unit (length done) dies)
 dies_there units unit part done [] is whole = tt
 dies_there units unit part done (d ∷ dies) is whole = (
   ap (entry_in unit (length done)) is
       ∙ ap (λ ds. option_map {U = Placed} (λ die. record { unit = unit; entry = length done; die = die }) (slice_get ds (length done))) (sym whole)
-      ∙ ap (option_map {U = Placed} (λ die. record { unit = unit; entry = length done; die = die })) (die_there done d dies),
+      ∙ ap (option_map {U = Placed} (λ die. record { unit = unit; entry = length done; die = die })) (at_length done d dies),
   subst (λ n. AllOf (IsThere units) (unit_entries unit n dies)) (length-append done (d ∷ [])) (dies_there units unit part (done ++ (d ∷ [])) dies is (append_assoc done (d ∷ []) dies ∙ whole)),
 )
 
@@ -91,7 +60,7 @@ all_there : (done units : List UnitRead) → AllOf (IsThere (done ++ units)) (en
 all_there done [] = tt
 all_there done (u ∷ units) =
     all_append (IsThere (done ++ (u ∷ units))) (unit_entries (length done) 0 u.die.dies) (entries_from (length done + 1) units)
-    (dies_there (done ++ (u ∷ units)) (length done) u [] u.die.dies (unit_there done u units) refl)
+    (dies_there (done ++ (u ∷ units)) (length done) u [] u.die.dies (at_length done u units) refl)
     (subst (λ us. AllOf (IsThere us) (entries_from (length done + 1) units)) (append_assoc done (u ∷ []) units)
     (subst (λ n. AllOf (IsThere ((done ++ (u ∷ [])) ++ units)) (entries_from n units)) (length-append done (u ∷ [])) (all_there (done ++ (u ∷ [])) units)))
 
@@ -100,13 +69,9 @@ abbrev pub IfThere : (Placed → Type 0) → Option Placed → Type 0
 IfThere P None = Prim.Unit {0}
 IfThere P (Some p) = P p
 
-found_by : (P : Placed → Type 0) (test : Placed → Bool) (p : Placed) (o : Option Placed) (passes : Bool) → test p ≡ passes → P p → IfThere (λ q. P q × (test q ≡ true)) o → IfThere (λ q. P q × (test q ≡ true)) (cond (test p) (Some p) o)
-found_by P test p o true is here later = subst (λ b. IfThere (λ q. P q × (test q ≡ true)) (cond b (Some p) o)) (sym is) (here, is)
-found_by P test p o false is here later = subst (λ b. IfThere (λ q. P q × (test q ≡ true)) (cond b (Some p) o)) (sym is) later
-
 found_there : (P : Placed → Type 0) (test : Placed → Bool) (entries : List Placed) → AllOf P entries → IfThere (λ q. P q × (test q ≡ true)) (find test entries)
 found_there P test [] all = tt
-found_there P test (p ∷ rest) all = found_by P test p (find test rest) (test p) refl all.0 (found_there P test rest all.1)
+found_there P test (p ∷ rest) all = grind (arith, nat_tests, all.0, found_there P test rest all.1)
 
 only_there : (P : Placed → Type 0) (test : Placed → Bool) (o : Option Placed) → IfThere (λ q. P q × (test q ≡ true)) o → IfThere P o
 only_there P test None found = tt
@@ -142,10 +107,8 @@ of_there units unit entry = in_there units unit entry (slice_get units unit) ref
 -- the first of each kind, and what it gives
 linkage_by : (p : Placed) (rest : List Placed) (text : Option (List ℕ)) → p.die.linkage ≡ text → first_linkage rest ≡ option_and_then (λ q. q.die.linkage) (find has_linkage rest)
     → first_linkage (p ∷ rest) ≡ option_and_then (λ q. q.die.linkage) (find has_linkage (p ∷ rest))
-linkage_by p rest None is later =
-    ap (λ t. or_else t (first_linkage rest)) is ∙ later ∙ ap (λ o. option_and_then (λ (q : Placed). q.die.linkage) o) (sym (cond-false _ _ _ (ap is_some is)))
-linkage_by p rest (Some text) is later =
-    ap (λ t. or_else t (first_linkage rest)) is ∙ sym is ∙ ap (λ o. option_and_then (λ (q : Placed). q.die.linkage) o) (sym (cond-true _ _ _ (ap is_some is)))
+linkage_by p rest None is later = grind (arith, nat_tests, is, later)
+linkage_by p rest (Some text) is later = grind (arith, nat_tests, is)
 
 first_linkage_is : (entries : List Placed) → first_linkage entries ≡ option_and_then (λ q. q.die.linkage) (find has_linkage entries)
 first_linkage_is [] = refl
@@ -156,12 +119,8 @@ joined_name units p = option_map (λ name. front_of units p ++ name) p.die.name
 
 joined_by : (units : List UnitRead) (p : Placed) (rest : List Placed) (text : Option (List ℕ)) → p.die.name ≡ text → first_joined units rest ≡ option_and_then (joined_name units) (find has_name rest)
     → first_joined units (p ∷ rest) ≡ option_and_then (joined_name units) (find has_name (p ∷ rest))
-joined_by units p rest None is later =
-    ap (λ t. or_else (option_map (λ name. front_of units p ++ name) t) (first_joined units rest)) is ∙ later ∙ ap (λ o. option_and_then (joined_name units) o) (sym (cond-false _ _ _ (ap is_some is)))
-joined_by units p rest (Some text) is later =
-    ap (λ t. or_else (option_map (λ name. front_of units p ++ name) t) (first_joined units rest)) is
-    ∙ sym (ap (λ t. option_map (λ name. front_of units p ++ name) t) is)
-    ∙ ap (λ o. option_and_then (joined_name units) o) (sym (cond-true _ _ _ (ap is_some is)))
+joined_by units p rest None is later = grind (arith, nat_tests, is, later)
+joined_by units p rest (Some text) is later = grind (arith, nat_tests, is)
 
 first_joined_is : (units : List UnitRead) (entries : List Placed) → first_joined units entries ≡ option_and_then (joined_name units) (find has_name entries)
 first_joined_is units [] = refl

@@ -1,8 +1,8 @@
 -- The bytes of a name.
-use Rattle.std.proofs.Common.{◌≡◌, ◌++◌, ◌||◌, ℕ, Bool, true, false, true≢false, List, [], ◌∷◌, codes, Option, None, Some, unwrap_or, option_and_then, refl, sym, ap, ◌∙◌}
+use Rattle.std.proofs.Common.{◌≡◌, ◌++◌, ◌||◌, ℕ, Bool, true, false, true≢false, List, [], ◌∷◌, codes, Option, None, Some, unwrap_or, option_and_then, refl, sym, ap, ◌∙◌, arith}
 use Rattle.std.specs.List.{slice_get, list_any, filter}
 use Rattle.std.specs.Option.{option_map, option_map_or, is_some}
-use Rattle.std.proofs.lemmas.Bool.{cond-true, cond-false}
+use Rattle.std.proofs.lemmas.Bool.Decides.{nat_tests}
 use Rattle.die_walk.specs.EntryTable.{DieFields}
 use Rattle.die_names.specs.declared.name_source.How.{How}
 use Rattle.die_names.specs.declared.name_source.How.TheVariants.{Linkage, Joined, Omitted}
@@ -30,30 +30,19 @@ full_append [] (y ∷ ys) = refl
 full_append (x ∷ xs) [] = refl
 full_append (x ∷ xs) (y ∷ ys) = refl
 
-front_full_by : (die : DieFields) (scope : Bool) → is_scope die ≡ scope → is_full (scope_front die) ≡ scope
-unfolding scope_front
-front_full_by die true is = ap is_full (cond-true _ _ _ is) ∙ full_append (scope_name die) (codes "::")
-front_full_by die false is = ap is_full (cond-false _ _ _ is)
-
 at_full : (die : Option DieFields) → is_full (option_map_or scope_front die []) ≡ option_map_or is_scope die false
+unfolding scope_front
 at_full None = refl
-at_full (Some die) = front_full_by die (is_scope die) refl
+at_full (Some die) = grind (arith, nat_tests, full_append (scope_name die) (codes "::"))
 
 fronts_full : (dies : List DieFields) (numbers : List ℕ) → is_full (fronts dies numbers) ≡ list_any (is_scope_at dies) numbers
 fronts_full dies [] = refl
-fronts_full dies (n ∷ numbers) =
-    full_append (fronts dies numbers) (front_at dies n)
-    ∙ ap (λ b. b || is_full (fronts dies numbers)) (at_full (slice_get dies n))
-    ∙ ap (λ b. is_scope_at dies n || b) (fronts_full dies numbers)
+fronts_full dies (n ∷ numbers) = grind (arith, nat_tests, full_append (fronts dies numbers) (front_at dies n), at_full (slice_get dies n), fronts_full dies numbers)
 
 -- a name has a front where there is a scope around its entry
-any_by : (test : ℕ → Bool) (x : ℕ) (xs : List ℕ) (passes : Bool) → test x ≡ passes → list_any test xs ≡ is_full (filter test xs) → list_any test (x ∷ xs) ≡ is_full (filter test (x ∷ xs))
-any_by test x xs true is same = ap (λ (b : Bool). b || list_any test xs) is ∙ ap is_full (sym (cond-true _ _ _ is))
-any_by test x xs false is same = ap (λ (b : Bool). b || list_any test xs) is ∙ same ∙ ap is_full (sym (cond-false _ _ _ is))
-
 any_kept : (test : ℕ → Bool) (xs : List ℕ) → list_any test xs ≡ is_full (filter test xs)
 any_kept test [] = refl
-any_kept test (x ∷ xs) = any_by test x xs (test x) refl (any_kept test xs)
+any_kept test (x ∷ xs) = grind (arith, nat_tests, any_kept test xs)
 
 hopped_full : (dies : List DieFields) (scope : Option ℕ) → is_full (hopped dies scope) ≡ is_some scope
 hopped_full dies None = refl

@@ -1,5 +1,5 @@
 -- Worked rows: the names of entries.
-use Rattle.std.proofs.Common.{◌≡◌, ℕ, List, [], ◌∷◌, map, Option, Some, None, codes, suc, zero, ◌+◌, true, refl}
+use Rattle.std.proofs.Common.{◌≡◌, ℕ, List, [], ◌∷◌, map, Option, Some, None, codes, suc, zero, ◌+◌, true, rules}
 use Rattle.die_walk.specs.EntryTable.{DieFields}
 use Rattle.debug_units.specs.declared.unit_read.UnitRead.{UnitRead}
 use Rattle.die_names.specs.Names.{entry_name}
@@ -27,135 +27,72 @@ method = unit (
     ∷ die 50 0x2e (Some 0) None (Some 40) None None
     ∷ []) ∷ []
 
-of_a_method : entry_name method 0 4 ≡ codes "n::S::f"
-unfolding die_names_computes method root unit die
-of_a_method = refl
-
 -- two entries without names, of which each is the other's origin
 unfoldable ring : List UnitRead
 ring = unit (root 11 ∷ die 20 0x2e (Some 0) (Some 30) None None None ∷ die 30 0x2e (Some 0) (Some 20) None None None ∷ []) ∷ []
-
-of_a_ring : entry_name ring 0 1 ≡ codes "<name omitted>"
-unfolding die_names_computes ring root unit die
-of_a_ring = refl
 
 -- a chain of entries at 100, 101 and so on, each with the next as its origin; the last one has a name
 unfoldable links : ℕ → ℕ → List DieFields
 links at zero = die at 0x2e (Some 0) None None (Some (codes "last")) None ∷ []
 links at (suc more) = die at 0x2e (Some 0) (Some (at + 1)) None None None ∷ links (at + 1) more
 
--- sixteen links are followed
-of_sixteen_links : entry_name (unit (root 11 ∷ links 100 16) ∷ []) 0 1 ≡ codes "last"
-unfolding die_names_computes links root unit die
-of_sixteen_links = refl
-
--- seventeen are not
-of_seventeen_links : entry_name (unit (root 11 ∷ links 100 17) ∷ []) 0 1 ≡ codes "<name omitted>"
-unfolding die_names_computes links root unit die
-of_seventeen_links = refl
-
 -- the same chain by specifications
 unfoldable specified : ℕ → ℕ → List DieFields
 specified at zero = die at 0x2e (Some 0) None None (Some (codes "last")) None ∷ []
 specified at (suc more) = die at 0x2e (Some 0) None (Some (at + 1)) None None ∷ specified (at + 1) more
 
-of_sixteen_specifications : entry_name (unit (root 11 ∷ specified 100 16) ∷ []) 0 1 ≡ codes "last"
-unfolding die_names_computes specified root unit die
-of_sixteen_specifications = refl
-
-of_seventeen_specifications : entry_name (unit (root 11 ∷ specified 100 17) ∷ []) 0 1 ≡ codes "<name omitted>"
-unfolding die_names_computes specified root unit die
-of_seventeen_specifications = refl
-
 -- entries that lead into another unit, to no entry, one byte beside one
 unfoldable leading : ℕ → List UnitRead
 leading place = unit (root 11 ∷ die 20 0x2e (Some 0) (Some place) None None None ∷ []) ∷ unit (root 111 ∷ die 120 0x39 (Some 0) None None (Some (codes "m")) None ∷ die 130 0x2e (Some 1) None None (Some (codes "g")) None ∷ []) ∷ []
-
-into_another_unit : entry_name (leading 130) 0 1 ≡ codes "m::g"
-unfolding die_names_computes leading root unit die
-into_another_unit = refl
-
-one_byte_beside : entry_name (leading 131) 0 1 ≡ codes "<name omitted>"
-unfolding die_names_computes leading root unit die
-one_byte_beside = refl
-
-behind_the_section : entry_name (leading 1000) 0 1 ≡ codes "<name omitted>"
-unfolding die_names_computes leading root unit die
-behind_the_section = refl
 
 -- an origin that leads to no entry ends the way: the specification does not count
 unfoldable both : ℕ → List UnitRead
 both origin = unit (root 11 ∷ die 20 0x2e (Some 0) (Some origin) (Some 40) None None ∷ die 30 0x2e (Some 0) None None (Some (codes "o")) None ∷ die 40 0x2e (Some 0) None None (Some (codes "s")) None ∷ []) ∷ []
 
-origin_before_specification : entry_name (both 30) 0 1 ≡ codes "o"
-unfolding die_names_computes both root unit die
-origin_before_specification = refl
-
-origin_without_an_entry : entry_name (both 31) 0 1 ≡ codes "<name omitted>"
-unfolding die_names_computes both root unit die
-origin_without_an_entry = refl
-
 -- a linkage name further on comes before a name; an empty one is one
 unfoldable linkage_behind : List ℕ → List UnitRead
 linkage_behind linkage = unit (root 11 ∷ die 20 0x2e (Some 0) (Some 30) None (Some (codes "near")) None ∷ die 30 0x2e (Some 0) None None (Some (codes "far")) (Some linkage) ∷ []) ∷ []
-
-linkage_first : entry_name (linkage_behind (codes "_Z3farv")) 0 1 ≡ codes "_Z3farv"
-unfolding die_names_computes linkage_behind root unit die
-linkage_first = refl
-
-empty_linkage : entry_name (linkage_behind []) 0 1 ≡ codes "<name omitted>"
-unfolding die_names_computes linkage_behind root unit die
-empty_linkage = refl
 
 -- scopes without a name and with an empty one; functions and other entries around are no part of a name
 unfoldable scoped : Option (List ℕ) → ℕ → List UnitRead
 scoped name tag = unit (root 11 ∷ die 20 0x02 (Some 0) None None (Some (codes "C")) None ∷ die 30 tag (Some 1) None None name None ∷ die 40 0x2e (Some 2) None None (Some (codes "f")) None ∷ []) ∷ []
 
-unnamed_scope : entry_name (scoped None 0x17) 0 3 ≡ codes "C::(anonymous)::f"
-unfolding die_names_computes scoped root unit die
-unnamed_scope = refl
-
 -- a scope whose name stands in the supplementary file
 unfoldable elsewhere : ℕ → List UnitRead
 elsewhere tag = unit (root 11 ∷ record (die 20 tag (Some 0) None None None None) { name_elsewhere = true } ∷ die 30 0x2e (Some 1) None None (Some (codes "f")) None ∷ []) ∷ []
 
-outermost_elsewhere : entry_name (elsewhere 0x39) 0 2 ≡ codes "<name omitted>::f"
-unfolding die_names_computes elsewhere root unit die
-outermost_elsewhere = refl
-
 unfoldable scoped_elsewhere : ℕ → List UnitRead
 scoped_elsewhere tag = unit (root 11 ∷ die 20 0x02 (Some 0) None None (Some (codes "C")) None ∷ record (die 30 tag (Some 1) None None None None) { name_elsewhere = true } ∷ die 40 0x2e (Some 2) None None (Some (codes "f")) None ∷ []) ∷ []
 
-scope_elsewhere : entry_name (scoped_elsewhere 0x39) 0 3 ≡ codes "C::<name omitted>::f"
-unfolding die_names_computes scoped_elsewhere root unit die
-scope_elsewhere = refl
+record Named : Type 0 where
+  of_a_method : entry_name method 0 4 ≡ codes "n::S::f"
+  of_a_ring : entry_name ring 0 1 ≡ codes "<name omitted>"
+  -- sixteen links are followed
+  of_sixteen_links : entry_name (unit (root 11 ∷ links 100 16) ∷ []) 0 1 ≡ codes "last"
+  -- seventeen are not
+  of_seventeen_links : entry_name (unit (root 11 ∷ links 100 17) ∷ []) 0 1 ≡ codes "<name omitted>"
+  of_sixteen_specifications : entry_name (unit (root 11 ∷ specified 100 16) ∷ []) 0 1 ≡ codes "last"
+  of_seventeen_specifications : entry_name (unit (root 11 ∷ specified 100 17) ∷ []) 0 1 ≡ codes "<name omitted>"
+  into_another_unit : entry_name (leading 130) 0 1 ≡ codes "m::g"
+  one_byte_beside : entry_name (leading 131) 0 1 ≡ codes "<name omitted>"
+  behind_the_section : entry_name (leading 1000) 0 1 ≡ codes "<name omitted>"
+  origin_before_specification : entry_name (both 30) 0 1 ≡ codes "o"
+  origin_without_an_entry : entry_name (both 31) 0 1 ≡ codes "<name omitted>"
+  linkage_first : entry_name (linkage_behind (codes "_Z3farv")) 0 1 ≡ codes "_Z3farv"
+  empty_linkage : entry_name (linkage_behind []) 0 1 ≡ codes "<name omitted>"
+  unnamed_scope : entry_name (scoped None 0x17) 0 3 ≡ codes "C::(anonymous)::f"
+  outermost_elsewhere : entry_name (elsewhere 0x39) 0 2 ≡ codes "<name omitted>::f"
+  scope_elsewhere : entry_name (scoped_elsewhere 0x39) 0 3 ≡ codes "C::<name omitted>::f"
+  a_function_elsewhere : entry_name (scoped_elsewhere 0x2e) 0 2 ≡ codes "<name omitted>"
+  empty_scope : entry_name (scoped (Some []) 0x39) 0 3 ≡ codes "C::::f"
+  inside_a_function : entry_name (scoped (Some (codes "outer")) 0x2e) 0 3 ≡ codes "C::f"
+  -- names are cleaned
+  unclean : entry_name (scoped (Some (9 ∷ 32 ∷ [])) 0x13) 0 2 ≡ codes "C::? "
+  control_bytes : entry_name (scoped (Some (31 ∷ 65 ∷ 127 ∷ [])) 0x13) 0 2 ≡ codes "C::?A?"
+  leading_spaces : entry_name (linkage_behind (codes "  f g")) 0 1 ≡ codes "f g"
+  -- the entry that was asked for is none
+  no_such_entry : entry_name method 0 9 ≡ codes "<name omitted>"
 
-a_function_elsewhere : entry_name (scoped_elsewhere 0x2e) 0 2 ≡ codes "<name omitted>"
-unfolding die_names_computes scoped_elsewhere root unit die
-a_function_elsewhere = refl
-
-empty_scope : entry_name (scoped (Some []) 0x39) 0 3 ≡ codes "C::::f"
-unfolding die_names_computes scoped root unit die
-empty_scope = refl
-
-inside_a_function : entry_name (scoped (Some (codes "outer")) 0x2e) 0 3 ≡ codes "C::f"
-unfolding die_names_computes scoped root unit die
-inside_a_function = refl
-
--- names are cleaned
-unclean : entry_name (scoped (Some (9 ∷ 32 ∷ [])) 0x13) 0 2 ≡ codes "C::? "
-unfolding die_names_computes scoped root unit die
-unclean = refl
-
-control_bytes : entry_name (scoped (Some (31 ∷ 65 ∷ 127 ∷ [])) 0x13) 0 2 ≡ codes "C::?A?"
-unfolding die_names_computes scoped root unit die
-control_bytes = refl
-
-leading_spaces : entry_name (linkage_behind (codes "  f g")) 0 1 ≡ codes "f g"
-unfolding die_names_computes linkage_behind root unit die
-leading_spaces = refl
-
--- the entry that was asked for is none
-no_such_entry : entry_name method 0 9 ≡ codes "<name omitted>"
-unfolding die_names_computes method root unit die
-no_such_entry = refl
+named : Named
+unfolding die_names_computes method root unit die ring links specified leading both linkage_behind scoped elsewhere scoped_elsewhere
+named = search rules

@@ -1,5 +1,5 @@
 -- Worked rows: the names of entries, from the bytes of `.debug_info` and `.debug_abbrev`.
-use Rattle.std.proofs.Common.{◌≡◌, ℕ, false, None, List, [], ◌∷◌, map, codes, Result, Ok, refl}
+use Rattle.std.proofs.Common.{◌≡◌, ℕ, false, None, List, [], ◌∷◌, map, codes, Result, Ok, rules}
 use Prim.Native.String.{String}
 use Rattle.sym_edges.proofs.Hex.{hex}
 use Rattle.sym_edges.specs.Results.{◌>>=◌}
@@ -49,35 +49,20 @@ unfoldable name_in : String → ℕ → ℕ → Result (List ℕ) (Located Dwarf
 name_in info unit entry =
     units_in (sections info).info >>= λ units. parts (sections info) (read_units units) >>= λ read. Ok (entry_name read unit entry)
 
--- a subprogram `f` in a unit of version 4, to which one of the next unit is linked
-into_a_read_unit : name_in "0a000000 0400 00000000 08 02 6600 0c000000 0400 00000000 08 03 0b000000" 1 0 ≡ Ok (codes "f")
-unfolding die_walk_computes die_names_computes name_in parts part sections
-into_a_read_unit = refl
+record Named : Type 0 where
+  -- a subprogram `f` in a unit of version 4, to which one of the next unit is linked
+  into_a_read_unit : name_in "0a000000 0400 00000000 08 02 6600 0c000000 0400 00000000 08 03 0b000000" 1 0 ≡ Ok (codes "f")
+  -- the same in a unit of version 3, which is skipped
+  into_a_skipped_unit : name_in "0a000000 0300 00000000 08 02 6600 0c000000 0400 00000000 08 03 0b000000" 0 0 ≡ Ok (codes "<name omitted>")
+  -- the same in a type unit of version 5, which is passed
+  into_a_passed_unit : name_in "17000000 0500 02 08 00000000 0102030405060708 18000000 02 6600 0c000000 0400 00000000 08 03 18000000" 0 0 ≡ Ok (codes "<name omitted>")
+  -- a variable is not kept
+  to_a_variable : name_in "11000000 0400 00000000 08 01 04 7600 03 0c000000 00" 0 1 ≡ Ok (codes "<name omitted>")
+  -- lexical blocks and enumerations around a function are no part of its name
+  blocks_around : name_in "16000000 0400 00000000 08 01 07 4300 05 06 6500 02 6600 00 00 00 00" 0 2 ≡ Ok (codes "C::f")
+  mips_alone : name_in "0a000000 0400 00000000 08 08 6d00" 0 0 ≡ Ok (codes "m")
+  mips_beside : name_in "0c000000 0400 00000000 08 09 6d00 6c00" 0 0 ≡ Ok (codes "l")
 
--- the same in a unit of version 3, which is skipped
-into_a_skipped_unit : name_in "0a000000 0300 00000000 08 02 6600 0c000000 0400 00000000 08 03 0b000000" 0 0 ≡ Ok (codes "<name omitted>")
+named : Named
 unfolding die_walk_computes die_names_computes name_in parts part sections
-into_a_skipped_unit = refl
-
--- the same in a type unit of version 5, which is passed
-into_a_passed_unit : name_in "17000000 0500 02 08 00000000 0102030405060708 18000000 02 6600 0c000000 0400 00000000 08 03 18000000" 0 0 ≡ Ok (codes "<name omitted>")
-unfolding die_walk_computes die_names_computes name_in parts part sections
-into_a_passed_unit = refl
-
--- a variable is not kept
-to_a_variable : name_in "11000000 0400 00000000 08 01 04 7600 03 0c000000 00" 0 1 ≡ Ok (codes "<name omitted>")
-unfolding die_walk_computes die_names_computes name_in parts part sections
-to_a_variable = refl
-
--- lexical blocks and enumerations around a function are no part of its name
-blocks_around : name_in "16000000 0400 00000000 08 01 07 4300 05 06 6500 02 6600 00 00 00 00" 0 2 ≡ Ok (codes "C::f")
-unfolding die_walk_computes die_names_computes name_in parts part sections
-blocks_around = refl
-
-mips_alone : name_in "0a000000 0400 00000000 08 08 6d00" 0 0 ≡ Ok (codes "m")
-unfolding die_walk_computes die_names_computes name_in parts part sections
-mips_alone = refl
-
-mips_beside : name_in "0c000000 0400 00000000 08 09 6d00 6c00" 0 0 ≡ Ok (codes "l")
-unfolding die_walk_computes die_names_computes name_in parts part sections
-mips_beside = refl
+named = search rules
