@@ -2,7 +2,7 @@
 use Rattle.std.proofs.Common.{◌≡◌, ◌≢◌, ℕ, zero, suc, ◌+◌, ◌-◌, ◌^◌, ◌<◌, ◌≤◌, ◌==◌, Bool, true, false, cond, if◌then◌else◌, map, length, take, drop, get_or, min, List, [], ◌∷◌, ◌++◌, Option, None, Some, arith, refl, sym, ap, ◌∙◌, subst, Ordering, Less, Equal, Greater}
 use Rattle.std.proofs.lemmas.Bool.Decides.{nat_tests}
 use Rattle.std.proofs.lemmas.Grind.{common_steps}
-use Rattle.std.proofs.lemmas.List.{take_min, take-map, take_more, take_all, at_drop_more, map-append, length-append}
+use Rattle.std.proofs.lemmas.List.{take_min, take-map, take_more, take_all, at_drop_more, map-append, length-append, length-map, length-take, same_from_push}
 use Rattle.std.proofs.lemmas.Map.Text.{is_eq-slice_cmp}
 use Rattle.std.proofs.lemmas.Nat.{from_be_bytes-to_be_bytes_4}
 use Rattle.std.proofs.lemmas.Slice.Eq.{bytes_eq-Decides}
@@ -34,14 +34,10 @@ abbrev joined : List ℕ → List ℕ → List ℕ → List ℕ
 joined [] skipped bytes = skipped
 joined (x ∷ xs) skipped bytes = (x ∷ xs) ++ bytes
 
-skip_by : (t : Bool) (x : ℕ) (skipped xs ys later : List ℕ) → skipped ≡ joined xs later ys → (whole : List ℕ) → cond t skipped (x ∷ whole ++ ys) ≡ joined (cond t xs (x ∷ whole)) later ys
-skip_by true x skipped xs ys later is whole = is
-skip_by false x skipped xs ys later is whole = refl
-
 skip_joined : (p : ℕ → Bool) (xs ys : List ℕ) → skip p (xs ++ ys) ≡ joined (skip p xs) (skip p ys) ys
 unfolding skip
 skip_joined p [] ys = refl
-skip_joined p (x ∷ xs) ys = skip_by (p x) x (skip p (xs ++ ys)) (skip p xs) ys (skip p ys) (skip_joined p xs ys) xs
+skip_joined p (x ∷ xs) ys = grind (arith, nat_tests, skip_joined p xs ys)
 
 take_taken : (n : ℕ) (xs ys : List ℕ) → take n (xs ++ ys) ≡ take n (take n xs ++ ys)
 take_taken zero xs ys = refl
@@ -91,16 +87,7 @@ more_upto limit (b ∷ text) bytes short =
 
 part_short : (limit so_far : ℕ) (bytes : List ℕ) → length (kept_part limit so_far bytes) ≤ limit - so_far
 unfolding kept_part
-part_short limit so_far bytes = take_short (limit - so_far) (begun so_far bytes)
-  where
-    take_short : (n : ℕ) (xs : List ℕ) → length (take n xs) ≤ n
-    take_short zero xs = omega arith
-    take_short (suc n) [] = omega arith
-    take_short (suc n) (x ∷ xs) = (let short : length (take n xs) ≤ n = take_short n xs in omega arith)
-
-length_shown : (bytes : List ℕ) → length (map shown_byte bytes) ≡ length bytes
-length_shown [] = refl
-length_shown (b ∷ bytes) = ap suc (length_shown bytes)
+part_short limit so_far bytes = omega (arith, length-take (limit - so_far) (begun so_far bytes))
 
 -- ---- keys of one text
 
@@ -117,43 +104,24 @@ Grown f g = (block : List ℕ) (n : ℕ) → f block ≡ Some n → g block ≡ 
 
 grown_byte : (f g : List ℕ → Option ℕ) → Grown f g → (held : Option (List ℕ)) (b : ℕ) (key : List ℕ) → with_byte f held b ≡ Some key → with_byte g held b ≡ Some key
 grown_byte f g grow None b key is = absurd (cc)
-grown_byte f g grow (Some held) b key is = go (length held == 67) is
+grown_byte f g grow (Some held) b key is = found (f (held ++ b ∷ [])) refl
   where
-    block : List ℕ
-    block = held ++ b ∷ []
-
-    found : (o : Option ℕ) → f block ≡ o → option_map number_bytes o ≡ Some key → option_map number_bytes (g block) ≡ Some key
-    found None at some = absurd (cc)
-    found (Some n) at some = ap (option_map number_bytes) (grow block n at) ∙ some
-
-    go : (t : Bool) → (if t then option_map number_bytes (f block) else Some block) ≡ Some key → (if t then option_map number_bytes (g block) else Some block) ≡ Some key
-    go true some = found (f block) refl some
-    go false some = some
+    found : (o : Option ℕ) → f (held ++ b ∷ []) ≡ o → with_byte g (Some held) b ≡ Some key
+    found None at = grind (arith, nat_tests, at, is)
+    found (Some n) at = grind (arith, nat_tests, at, is, grow (held ++ b ∷ []) n at)
 
 pub grown_bytes : (f g : List ℕ → Option ℕ) → Grown f g → (held : Option (List ℕ)) (bytes key : List ℕ) → with_bytes f held bytes ≡ Some key → with_bytes g held bytes ≡ Some key
 grown_bytes f g grow held [] key is = is
 grown_bytes f g grow held (b ∷ bytes) key is = go (with_byte f held b) refl is (λ h. grown_bytes f g grow (Some h) bytes key)
   where
     go : (o : Option (List ℕ)) → with_byte f held b ≡ o → with_bytes f o bytes ≡ Some key → ((h : List ℕ) → with_bytes f (Some h) bytes ≡ Some key → with_bytes g (Some h) bytes ≡ Some key) → with_bytes g (with_byte g held b) bytes ≡ Some key
-    go None at some later = (let none : None ≡ Some key = sym (with_none f bytes) ∙ some in absurd (cc))
+    go None at some later = absurd (grind (arith, with_none f bytes, some))
     go (Some h) at some later = ap (λ o. with_bytes g o bytes) (grown_byte f g grow held b h at) ∙ later h some
 
 -- ---- a key of one text alone
 
-bytes_number : (n : ℕ) → length (number_bytes n) ≡ 4
-bytes_number n = refl
-
 one_number : (m n : ℕ) → m < 2 ^ 32 → n < 2 ^ 32 → number_bytes m ≡ number_bytes n → m ≡ n
 one_number m n first second same = sym (from_be_bytes-to_be_bytes_4 m first) ∙ ap (from_be_bytes w32) same ∙ from_be_bytes-to_be_bytes_4 n second
-
-one_end : (xs ys : List ℕ) (a b : ℕ) → xs ++ a ∷ [] ≡ ys ++ b ∷ [] → (xs ≡ ys) × (a ≡ b)
-one_end [] [] a b is = (refl, cc)
-one_end [] (y ∷ ys) a b is = (let long : length (a ∷ []) ≡ length ((y ∷ ys) ++ b ∷ []) = ap length is in absurd (omega (arith, length-append ys (b ∷ []))))
-one_end (x ∷ xs) [] a b is = (let long : length ((x ∷ xs) ++ a ∷ []) ≡ length (b ∷ []) = ap length is in absurd (omega (arith, length-append xs (a ∷ []))))
-one_end (x ∷ xs) (y ∷ ys) a b is =
-    let rest = one_end xs ys a b cc in
-    let first : x ≡ y = cc in
-    (ap (λ z. z ∷ xs) first ∙ ap (λ l. y ∷ l) rest.0, rest.1)
 
 -- how a key came from the one before
 data Came (number : List ℕ → Option ℕ) (block key : List ℕ) : Type 0 where
@@ -161,43 +129,35 @@ data Came (number : List ℕ → Option ℕ) (block key : List ℕ) : Type 0 whe
   Whole : (n : ℕ) → number block ≡ Some n → number_bytes n ≡ key → Came number block key
 
 came : (number : List ℕ → Option ℕ) (held : List ℕ) (b : ℕ) (key : List ℕ) → with_byte number (Some held) b ≡ Some key → Came number (held ++ b ∷ []) key
-came number held b key is = go (length held == 67) is
+came number held b key is = found (number (held ++ b ∷ [])) refl (length held == 67) is
   where
-    block : List ℕ
-    block = held ++ b ∷ []
-
-    found : (o : Option ℕ) → number block ≡ o → option_map number_bytes o ≡ Some key → Came number block key
-    found None at some = absurd (cc)
-    found (Some n) at some = Whole n at cc
-
-    go : (t : Bool) → (if t then option_map number_bytes (number block) else Some block) ≡ Some key → Came number block key
-    go true some = found (number block) refl some
-    go false some = Longer cc
+    found : (o : Option ℕ) → number (held ++ b ∷ []) ≡ o → (t : Bool) → (if t then option_map number_bytes (number (held ++ b ∷ [])) else Some (held ++ b ∷ [])) ≡ Some key → Came number (held ++ b ∷ []) key
+    found o at false some = Longer cc
+    found None at true some = absurd (cc)
+    found (Some n) at true some = Whole n at cc
 
 came_long : (number : List ℕ → Option ℕ) (held : List ℕ) (b : ℕ) (key : List ℕ) → 4 ≤ length held → Came number (held ++ b ∷ []) key → 4 ≤ length key
-came_long number held b key long (Longer is) = (let same : length (held ++ b ∷ []) ≡ length key = ap length is in omega (arith, length-append held (b ∷ [])))
-came_long number held b key long (Whole n at is) = (let same : 4 ≡ length key = ap length is in omega arith)
+came_long number held b key long (Longer is) = omega (arith, length-append held (b ∷ []), ap length is)
+came_long number held b key long (Whole n at is) = omega (arith, ap length is)
 
 record Numbered (number : List ℕ → Option ℕ) : Type 0 where
   fits : (block : List ℕ) (n : ℕ) → number block ≡ Some n → (0 < n) × (n < 2 ^ 32)
   apart : (one two : List ℕ) (n : ℕ) → number one ≡ Some n → number two ≡ Some n → one ≡ two
 
 -- the key of no text is that of no longer one
-came_first : (number : List ℕ → Option ℕ) → Numbered number → (held : List ℕ) (b : ℕ) → 4 ≤ length held → Came number (held ++ b ∷ []) (number_bytes 0) → false ≡ true
-came_first number are held b long (Longer is) = (let same : length (held ++ b ∷ []) ≡ 4 = ap length is in absurd (omega (arith, length-append held (b ∷ []))))
+came_first : (number : List ℕ → Option ℕ) → Numbered number → (held : List ℕ) (b : ℕ) → 4 ≤ length held → Came number (held ++ b ∷ []) (number_bytes 0) → ⊥
+came_first number are held b long (Longer is) = omega (arith, length-append held (b ∷ []), ap length is)
 came_first number are held b long (Whole n at is) =
-    (let bounds = are.fits (held ++ b ∷ []) n at in
-    let none : n ≡ 0 = one_number n 0 bounds.1 (omega arith) is in
-    let some : 0 < n = bounds.0 in
-    absurd (omega arith))
+    let bounds = are.fits (held ++ b ∷ []) n at in
+    omega (arith, bounds.0, one_number n 0 bounds.1 (omega arith) is)
 
 came_one : (number : List ℕ → Option ℕ) → Numbered number → (one two : List ℕ) (a b : ℕ) (key : List ℕ) → 4 ≤ length one → 4 ≤ length two → Came number (one ++ a ∷ []) key → Came number (two ++ b ∷ []) key → (one ≡ two) × (a ≡ b)
-came_one number are one two a b key first second (Longer is) (Longer so) = one_end one two a b (is ∙ sym so)
-came_one number are one two a b key first second (Longer is) (Whole n at so) = (let same : length (one ++ a ∷ []) ≡ 4 = ap length (is ∙ sym so) in absurd (omega (arith, length-append one (a ∷ []))))
-came_one number are one two a b key first second (Whole m at is) (Longer so) = (let same : length (two ++ b ∷ []) ≡ 4 = ap length (so ∙ sym is) in absurd (omega (arith, length-append two (b ∷ []))))
+came_one number are one two a b key first second (Longer is) (Longer so) = same_from_push one two a b (is ∙ sym so)
+came_one number are one two a b key first second (Longer is) (Whole n at so) = absurd (omega (arith, length-append one (a ∷ []), ap length (is ∙ sym so)))
+came_one number are one two a b key first second (Whole m at is) (Longer so) = absurd (omega (arith, length-append two (b ∷ []), ap length (so ∙ sym is)))
 came_one number are one two a b key first second (Whole m at is) (Whole n there so) =
     let same : m ≡ n = one_number m n (are.fits (one ++ a ∷ []) m at).1 (are.fits (two ++ b ∷ []) n there).1 (is ∙ sym so) in
-    one_end one two a b (are.apart (one ++ a ∷ []) (two ++ b ∷ []) n (at ∙ ap Some same) there)
+    same_from_push one two a b (are.apart (one ++ a ∷ []) (two ++ b ∷ []) n (at ∙ ap Some same) there)
 
 -- the key of a text that is told from its end
 abbrev back : (List ℕ → Option ℕ) → List ℕ → Option (List ℕ)
@@ -242,13 +202,11 @@ before number bytes b key is = before_by number bytes b key (back number bytes) 
 one_back : (number : List ℕ → Option ℕ) → Numbered number → (xs ys key : List ℕ) → back number xs ≡ Some key → back number ys ≡ Some key → xs ≡ ys
 one_back number are [] [] key is so = refl
 one_back number are [] (y ∷ ys) key is so =
-    (let last = before number ys y (number_bytes 0) (so ∙ sym is) in
-    let wrong : false ≡ true = came_first number are last.held y last.long last.came in
-    absurd (cc))
+    let last = before number ys y (number_bytes 0) (so ∙ sym is) in
+    absurd (came_first number are last.held y last.long last.came)
 one_back number are (x ∷ xs) [] key is so =
-    (let last = before number xs x (number_bytes 0) (is ∙ sym so) in
-    let wrong : false ≡ true = came_first number are last.held x last.long last.came in
-    absurd (cc))
+    let last = before number xs x (number_bytes 0) (is ∙ sym so) in
+    absurd (came_first number are last.held x last.long last.came)
 one_back number are (x ∷ xs) (y ∷ ys) key is so =
     let one = before number xs x key is in
     let two = before number ys y key so in
@@ -288,18 +246,10 @@ inserted (e ∷ entries) key number text none = go (slice_cmp nat_cmp key.items 
     later : List (Vec ℕ × ℕ)
     later = tree.insert_entry (λ x y. slice_cmp nat_cmp x.items y.items) entries key number
 
-    here : (b : Bool) → bytes_eq text key.items ≡ b → entry_at (e ∷ entries) key.items ≡ None → cond b (Some number) (entry_at (e ∷ entries) text) ≡ option_or (entry_at (e ∷ entries) text) (if b then Some number else None)
-    here true is gone = (let same : text ≡ key.items = (bytes_eq-Decides text key.items).0 is in sym (ap (λ o. option_or o (Some number)) (ap (entry_at (e ∷ entries)) same ∙ gone)))
-    here false is gone = sym (or_none (entry_at (e ∷ entries) text))
-
-    behind : (b : Bool) → cond b (Some e.1) (with_block (entry_at entries text) text key.items number) ≡ with_block (cond b (Some e.1) (entry_at entries text)) text key.items number
-    behind true = refl
-    behind false = refl
-
     go : (o : Ordering) → cond (is_eq o) (Some e.1) (entry_at entries key.items) ≡ None → (entry_at entries key.items ≡ None → entry_at later text ≡ with_block (entry_at entries text) text key.items number) → entry_at (match_ordering o ((key, number) ∷ e ∷ entries) ((e.0, number) ∷ entries) (e ∷ later)) text ≡ with_block (entry_at (e ∷ entries) text) text key.items number
-    go Less gone later_is = ap (λ b. cond b (Some number) (entry_at (e ∷ entries) text)) (is_eq-slice_cmp text key.items) ∙ here (bytes_eq text key.items) refl none
+    go Less gone later_is = grind (arith, nat_tests, is_eq-slice_cmp text key.items, (bytes_eq-Decides text key.items).0, none, or_none (entry_at (e ∷ entries) text))
     go Equal gone later_is = absurd (cc)
-    go Greater gone later_is = ap (λ o. cond (is_eq (slice_cmp nat_cmp text e.0.items)) (Some e.1) o) (later_is gone) ∙ behind (is_eq (slice_cmp nat_cmp text e.0.items))
+    go Greater gone later_is = grind (arith, nat_tests, later_is gone)
 
 -- a block has the number that it had, or it is the new one
 pub data Given (old : BlockNumbers) (block key : List ℕ) (number n : ℕ) : Type 0 where
@@ -404,14 +354,6 @@ key_grows old new key text grows of = record {
 pub one_key : (numbers : BlockNumbers) (one two : NameKey) (text : List ℕ) → IsKey numbers one text → IsKey numbers two text → one.bytes.items ≡ two.bytes.items
 one_key numbers one two text first second = (let same : Some one.bytes.items ≡ Some two.bytes.items = sym first.key_is ∙ second.key_is in cc)
 
--- a key has one text
-pub one_key_text : (blocks : NameBlocks) (one two : NameKey) (xs ys : List ℕ) → IsKey blocks.numbers one xs → IsKey blocks.numbers two ys → one.bytes.items ≡ two.bytes.items → xs ≡ ys
-one_key_text blocks one two xs ys first second same = one_text blocks.numbers blocks.count blocks.numbered xs ys two.bytes.items (first.key_is ∙ ap Some same) second.key_is
-
--- the key that is found is the text's
-pub found_key : (numbers : BlockNumbers) (key : NameKey) (text held : List ℕ) → IsKey numbers key text → text_key numbers text ≡ Some held → held ≡ key.bytes.items
-found_key numbers key text held of is = (let same : Some held ≡ Some key.bytes.items = sym is ∙ of.key_is in cc)
-
 -- a text of which nothing is found has no key
 pub found_none : (numbers : BlockNumbers) (key : NameKey) (text : List ℕ) → IsKey numbers key text → text_key numbers text ≢ None
 found_none numbers key text of is = (let same : None ≡ Some key.bytes.items = sym is ∙ of.key_is in absurd (cc))
@@ -424,45 +366,25 @@ found_text blocks key xs ys held of is same = one_text blocks.numbers blocks.cou
 
 -- one more byte, and no block is whole
 pub byte_held : (number : List ℕ → Option ℕ) (held more : List ℕ) (b : ℕ) → more ≡ held ++ b ∷ [] → length more ≢ 68 → with_byte number (Some held) b ≡ Some more
-byte_held number held more b is other = go (length held == 67) refl
-  where
-    go : (t : Bool) → (length held == 67) ≡ t → (if t then option_map number_bytes (number (held ++ b ∷ [])) else Some (held ++ b ∷ [])) ≡ Some more
-    go true at = (let whole : length held ≡ 67 = grind (arith, nat_tests) in let same : length more ≡ length (held ++ b ∷ []) = ap length is in absurd (omega (arith, length-append held (b ∷ []))))
-    go false at = ap Some (sym is)
+byte_held number held more b is other = grind (arith, nat_tests, is, other, length-append held (b ∷ []))
 
 -- one more byte makes a block whole
 pub byte_whole : (number : List ℕ → Option ℕ) (held block : List ℕ) (b : ℕ) → block ≡ held ++ b ∷ [] → length block ≡ 68 → with_byte number (Some held) b ≡ option_map number_bytes (number block)
-byte_whole number held block b is whole = go (length held == 67) refl
-  where
-    go : (t : Bool) → (length held == 67) ≡ t → (if t then option_map number_bytes (number (held ++ b ∷ [])) else Some (held ++ b ∷ [])) ≡ option_map number_bytes (number block)
-    go true at = ap (λ l. option_map number_bytes (number l)) (sym is)
-    go false at = (let other : length held ≢ 67 = grind (arith, nat_tests) in let same : length block ≡ length (held ++ b ∷ []) = ap length is in absurd (other (omega (arith, length-append held (b ∷ [])))))
+byte_whole number held block b is whole = grind (arith, nat_tests, is, whole, length-append held (b ∷ []))
 
 -- the key of a text to which bytes were added
 pub key_added : (old new : BlockNumbers) (key more : NameKey) (text bytes front : List ℕ) → Grows old new → front ≡ kept_part 65536 key.length bytes → with_bytes (number_at new) (Some key.bytes.items) (map shown_byte front) ≡ Some more.bytes.items → more.length ≡ min (key.length + length front) (2 ^ 64 - 1) → IsKey old key text → IsKey new more (kept_more text bytes)
 unfolding text_key kept_more
-key_added old new key more text bytes front grows part run sum of = subst (IsKey new more) whole longer
-  where
-    whole : text ++ map shown_byte front ≡ kept_more_upto 65536 text bytes
-    whole = sym (more_upto 65536 text bytes of.short ∙ ap (λ n. text ++ map shown_byte (kept_part 65536 n bytes)) (sym of.length_is) ∙ ap (λ l. text ++ map shown_byte l) (sym part))
-
-    room : length front ≤ 65536 - key.length
-    room = subst (λ l. length l ≤ 65536 - key.length) (sym part) (part_short 65536 key.length bytes)
-
-    lengths : length (text ++ map shown_byte front) ≡ length text + length front
-    lengths = length-append text (map shown_byte front) ∙ ap (λ n. length text + n) (length_shown front)
-
-    longer : IsKey new more (text ++ map shown_byte front)
-    longer =
-        let known : key.length ≡ length text = of.length_is in
-        let short : length text ≤ 65536 = of.short in
-        let within : length front ≤ 65536 - key.length = room in
-        let long : length (text ++ map shown_byte front) ≡ length text + length front = lengths in
-        record {
-          key_is = with_joined (number_at new) (Some (number_bytes 0)) text (map shown_byte front) ∙ ap (λ o. with_bytes (number_at new) o (map shown_byte front)) (grown_bytes (number_at old) (number_at new) grows.numbers (Some (number_bytes 0)) text key.bytes.items of.key_is) ∙ run;
-          length_is = sum ∙ grind arith;
-          short = omega arith;
-        }
+key_added old new key more text bytes front grows part run sum of =
+    let whole : text ++ map shown_byte front ≡ kept_more_upto 65536 text bytes = rw (part, of.length_is) (sym (more_upto 65536 text bytes of.short)) in
+    let room : length front ≤ 65536 - key.length = rw part (part_short 65536 key.length bytes) in
+    let long : length (text ++ map shown_byte front) ≡ length text + length front = simp (length-append, length-map) in
+    let known = grown_bytes (number_at old) (number_at new) grows.numbers (Some (number_bytes 0)) text key.bytes.items of.key_is in
+    subst (IsKey new more) whole (record {
+      key_is = with_joined (number_at new) (Some (number_bytes 0)) text (map shown_byte front) ∙ ap (λ o. with_bytes (number_at new) o (map shown_byte front)) known ∙ run;
+      length_is = omega (arith, sum, of.length_is, of.short);
+      short = omega (arith, of.length_is, of.short);
+    })
 
 pub empty_key : (numbers : BlockNumbers) (key : NameKey) → key.bytes.items ≡ number_bytes 0 → key.length ≡ 0 → IsKey numbers key []
 unfolding text_key

@@ -1,5 +1,5 @@
 -- Where functions of different names share an address.
-use Rattle.std.proofs.Common.{◌≡◌, ℕ, zero, suc, ◌+◌, ◌-◌, ◌<◌, ◌≤◌, ◌==◌, Bool, true, false, not, ◌||◌, ◌&&◌, nat_le, nat_lt, if◌then◌else◌, map, List, [], ◌∷◌, ◌++◌, Option, None, Some, arith, refl, sym, ap, ◌∙◌, subst, eq-eqb, length, get_or, take, drop, set}
+use Rattle.std.proofs.Common.{◌≡◌, ℕ, zero, suc, ◌+◌, ◌-◌, ◌<◌, ◌≤◌, ◌==◌, Bool, true, false, not, ◌&&◌, nat_le, nat_lt, map, List, [], ◌∷◌, ◌++◌, Option, None, Some, arith, refl, sym, ap, ◌∙◌, subst, length, get_or, take, drop, set}
 use Rattle.std.proofs.lemmas.Bool.Decides.{nat_tests}
 use Rattle.std.proofs.lemmas.List.Edits.{map_over_more}
 use Rattle.std.proofs.lemmas.Map.Views.{any-filter_same}
@@ -31,11 +31,6 @@ use Rattle.func_flatten.proofs.FunctionLemmas.{many_is, other_name_is}
 use Rattle.func_flatten.proofs.StandLemmas.{name_get}
 use Rattle.func_flatten.proofs.PieceLemmas.{stand_all}
 
-equal_by : (b c : Bool) → (b ≡ true → c ≡ true) → (c ≡ true → b ≡ true) → b ≡ c
-equal_by true c one two = sym (one refl)
-equal_by false true one two = two refl
-equal_by false false one two = refl
-
 -- a stretch of another name is there just where a function of another name is
 other_is : (units : List UnitRead) (places : List EntryRef) (stretches : List Stretch) (low a : ℕ) → IsCollected units places stretches low [] → has_other_name (number_name units places) stretches a ≡ is_many units a
 other_is units places stretches low a c =
@@ -51,11 +46,7 @@ AllOf P (s ∷ items) = P s × AllOf P items
 
 of_found : (P : Stretch → Type 0) (test : Stretch → Bool) (items : List Stretch) (s : Stretch) → AllOf P items → find test items ≡ Some s → P s
 of_found P test [] s all is = absurd (cc)
-of_found P test (t ∷ items) s all is = go (test t) is (λ found. of_found P test items s all.1 found)
-  where
-    go : (b : Bool) → (if b then Some t else find test items) ≡ Some s → (find test items ≡ Some s → P s) → P s
-    go true found later = (let same : t ≡ s = cc in subst P same all.0)
-    go false found later = later found
+of_found P test (t ∷ items) s all is = grind (arith, nat_tests, is, all.0, of_found P test items s all.1)
 
 of_joined : (P : Stretch → Type 0) (xs ys : List Stretch) → AllOf P xs → AllOf P ys → AllOf P (xs ++ ys)
 of_joined P [] ys p q = q
@@ -70,19 +61,9 @@ own_classes : (k : ℕ) (functions : List Covering) → AllOf (λ t. t.class ≡
 own_classes k [] = tt
 own_classes k (c ∷ functions) = of_joined (λ t. t.class ≡ t.index) (span_stretches k k c.spans) (function_stretches own_class (k + 1) functions) (own_spans k c.spans) (own_classes (k + 1) functions)
 
-finer_by : (r b c rest later : Bool) → (b ≡ true → c ≡ true) → (rest ≡ false → later ≡ false) → ((r && not b) || rest) ≡ false → ((r && not c) || later) ≡ false
-finer_by true true c rest later fine on none = ap (λ t. not t || later) (fine refl) ∙ on none
-finer_by true false c rest later fine on none = absurd (cc)
-finer_by false b c rest later fine on none = on none
-
 finer_any : (name : ℕ → List ℕ) (s : Stretch) (a : ℕ) (items : List Stretch) → s.class ≡ s.index → AllOf (λ t. t.class ≡ t.index) items → list_any (λ t. reaches t a && not (t.class == s.class)) items ≡ false → list_any (λ t. reaches t a && not (bytes_eq (name t.index) (name s.index))) items ≡ false
 finer_any name s a [] own all none = refl
-finer_any name s a (t ∷ items) own all none =
-    finer_by (reaches t a) (t.class == s.class) (bytes_eq (name t.index) (name s.index)) (list_any (λ u. reaches u a && not (u.class == s.class)) items) (list_any (λ u. reaches u a && not (bytes_eq (name u.index) (name s.index))) items)
-    (λ is. (let same : t.class ≡ s.class = grind (arith, nat_tests) in
-    let alike : t.index ≡ s.index = sym all.0 ∙ same ∙ own in
-    (bytes_eq-Decides (name t.index) (name s.index)).1 (ap name alike)))
-    (λ rest. finer_any name s a items own all.1 rest) none
+finer_any name s a (t ∷ items) own all none = grind (arith, nat_tests, own, all.0, none, (bytes_eq-Decides (name t.index) (name s.index)).1, finer_any name s a items own all.1)
 
 -- where no other function is there, no other name is
 other_none : (name : ℕ → List ℕ) (items : List Stretch) (a : ℕ) → AllOf (λ t. t.class ≡ t.index) items → is_shared items a ≡ false → has_other_name name items a ≡ false
@@ -96,21 +77,7 @@ other_none name items a all none = go (find (λ s. reaches s a) items) refl none
 -- the stretches that are kept
 found_kept : (keep : Stretch → Bool) (a : ℕ) (items : List Stretch) → ((s : Stretch) → reaches s a ≡ true → keep s ≡ true) → find (λ s. reaches s a) (filter keep items) ≡ find (λ s. reaches s a) items
 found_kept keep a [] all = refl
-found_kept keep a (s ∷ items) all = step (keep s) ∙ go (keep s) (reaches s a) (find (λ t. reaches t a) (filter keep items)) (find (λ t. reaches t a) items) (all s) (found_kept keep a items all)
-  where
-    step : (k : Bool) → find (λ t. reaches t a) (if k then s ∷ filter keep items else filter keep items) ≡ (if k then (if reaches s a then Some s else find (λ t. reaches t a) (filter keep items)) else find (λ t. reaches t a) (filter keep items))
-    step true = refl
-    step false = refl
-
-    go : (k r : Bool) (front whole : Option Stretch) → (r ≡ true → k ≡ true) → front ≡ whole → (if k then (if r then Some s else front) else front) ≡ (if r then Some s else whole)
-    go true true front whole only is = refl
-    go true false front whole only is = is
-    go false true front whole only is = (let wrong : false ≡ true = only refl in absurd (cc))
-    go false false front whole only is = is
-
-first_true : (p q : Bool) → (p && q) ≡ true → p ≡ true
-first_true true q is = refl
-first_true false q is = absurd (cc)
+found_kept keep a (s ∷ items) all = grind (arith, nat_tests, all s, found_kept keep a items all)
 
 -- those that are kept tell all
 other_kept : (name : ℕ → List ℕ) (keep : Stretch → Bool) (a : ℕ) (items : List Stretch) → ((s : Stretch) → reaches s a ≡ true → keep s ≡ true) → has_other_name name (filter keep items) a ≡ has_other_name name items a
@@ -121,29 +88,20 @@ other_kept name keep a items all =
   where
     go : (o : Option Stretch) → option_map_or (λ s. list_any (λ t. reaches t a && not (bytes_eq (name t.index) (name s.index))) (filter keep items)) o false ≡ option_map_or (λ s. list_any (λ t. reaches t a && not (bytes_eq (name t.index) (name s.index))) items) o false
     go None = refl
-    go (Some s) = any-filter_same (λ t. reaches t a && not (bytes_eq (name t.index) (name s.index))) keep true (λ t is. all t (first_true (reaches t a) (not (bytes_eq (name t.index) (name s.index))) is)) items
+    go (Some s) = any-filter_same (λ t. reaches t a && not (bytes_eq (name t.index) (name s.index))) keep true (λ t is. all t (grind (arith, nat_tests, is))) items
 
 found_classed : (class : ℕ → ℕ) (a : ℕ) (items : List Stretch) → find (λ s. reaches s a) (map (classed class) items) ≡ option_map (classed class) (find (λ s. reaches s a) items)
 found_classed class a [] = refl
-found_classed class a (s ∷ items) = go (reaches s a) (found_classed class a items)
-  where
-    go : (b : Bool) → find (λ t. reaches t a) (map (classed class) items) ≡ option_map (classed class) (find (λ t. reaches t a) items) → (if b then Some (classed class s) else find (λ t. reaches t a) (map (classed class) items)) ≡ option_map (classed class) (if b then Some s else find (λ t. reaches t a) items)
-    go true is = refl
-    go false is = is
+found_classed class a (s ∷ items) = grind (arith, nat_tests, found_classed class a items)
 
 -- two have one class where their names are equal
 equal_class : (name : ℕ → List ℕ) (class : ℕ → ℕ) (j k : ℕ) → ((i l : ℕ) → name i ≡ name l → class i ≡ class l) → name (class j) ≡ name j → name (class k) ≡ name k → (class j == class k) ≡ bytes_eq (name j) (name k)
-equal_class name class j k same one two =
-    equal_by (class j == class k) (bytes_eq (name j) (name k))
-    (λ is. (let number : class j ≡ class k = grind (arith, nat_tests) in (bytes_eq-Decides (name j) (name k)).1 (sym one ∙ ap name number ∙ two)))
-    (λ is. eq-eqb (class j) (class k) (same j k ((bytes_eq-Decides (name j) (name k)).0 is)))
+equal_class name class j k same one two = grind (arith, nat_tests, one, two, same j k, (bytes_eq-Decides (name j) (name k)).0, (bytes_eq-Decides (name j) (name k)).1)
 
 any_classed : (name : ℕ → List ℕ) (class : ℕ → ℕ) (s : Stretch) (a : ℕ) (items : List Stretch) → ((i l : ℕ) → name i ≡ name l → class i ≡ class l) → name (class s.index) ≡ name s.index → AllOf (λ t. name (class t.index) ≡ name t.index) items
     → list_any (λ t. reaches t a && not (t.class == class s.index)) (map (classed class) items) ≡ list_any (λ t. reaches t a && not (bytes_eq (name t.index) (name s.index))) items
 any_classed name class s a [] same here all = refl
-any_classed name class s a (t ∷ items) same here all =
-    ap (λ b. (reaches t a && not b) || list_any (λ u. reaches u a && not (u.class == class s.index)) (map (classed class) items)) (equal_class name class t.index s.index same all.0 here)
-    ∙ ap (λ b. (reaches t a && not (bytes_eq (name t.index) (name s.index))) || b) (any_classed name class s a items same here all.1)
+any_classed name class s a (t ∷ items) same here all = grind (arith, nat_tests, equal_class name class t.index s.index same all.0 here, any_classed name class s a items same here all.1)
 
 named_all : (name : ℕ → List ℕ) (class : ℕ → ℕ) (items : List Stretch) → AreNamed name class items → AllOf (λ t. name (class t.index) ≡ name t.index) items
 named_all name class [] all = tt
@@ -172,11 +130,7 @@ classed_stretches class (s ∷ items) all = (all.0, classed_stretches class item
 
 pub kept_stretches : (keep : Stretch → Bool) (items : List Stretch) → AreStretches items → AreStretches (filter keep items)
 kept_stretches keep [] all = tt
-kept_stretches keep (s ∷ items) all = go (keep s) (kept_stretches keep items all.1)
-  where
-    go : (b : Bool) → AreStretches (filter keep items) → AreStretches (if b then s ∷ filter keep items else filter keep items)
-    go true rest = (all.0, rest)
-    go false rest = rest
+kept_stretches keep (s ∷ items) all = grind (arith, nat_tests, all.0, kept_stretches keep items all.1)
 
 abbrev BeginsFrom : ℕ → List Cover → Type 0
 BeginsFrom low [] = Unit {0}
@@ -184,15 +138,13 @@ BeginsFrom low (c ∷ covers) = low ≤ c.first
 
 rise_from : (low : ℕ) (covers : List Cover) → BeginsFrom low covers → AreRuns (map cover_run covers) → RisesFrom low (shared_starts covers)
 rise_from low [] begins runs = tt
-rise_from low (c ∷ covers) begins runs = go c.shared (rise_from (c.first + 1) covers (next covers runs.1) runs.2)
+rise_from low (c ∷ covers) begins runs =
+    let later = rise_from (c.first + 1) covers (next covers runs.1) runs.2 in
+    grind (arith, nat_tests, begins, later, rises_lower (c.first + 1) low (shared_starts covers) (omega (arith, begins)) later)
   where
     next : (later : List Cover) → Follows (cover_run c) (map cover_run later) → BeginsFrom (c.first + 1) later
     next [] follows = tt
     next (d ∷ later) follows = omega (arith, runs.0, follows.0)
-
-    go : (b : Bool) → RisesFrom (c.first + 1) (shared_starts covers) → RisesFrom low (if b then c.first ∷ shared_starts covers else shared_starts covers)
-    go true later = (begins, later)
-    go false later = rises_lower (c.first + 1) low (shared_starts covers) (omega (arith, begins)) later
 
 begins_anywhere : (covers : List Cover) → BeginsFrom 0 covers
 begins_anywhere [] = tt
@@ -210,21 +162,13 @@ abbrev AreKept : List ℕ → List Cover → Type 0
 AreKept addresses [] = Unit {0}
 AreKept addresses (c ∷ covers) = (c.shared ≡ true → IsKept addresses c.first) × AreKept addresses covers
 
-or_true : (b : Bool) → (b || true) ≡ true
-or_true true = refl
-or_true false = refl
-
 kept_more : (b : ℕ) (addresses : List ℕ) (covers : List Cover) → AreKept addresses covers → AreKept (b ∷ addresses) covers
 kept_more b addresses [] all = tt
-kept_more b addresses (c ∷ covers) all = (λ shared s has. ap (λ t. reaches s b || t) (all.0 shared s has) ∙ or_true (reaches s b), kept_more b addresses covers all.1)
+kept_more b addresses (c ∷ covers) all = (λ shared s has. grind (arith, nat_tests, all.0 shared s has), kept_more b addresses covers all.1)
 
 kept_starts : (covers : List Cover) → AreKept (shared_starts covers) covers
 kept_starts [] = tt
-kept_starts (c ∷ covers) = go c.shared refl (kept_starts covers)
-  where
-    go : (b : Bool) → c.shared ≡ b → AreKept (shared_starts covers) covers → AreKept (if b then c.first ∷ shared_starts covers else shared_starts covers) (c ∷ covers)
-    go true is later = (λ shared s has. ap (λ t. t || reaches_any (shared_starts covers) s) has, kept_more c.first (shared_starts covers) covers later)
-    go false is later = (λ shared. (let wrong : false ≡ true = sym is ∙ shared in absurd (cc)), later)
+kept_starts (c ∷ covers) = grind (arith, nat_tests, kept_starts covers, kept_more c.first (shared_starts covers) covers)
 
 shared_item : (items : List Stretch) (a : ℕ) → shared_in (first_item items a) ≡ is_shared items a
 unfolding first_item is_shared
@@ -258,25 +202,14 @@ AreLow (c ∷ covers) = (c.first < 18446744073709551616) × AreLow covers
 
 low_all : (f : ℕ → Option ℕ) (covers : List Cover) → AreMaximal (between 0 18446744073709551616 f) (map cover_run covers) → AreLow covers
 low_all f [] all = tt
-low_all f (c ∷ covers) all = (let some : c.first < c.last + 1 = all.0.some in within c.first c.index (all.0.constant c.first (omega arith) some), low_all f covers all.1)
-  where
-    within : (a k : ℕ) → between 0 18446744073709551616 f a ≡ Some k → a < 18446744073709551616
-    within a k is = go (nat_le 0 a && nat_lt a 18446744073709551616) refl is
-      where
-        go : (b : Bool) → (nat_le 0 a && nat_lt a 18446744073709551616) ≡ b → (if b then f a else None) ≡ Some k → a < 18446744073709551616
-        go true has found = grind (arith, nat_tests)
-        go false has found = absurd (cc)
+low_all f (c ∷ covers) all = (grind (arith, nat_tests, all.0.some, all.0.constant c.first (omega arith)), low_all f covers all.1)
 
 tell_all : (units : List UnitRead) (stretches : List Stretch) (items : Stepping (Option FirstItem)) (addresses : List ℕ) (covers : List Cover)
     → ((a : ℕ) → is_shared stretches a ≡ false → is_many units a ≡ false) → ((a : ℕ) → a < 18446744073709551616 → IsKept addresses a → shared_in (value_at None items a) ≡ is_many units a)
     → AreMarked stretches covers → AreKept addresses covers → AreLow covers → TellMany units (map (marked items) covers)
 tell_all units stretches items addresses [] none other marks kept low = tt
 tell_all units stretches items addresses (c ∷ covers) none other marks kept low =
-    (go c.shared (shared_in (value_at None items c.first)) (λ is. none c.first (sym marks.0 ∙ is)) (λ is. other c.first low.0 (kept.0 is)), tell_all units stretches items addresses covers none other marks.1 kept.1 low.1)
-  where
-    go : (b t : Bool) → (b ≡ false → is_many units c.first ≡ false) → (b ≡ true → t ≡ is_many units c.first) → (b && t) ≡ is_many units c.first
-    go true t none_here some_here = some_here refl
-    go false t none_here some_here = sym (none_here refl)
+    (grind (arith, nat_tests, none c.first, marks.0, other c.first low.0, kept.0), tell_all units stretches items addresses covers none other marks.1 kept.1 low.1)
 
 marked_runs : (items : Stepping (Option FirstItem)) (covers : List Cover) → map cover_run (map (marked items) covers) ≡ map cover_run covers
 marked_runs items [] = refl
@@ -295,40 +228,21 @@ covers_named units places stretches kept named covers items c is keeps classes f
 
 none_past : (addresses : List ℕ) (s : Stretch) → ((k : ℕ) → k < length addresses → s.last < get_or addresses k 0) → reaches_any addresses s ≡ false
 none_past [] s past = refl
-none_past (a ∷ addresses) s past = ap (λ b. b || reaches_any addresses s) (behind a (past 0 (omega arith))) ∙ none_past addresses s (λ k h. past (suc k) (omega arith))
-  where
-    behind : (a : ℕ) → s.last < a → reaches s a ≡ false
-    behind a out = grind (arith, nat_tests)
+none_past (a ∷ addresses) s past = grind (arith, nat_tests, past 0 (omega arith), none_past addresses s (λ k h. past (suc k) (omega arith)))
 
 reached_at : (low : ℕ) (addresses : List ℕ) (s : Stretch) (j : ℕ) → RisesFrom low addresses → get_or addresses j 0 ≤ s.last → ((k : ℕ) → j < k → k < length addresses → s.last < get_or addresses k 0) → j < length addresses → nat_le s.first (get_or addresses j 0) ≡ reaches_any addresses s
 reached_at low [] s j rises here past inside = absurd (omega arith)
-reached_at low (a ∷ addresses) s zero rises here past inside =
-    first (nat_le s.first a) (nat_le a s.last) (reaches_any addresses s) (let test : nat_le a s.last ≡ true = grind (arith, nat_tests) in test) (none_past addresses s (λ k h. past (suc k) (omega arith) (omega arith)))
-  where
-    first : (b t rest : Bool) → t ≡ true → rest ≡ false → b ≡ ((b && t) || rest)
-    first true true rest yes_here none = refl
-    first true false rest yes_here none = absurd (cc)
-    first false t rest yes_here none = sym none
+reached_at low (a ∷ addresses) s zero rises here past inside = grind (arith, nat_tests, here, none_past addresses s (λ k h. past (suc k) (omega arith) (omega arith)))
 reached_at low (a ∷ addresses) s (suc j) rises here past inside =
-    let is : nat_le s.first (get_or addresses j 0) ≡ reaches_any addresses s = reached_at (a + 1) addresses s j rises.1 here (λ k h g. past (suc k) (omega arith) (omega arith)) (omega arith) in
-    is ∙ later (reaches s a) (reaches_any addresses s)
-    (λ has. (let from : s.first ≤ a = grind (arith, nat_tests) in
-    let up : a + 1 ≤ get_or addresses j 0 = rises_above (a + 1) addresses rises.1 j 0 (omega arith) in
-    let test : nat_le s.first (get_or addresses j 0) ≡ true = grind (arith, nat_tests) in sym is ∙ test))
-  where
-    later : (b rest : Bool) → (b ≡ true → rest ≡ true) → rest ≡ (b || rest)
-    later true rest all = all refl
-    later false rest all = refl
+    grind (arith, nat_tests, rises_above (a + 1) addresses rises.1 j 0 (omega arith), reached_at (a + 1) addresses s j rises.1 here (λ k h g. past (suc k) (omega arith) (omega arith)) (omega arith))
 
 -- the last address at or below the end of the stretch decides
 pub reached_some : (addresses : List ℕ) (s : Stretch) (count : ℕ) → RisesFrom 0 addresses → Point addresses s.last count → 0 < count → count ≤ length addresses → nat_le s.first (get_or addresses (count - 1) 0) ≡ reaches_any addresses s
 reached_some addresses s count rises point some inside =
-    reached_at 0 addresses s (count - 1) rises
-    (let test : nat_le (get_or addresses (count - 1) 0) s.last ≡ true = point.0 (count - 1) 0 (omega arith) (omega arith) in grind (arith, nat_tests))
-    (λ k h g. (let test : nat_le (get_or addresses k 0) s.last ≡ false = point.1 k 0 (omega arith) g in grind (arith, nat_tests))) (omega arith)
+    reached_at 0 addresses s (count - 1) rises (grind (arith, nat_tests, point.0 (count - 1) 0, some, inside)) (λ k h g. grind (arith, nat_tests, point.1 k 0, h, g)) (omega arith)
 
 pub reached_none : (addresses : List ℕ) (s : Stretch) (count : ℕ) → Point addresses s.last count → count ≡ 0 → nat_lt 0 count ≡ reaches_any addresses s
-reached_none addresses s count point none = (let test : nat_lt 0 count ≡ false = grind (arith, nat_tests) in test) ∙ sym (none_past addresses s (λ k h. (let test : nat_le (get_or addresses k 0) s.last ≡ false = point.1 k 0 (omega arith) h in grind (arith, nat_tests))))
+reached_none addresses s count point none = grind (arith, nat_tests, none, none_past addresses s (λ k h. grind (arith, nat_tests, point.1 k 0, none, h)))
 
 -- one more cover was marked
 pub mark_next : (items : Stepping (Option FirstItem)) (made covers : List Cover) (i : ℕ) (c new : Cover) → i < length covers → made ≡ map (marked items) (take i covers) ++ drop i covers → c ≡ get_or made i c → new ≡ marked items c → set made i new ≡ map (marked items) (take (i + 1) covers) ++ drop (i + 1) covers

@@ -1,10 +1,11 @@
 -- What is collected of the functions.
-use Rattle.std.proofs.Common.{◌≡◌, ◌≢◌, ◌⊎◌, inl, inr, ℕ, zero, suc, ◌+◌, ◌<◌, ◌≤◌, ◌==◌, Bool, true, false, ◌&&◌, if◌then◌else◌, map, length, List, [], ◌∷◌, ◌++◌, arith, refl, sym, ap, ◌∙◌, append_assoc, append-nil, length-append, subst, drop, Option, Some, None, get_or}
+use Rattle.std.proofs.Common.{◌≡◌, ◌≢◌, ◌⊎◌, inl, inr, ℕ, ◌+◌, ◌<◌, ◌≤◌, ◌==◌, true, false, if◌then◌else◌, map, length, List, [], ◌∷◌, ◌++◌, arith, refl, sym, ap, ◌∙◌, append_assoc, append-nil, length-append, subst, drop, Option, Some, None, get_or}
 use Rattle.std.proofs.lemmas.Bool.Decides.{nat_tests}
 use Rattle.std.specs.List.{slice_get}
 use Rattle.std.specs.Option.{option_map_or}
 use Rattle.std.specs.Str.{bytes_eq}
-use Rattle.std.proofs.lemmas.List.{drop_all}
+use Rattle.std.proofs.lemmas.List.{drop_all, drop_more, length-map, map_push}
+use Rattle.std.proofs.lemmas.Option.{gets, same_Some, slice_get_within, slice_get_read, get_or_from_slice_get}
 use Rattle.sym_edges.specs.Addresses.{Range}
 use Rattle.range_set.specs.Canonical.{IsCanonical}
 use Rattle.step_maps.specs.declared.stretch.Stretch.{Stretch}
@@ -29,18 +30,6 @@ none_some (r ∷ set) none = absurd (omega (arith, none))
 some_some : (set : List Range) → length set ≢ 0 → is_some set ≡ true
 some_some [] some = absurd (some refl)
 some_some (r ∷ set) some = refl
-
-no_code : (b t : Bool) → b ≡ false → (b && t) ≡ false
-no_code true t other = absurd (cc)
-no_code false t other = refl
-
-no_spans : (b t : Bool) → t ≡ false → (b && t) ≡ false
-no_spans true t none = none
-no_spans false t none = refl
-
-both : (b t : Bool) → b ≡ true → t ≡ true → (b && t) ≡ true
-both true t is also = also
-both false t is also = absurd (cc)
 
 stretches_joined : (k : ℕ) (xs ys : List Covering) → function_stretches own_class k (xs ++ ys) ≡ function_stretches own_class k xs ++ function_stretches own_class (k + length xs) ys
 stretches_joined k [] ys = ap (λ n. function_stretches own_class n ys) (omega arith)
@@ -100,10 +89,6 @@ have_more : (functions : List Covering) (c : Covering) → HaveSets functions �
 have_more [] c all is = (is, tt)
 have_more (d ∷ functions) c all is = (all.0, have_more functions c all.1 is)
 
-places_more : (functions : List Covering) (c : Covering) → map place_of (functions ++ c ∷ []) ≡ map place_of functions ++ place_of c ∷ []
-places_more [] c = refl
-places_more (d ∷ functions) c = ap (λ l. place_of d ∷ l) (places_more functions c)
-
 -- a function is collected
 taken : (units : List UnitRead) (places new : List EntryRef) (before after : List Stretch) (c : Covering) (left : List Covering) → has_code c ≡ true → IsCanonical c.spans → set_in c.entry (slice_get units c.unit) ≡ Some c.spans
     → after ≡ before ++ span_stretches (length places) (length places) c.spans → new ≡ places ++ place_of c ∷ [] → IsCollected units places before (place_key (place_of c)) (c ∷ left) → IsCollected units new after (place_key (place_of c) + 1) left
@@ -113,7 +98,7 @@ taken units places new before after c left is canonical here stretched placed k 
       functions = k.functions ++ c ∷ [];
       passed = k.passed ++ c ∷ [];
       whole = passed_one k.passed left (all_functions units) c is k.whole;
-      placed = placed ∙ ap (λ l. l ++ place_of c ∷ []) k.placed ∙ sym (places_more k.functions c);
+      placed = placed ∙ ap (λ l. l ++ place_of c ∷ []) k.placed ∙ sym (map_push place_of k.functions c);
       stretched =
           stretched ∙ ap (λ l. l ++ span_stretches (length places) (length places) c.spans) k.stretched
           ∙ ap (λ n. function_stretches own_class 0 k.functions ++ span_stretches n n c.spans) count
@@ -131,9 +116,6 @@ record Kept (units : List UnitRead) (functions : List Covering) (places : List E
   set : function.spans ≡ c.spans
   named : number_name units places k ≡ covering_name units function
 
-some_same : {A : Type 0} (x y : A) → Some x ≡ Some y → x ≡ y
-some_same x y is = cc
-
 kept_there : (units : List UnitRead) (part : UnitRead) (places : List EntryRef) (functions : List Covering) (c : Covering) (k : ℕ) → slice_get units c.unit ≡ Some part → slice_get part.spans c.entry ≡ Some c.spans → places ≡ map place_of functions
     → ((j : ℕ) (d : Covering) → slice_get functions j ≡ Some d → set_in d.entry (slice_get units d.unit) ≡ Some d.spans) → HasSet part.spans places c.unit c.entry k → Kept units functions places c k
 kept_there units part places functions c k one here placed there has =
@@ -145,7 +127,7 @@ kept_there units part places functions c k one here placed there has =
     record {
       function = found.0;
       at = found.1;
-      set = some_same found.0.spans c.spans
+      set = same_Some found.0.spans c.spans
           (sym (there k found.0 found.1)
           ∙ ap (λ u. set_in found.0.entry (slice_get units u)) unit
           ∙ ap (set_in found.0.entry) one
@@ -198,20 +180,20 @@ pub entry_empty : (units : List UnitRead) (places : List EntryRef) (stretches : 
     → IsCollected units places stretches (place_key place) (entry_covering place die sets ++ left) → IsCollected units places stretches (place_key place + 1) left
 entry_empty units places stretches place die sets set left there none c =
     collected_raised units places stretches (place_key place) (place_key place + 1) left (omega arith)
-    (other_passed units places stretches (place_key place) (record { unit = place.unit; entry = place.entry; die = die; spans = set }) left (no_spans (is_function die) (is_some set) (none_some set none)) (left_by units places stretches (place_key place) place die sets left (Some set) there c))
+    (other_passed units places stretches (place_key place) (record { unit = place.unit; entry = place.entry; die = die; spans = set }) left (grind (arith, nat_tests, none_some set none)) (left_by units places stretches (place_key place) place die sets left (Some set) there c))
 
 pub entry_other : (units : List UnitRead) (places : List EntryRef) (stretches : List Stretch) (place : EntryRef) (die : DieFields) (sets : List (List Range)) (set : List Range) (left : List Covering) → Some set ≡ slice_get sets place.entry → is_function die ≡ false
     → IsCollected units places stretches (place_key place) (entry_covering place die sets ++ left) → IsCollected units places stretches (place_key place + 1) left
 entry_other units places stretches place die sets set left there other c =
     collected_raised units places stretches (place_key place) (place_key place + 1) left (omega arith)
-    (other_passed units places stretches (place_key place) (record { unit = place.unit; entry = place.entry; die = die; spans = set }) left (no_code (is_function die) (is_some set) other) (left_by units places stretches (place_key place) place die sets left (Some set) there c))
+    (other_passed units places stretches (place_key place) (record { unit = place.unit; entry = place.entry; die = die; spans = set }) left (grind (arith, nat_tests, other)) (left_by units places stretches (place_key place) place die sets left (Some set) there c))
 
 pub no_length : (set : List Range) → true ≡ (length set == 0) → length set ≡ 0
 no_length [] is = refl
 no_length (r ∷ set) is = absurd (grind (arith, nat_tests, is))
 
 pub one_die : (dies : List DieFields) (k : ℕ) (x y : DieFields) → Some x ≡ slice_get dies k → Some y ≡ slice_get dies k → x ≡ y
-one_die dies k x y one other = some_same x y (one ∙ sym other)
+one_die dies k x y one other = same_Some x y (one ∙ sym other)
 
 -- a function with its addresses
 pub entry_found : (units : List UnitRead) (places new : List EntryRef) (before after : List Stretch) (place : EntryRef) (die : DieFields) (sets : List (List Range)) (set : List Range) (left : List Covering) → Some set ≡ slice_get sets place.entry
@@ -223,34 +205,22 @@ entry_found units places new before after place die sets set left there c more =
 pub function_known : (units : List UnitRead) (part : UnitRead) (places : List EntryRef) (stretches : List Stretch) (place : EntryRef) (die : DieFields) (set : List Range) (left : List Covering) (k : ℕ) → is_function die ≡ true → length set ≢ 0 → slice_get units place.unit ≡ Some part → slice_get part.spans place.entry ≡ Some set
     → Meets units part.spans places place (Known k) → IsCollected units places stretches (place_key place) (record { unit = place.unit; entry = place.entry; die = die; spans = set } ∷ left) → IsCollected units places stretches (place_key place + 1) left
 function_known units part places stretches place die set left k is some one here meets c =
-    known units part places stretches (record { unit = place.unit; entry = place.entry; die = die; spans = set }) left k (both (is_function die) (is_some set) is (some_some set some)) one here meets c
+    known units part places stretches (record { unit = place.unit; entry = place.entry; die = die; spans = set }) left k (grind (arith, nat_tests, is, some_some set some)) one here meets c
 
 pub function_taken : (units : List UnitRead) (part : UnitRead) (places new : List EntryRef) (before after : List Stretch) (place : EntryRef) (die : DieFields) (set : List Range) (left : List Covering) → is_function die ≡ true → length set ≢ 0 → IsCanonical set → slice_get units place.unit ≡ Some part → slice_get part.spans place.entry ≡ Some set
     → after ≡ before ++ span_stretches (length places) (length places) set → new ≡ places ++ place ∷ []
     → IsCollected units places before (place_key place) (record { unit = place.unit; entry = place.entry; die = die; spans = set } ∷ left) → IsCollected units new after (place_key place + 1) left
 function_taken units part places new before after place die set left is some canonical one here stretched placed c =
-    taken units places new before after (record { unit = place.unit; entry = place.entry; die = die; spans = set }) left (both (is_function die) (is_some set) is (some_some set some)) canonical (ap (set_in place.entry) one ∙ here) stretched placed c
+    taken units places new before after (record { unit = place.unit; entry = place.entry; die = die; spans = set }) left (grind (arith, nat_tests, is, some_some set some)) canonical (ap (set_in place.entry) one ∙ here) stretched placed c
 
-pub drop_get : {A : Type 0} (xs : List A) (k : ℕ) (x : A) → Some x ≡ slice_get xs k → drop k xs ≡ x ∷ drop (k + 1) xs
-drop_get [] k x is = cc
-drop_get (y ∷ xs) zero x is = (let same : y ≡ x = cc in ap (λ z. z ∷ xs) same)
-drop_get (y ∷ xs) (suc k) x is = (let same : suc (k + 1) ≡ suc k + 1 = omega arith in drop_get xs k x is ∙ ap (λ n. x ∷ drop n (y ∷ xs)) same)
+drop_index : {A : Type 0} (xs : List A) (k : ℕ) (x : A) → k < length xs → x ≡ get_or xs k x → drop k xs ≡ x ∷ drop (k + 1) xs
+drop_index xs k x inside is = drop_more xs k x inside ∙ ap (λ z. z ∷ drop (k + 1) xs) (sym is)
 
-drop_none : {A : Type 0} (xs : List A) (k : ℕ) → None ≡ slice_get xs k → drop k xs ≡ []
-drop_none [] zero is = refl
-drop_none [] (suc k) is = refl
-drop_none (y ∷ xs) zero is = cc
-drop_none (y ∷ xs) (suc k) is = drop_none xs k is
+drop_get : {A : Type 0} (xs : List A) (k : ℕ) (x : A) → Some x ≡ slice_get xs k → drop k xs ≡ x ∷ drop (k + 1) xs
+drop_get xs k x is = drop_index xs k x (slice_get_within xs k x (sym is)) (sym (get_or_from_slice_get xs k x x (sym is)))
 
-drop_later : {A : Type 0} (xs : List A) (k : ℕ) → None ≡ slice_get xs k → drop (k + 1) xs ≡ []
-drop_later [] k is = drop_all (k + 1) [] (omega arith)
-drop_later (y ∷ xs) zero is = absurd (cc)
-drop_later (y ∷ xs) (suc k) is = (let same : suc k + 1 ≡ suc (k + 1) = omega arith in ap (λ n. drop n (y ∷ xs)) same ∙ drop_later xs k is)
-
-pub drop_index : {A : Type 0} (xs : List A) (k : ℕ) (x : A) → k < length xs → x ≡ get_or xs k x → drop k xs ≡ x ∷ drop (k + 1) xs
-drop_index [] k x inside is = absurd (omega arith)
-drop_index (y ∷ xs) zero x inside is = ap (λ z. z ∷ xs) (sym is)
-drop_index (y ∷ xs) (suc k) x inside is = (let same : suc (k + 1) ≡ suc k + 1 = omega arith in drop_index xs k x (omega arith) is ∙ ap (λ n. x ∷ drop n (y ∷ xs)) same)
+past : {A : Type 0} (xs : List A) (k : ℕ) → None ≡ slice_get xs k → length xs ≤ k
+past xs k is = grind (arith, gets, is)
 
 -- an entry of a unit was added
 no_sets : (unit entry : ℕ) (dies : List DieFields) → unit_covering unit entry dies [] ≡ []
@@ -264,13 +234,8 @@ entry_left unit entry dies sets die one = ap (λ l. unit_covering unit entry l (
     go : (o : Option (List Range)) → slice_get sets entry ≡ o → unit_covering unit entry (die ∷ drop (entry + 1) dies) (drop entry sets) ≡ option_map_or (λ set. record { unit = unit; entry = entry; die = die; spans = set } ∷ []) o [] ++ unit_covering unit (entry + 1) (drop (entry + 1) dies) (drop (entry + 1) sets)
     go (Some set) there = ap (λ l. unit_covering unit entry (die ∷ drop (entry + 1) dies) l) (drop_get sets entry set (sym there))
     go None there =
-        ap (λ l. unit_covering unit entry (die ∷ drop (entry + 1) dies) l) (drop_none sets entry (sym there))
-        ∙ sym (ap (unit_covering unit (entry + 1) (drop (entry + 1) dies)) (drop_later sets entry (sym there)) ∙ no_sets unit (entry + 1) (drop (entry + 1) dies))
-
-none_inside : (dies : List DieFields) (k : ℕ) → k < length dies → None ≢ slice_get dies k
-none_inside [] k inside none = omega (arith, inside)
-none_inside (die ∷ dies) zero inside none = cc
-none_inside (die ∷ dies) (suc k) inside none = none_inside dies k (omega (arith, inside)) none
+        ap (λ l. unit_covering unit entry (die ∷ drop (entry + 1) dies) l) (drop_all entry sets (past sets entry (sym there)))
+        ∙ sym (ap (unit_covering unit (entry + 1) (drop (entry + 1) dies)) (drop_all (entry + 1) sets (omega (arith, past sets entry (sym there)))) ∙ no_sets unit (entry + 1) (drop (entry + 1) dies))
 
 pub entry_added : (units : List UnitRead) (old new : List EntryRef) (before after : List Stretch) (low high unit entry : ℕ) (dies : List DieFields) (sets : List (List Range)) (rest : List Covering) → entry < length dies
     → IsCollected units old before low (unit_covering unit entry (drop entry dies) (drop entry sets) ++ rest)
@@ -282,39 +247,22 @@ entry_added units old new before after low high unit entry dies sets rest inside
     later = unit_covering unit (entry + 1) (drop (entry + 1) dies) (drop (entry + 1) sets)
 
     go : (o : Option DieFields) → o ≡ slice_get dies entry → IsCollected units new after high (later ++ rest)
-    go None none = absurd (none_inside dies entry inside none)
+    go None none = absurd (omega (arith, past dies entry none, inside))
     go (Some die) one =
         more (later ++ rest) die one
         (subst (IsCollected units old before low) (ap (λ l. l ++ rest) (entry_left unit entry dies sets die one) ∙ append_assoc (entry_covering (record { unit = unit; entry = entry }) die sets) later rest) k)
-
-covering_end : (unit entry : ℕ) (sets : List (List Range)) → unit_covering unit entry [] sets ≡ []
-covering_end unit entry sets = refl
-
-pub entries_ended : (units : List UnitRead) (places : List EntryRef) (stretches : List Stretch) (low unit entry : ℕ) (dies : List DieFields) (sets : List (List Range)) (rest : List Covering) → length dies ≤ entry
-    → IsCollected units places stretches low (unit_covering unit entry (drop entry dies) (drop entry sets) ++ rest) → IsCollected units places stretches low rest
-entries_ended units places stretches low unit entry dies sets rest past k =
-    subst (IsCollected units places stretches low) (ap (λ l. unit_covering unit entry l (drop entry sets) ++ rest) (drop_all entry dies past) ∙ ap (λ l. l ++ rest) (covering_end unit entry (drop entry sets))) k
 
 -- a unit is next
 pub unit_next : (units : List UnitRead) (places : List EntryRef) (stretches : List Stretch) (low unit : ℕ) (part : UnitRead) → unit < length units → part ≡ get_or units unit part
     → IsCollected units places stretches low (covering_from unit (drop unit units)) → IsCollected units places stretches low (unit_covering unit 0 part.die.dies part.spans ++ covering_from (unit + 1) (drop (unit + 1) units))
 unit_next units places stretches low unit part inside is k = subst (IsCollected units places stretches low) (ap (covering_from unit) (drop_index units unit part inside is)) k
 
-pub units_ended : (units : List UnitRead) (places : List EntryRef) (stretches : List Stretch) (low unit : ℕ) → length units ≤ unit → IsCollected units places stretches low (covering_from unit (drop unit units)) → IsCollected units places stretches low []
-units_ended units places stretches low unit past k = subst (IsCollected units places stretches low) (ap (covering_from unit) (drop_all unit units past)) k
-
 pub unit_there : (units : List UnitRead) (unit : ℕ) (part : UnitRead) → unit < length units → part ≡ get_or units unit part → slice_get units unit ≡ Some part
-unit_there [] unit part inside is = absurd (omega arith)
-unit_there (x ∷ units) zero part inside is = ap Some (sym is)
-unit_there (x ∷ units) (suc unit) part inside is = unit_there units unit part (omega arith) is
-
-length_dies : (dies : List DieFields) → length (map (λ die. die.at) dies) ≡ length dies
-length_dies [] = refl
-length_dies (d ∷ dies) = omega (arith, length_dies dies)
+unit_there units unit part inside is = slice_get_read units (length units) unit part refl inside is
 
 -- the entries of a unit, and those of the units after it
 pub entries_left : (unit : ℕ) (units : List UnitRead) (part : UnitRead) → unit < length units → part ≡ get_or units unit part → length (places (drop unit units)) ≡ length part.die.dies + length (places (drop (unit + 1) units))
 entries_left unit units part inside is =
     ap (λ l. length (places l)) (drop_index units unit part inside is)
     ∙ length-append (map (λ die. die.at) part.die.dies) (places (drop (unit + 1) units))
-    ∙ ap (λ n. n + length (places (drop (unit + 1) units))) (length_dies part.die.dies)
+    ∙ ap (λ n. n + length (places (drop (unit + 1) units))) (length-map part.die.dies (λ die. die.at))

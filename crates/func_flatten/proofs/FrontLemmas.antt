@@ -1,6 +1,6 @@
 -- What scopes put in front of names, and its keys.
-use Rattle.std.proofs.Common.{◌≡◌, ℕ, zero, suc, ◌^◌, ◌<◌, ◌≤◌, ◌==◌, Bool, true, false, cond, List, [], ◌∷◌, ◌++◌, codes, Option, None, Some, IfSome, take, refl, sym, ap, subst, ◌∙◌, arith, ⊎_elim, append-nil}
-use Rattle.std.proofs.lemmas.Bool.{cond-true, cond-false, eq-eqb, ne_eqb, cases_lt}
+use Rattle.std.proofs.Common.{◌≡◌, ℕ, zero, suc, ◌^◌, ◌<◌, ◌≤◌, ◌==◌, Bool, true, false, cond, List, [], ◌∷◌, ◌++◌, codes, Option, None, Some, IfSome, refl, sym, ap, subst, ◌∙◌, arith, append-nil}
+use Rattle.std.proofs.lemmas.Bool.{cond-true, cond-false}
 use Rattle.std.proofs.lemmas.Bool.Decides.{nat_tests}
 use Rattle.std.proofs.lemmas.List.{append_assoc}
 use Rattle.std.specs.BTreeMap.{BTreeMap, get, is_at, Updates}
@@ -12,8 +12,8 @@ use Rattle.die_walk.specs.EntryKinds.{is_scope}
 use Rattle.die_walk.specs.EntryTable.{DieFields}
 use Rattle.debug_units.specs.declared.unit_read.EntryRef.{EntryRef}
 use Rattle.debug_units.specs.declared.unit_read.UnitRead.{UnitRead}
-use Rattle.die_names.specs.Names.{around, scope_name, scope_front, front_at, fronts, dies_of, front_of}
-use Rattle.debug_units.specs.UnitEntries.{Placed, die_from, die_in}
+use Rattle.die_names.specs.Names.{around, scope_name, scope_front, front_at, fronts, dies_of}
+use Rattle.debug_units.specs.UnitEntries.{die_from, die_in}
 use Rattle.func_flatten.specs.declared.name_blocks.NameKey.{NameKey}
 use Rattle.clean_names.specs.Names.{skip}
 use Rattle.func_flatten.specs.internal.NameBlocks.{kept_upto, kept, kept_more, BlockNumbers, Grows, IsKey}
@@ -39,21 +39,13 @@ around_none dies (suc limit) = around_none dies limit
 around_past : (dies : List DieFields) (limit number : ℕ) → limit ≤ number → around dies limit (Some number) ≡ []
 unfolding around
 around_past dies zero number past = refl
-around_past dies (suc limit) number past = cond-false _ _ _ (ne_eqb _ _ (λ (e : number ≡ limit). absurd (omega arith))) ∙ around_past dies limit number (omega arith)
+around_past dies (suc limit) number past = grind (arith, nat_tests, around_past dies limit number, past)
 
 -- where the entry of the parent's number is this
 around_found : (dies : List DieFields) (limit number : ℕ) (o : Option DieFields) → number < limit → slice_get dies number ≡ o → around dies limit (Some number) ≡ option_map_or (λ d. number ∷ around dies number d.parent) o []
 unfolding around
 around_found dies zero number o below is = absurd (omega arith)
-around_found dies (suc limit) number o below is =
-    ⊎_elim
-    (λ less. cond-false _ _ _ (ne_eqb _ _ (λ (e : number ≡ limit). absurd (omega arith))) ∙ around_found dies limit number o less is)
-    (λ from.
-    let here : limit ≡ number = omega arith in
-    cond-true _ _ _ (eq-eqb _ _ (sym here))
-    ∙ subst (λ n. option_map_or (λ d. n ∷ around dies n d.parent) (slice_get dies n) [] ≡ option_map_or (λ d. number ∷ around dies number d.parent) o []) (sym here)
-    (ap (λ x. option_map_or (λ d. number ∷ around dies number d.parent) x []) is))
-    (cases_lt number limit)
+around_found dies (suc limit) number o below is = grind (arith, nat_tests, around_found dies limit number o, below, is)
 
 pub outer_nowhere : (dies : List DieFields) (entry : ℕ) → None ≡ slice_get dies entry → outer dies entry ≡ []
 unfolding outer
@@ -158,9 +150,6 @@ pub front_known : (units : List UnitRead) (numbers : BlockNumbers) (known : BTre
 unfolding AreFronts
 front_known units numbers known unit entry place key are few low at is = are unit entry key few low (ap (get nat_cmp known) (sym at) ∙ sym is)
 
-at_place : (a b : ℕ) (t : Bool) → is_at (nat_cmp a) b ≡ t → (a == b) ≡ t
-at_place a b t is = grind (arith, nat_tests, is)
-
 one_place : (unit entry other more : ℕ) → entry < 2 ^ 32 → more < 2 ^ 32 → place_of unit entry ≡ place_of other more → (unit ≡ other) × (entry ≡ more)
 one_place unit entry other more low short same = (omega arith, omega arith)
 
@@ -172,8 +161,7 @@ fronts_noted units numbers known noted unit entry place key are low at of update
     go : (t : Bool) → is_at (nat_cmp place) (place_of other more) ≡ t → cond t (Some key) (get nat_cmp known (place_of other more)) ≡ Some found → IsKey numbers found (kept (inner_front units other more))
     go false there so = are other more found few short so
     go true there so =
-        (let equal : (place == place_of other more) ≡ true = at_place place (place_of other more) true there in
-        let same : place ≡ place_of other more = grind (arith, nat_tests) in
+        (let same : place ≡ place_of other more = grind (arith, nat_tests, there) in
         let both = one_place unit entry other more low short (sym at ∙ same) in
         let one : key ≡ found = cc in
         subst (λ k. IsKey numbers k (kept (inner_front units other more))) one
@@ -181,18 +169,9 @@ fronts_noted units numbers known noted unit entry place key are low at of update
 
 -- ---- the walk
 
-take_none : (n : ℕ) (xs : List ℕ) → xs ≡ [] → take n xs ≡ []
-take_none zero xs is = refl
-take_none (suc n) [] is = refl
-take_none (suc n) (x ∷ xs) is = absurd (cc)
-
-kept_upto_none : (limit : ℕ) → kept_upto limit [] ≡ []
-unfolding kept_upto skip
-kept_upto_none limit = take_none limit [] refl
-
 kept_none : kept [] ≡ []
-unfolding kept
-kept_none = kept_upto_none 65536
+unfolding kept kept_upto skip
+kept_none = refl
 
 -- no entry is around the last
 pub half_top : (dies : List DieFields) (numbers : BlockNumbers) (entry at : ℕ) (way : List ℕ) (key : NameKey) → way ++ outer dies at ≡ outer dies entry → outer dies at ≡ [] → IsKey numbers key [] → IsHalfway dies numbers entry way key
@@ -241,8 +220,3 @@ pub half_end : (units : List UnitRead) (numbers : BlockNumbers) (unit entry : �
 unfolding outer_front
 half_end units numbers unit entry way key none half =
     subst (λ l. IsKey numbers key (kept (fronts (unit_dies units unit) l))) (ap (λ l. l ++ half.rest) (sym none) ∙ half.around) half.key_is
-
--- an entry's front, as its name has it
-pub outer_front_is : (units : List UnitRead) (p : Placed) → slice_get (unit_dies units p.unit) p.entry ≡ Some p.die → outer_front units p.unit p.entry ≡ front_of units p
-unfolding outer_front front_of
-outer_front_is units p is = ap (fronts (unit_dies units p.unit)) (outer_is (unit_dies units p.unit) p.entry p.die (sym is))

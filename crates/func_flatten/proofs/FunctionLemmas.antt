@@ -35,26 +35,14 @@ told_joined say xs ys a = ap (λ o. option_map say o) (find-append (λ s. reache
 
 span_told : {V : Type 0} (say : Stretch → V) (v : V) (index class : ℕ) (spans : List Range) (a : ℕ) → ((first last : ℕ) → say (record { first = first; last = last; index = index; class = class }) ≡ v) → IsCanonical spans → told say (span_stretches index class spans) a ≡ (if holds_any spans a then Some v else None)
 span_told say v index class [] a says canonical = refl
-span_told {V} say v index class (r ∷ spans) a says canonical =
-    ap (λ b. option_map say (if b then Some (record { first = r.start; last = r.end - 1; index = index; class = class }) else find (λ s. reaches s a) (span_stretches index class spans))) (reaches_range r a canonical.0)
-    ∙ go (holds r a) (span_told say v index class spans a says canonical.2)
-  where
-    go : (b : Bool) → told say (span_stretches index class spans) a ≡ (if holds_any spans a then Some v else None) → option_map say (if b then Some (record { first = r.start; last = r.end - 1; index = index; class = class }) else find (λ s. reaches s a) (span_stretches index class spans)) ≡ (if b || holds_any spans a then Some v else None)
-    go true is = ap (λ w. Some w) (says r.start (r.end - 1))
-    go false is = is
-
-told_by : {V : Type 0} (b : Bool) (k : ℕ) (c : Covering) (v : ℕ → V) (rest : Option V) (o : Option Numbered) → rest ≡ option_map (λ m. v m.number) o → option_or (if b then Some (v k) else None) rest ≡ option_map (λ m. v m.number) (if b then Some (record { number = k; function = c }) else o)
-told_by true k c v rest o is = refl
-told_by false k c v rest o is = is
+span_told say v index class (r ∷ spans) a says canonical = grind (arith, nat_tests, canonical.0, says r.start (r.end - 1), span_told say v index class spans a says canonical.2)
 
 -- it is what is said of the first function's number
 all_told : {V : Type 0} (say : Stretch → V) (v : ℕ → V) (class : ℕ → ℕ) → ((k first last : ℕ) → say (record { first = first; last = last; index = k; class = class k }) ≡ v k) → (k : ℕ) (functions : List Covering) (a : ℕ) → HaveSets functions
     → told say (function_stretches class k functions) a ≡ option_map (λ m. v m.number) (first_function a k functions)
 all_told say v class says k [] a all = refl
 all_told say v class says k (c ∷ functions) a all =
-    told_joined say (span_stretches k (class k) c.spans) (function_stretches class (k + 1) functions) a
-    ∙ ap (λ o. option_or o (told say (function_stretches class (k + 1) functions) a)) (span_told say (v k) k (class k) c.spans a (says k) all.0)
-    ∙ told_by (holds_any c.spans a) k c v (told say (function_stretches class (k + 1) functions) a) (first_function a (k + 1) functions) (all_told say v class says (k + 1) functions a all.1)
+    grind (arith, nat_tests, told_joined say (span_stretches k (class k) c.spans) (function_stretches class (k + 1) functions) a, span_told say (v k) k (class k) c.spans a (says k) all.0, all_told say v class says (k + 1) functions a all.1)
 
 -- the index of the first stretch is the number of the first function
 pub index_is : (class : ℕ → ℕ) (functions : List Covering) (a : ℕ) → HaveSets functions → index_at (function_stretches class 0 functions) a ≡ option_map (λ m. m.number) (first_function a 0 functions)
@@ -66,26 +54,17 @@ abbrev any_number : (ℕ → Bool) → ℕ → ℕ → List Covering → Bool
 any_number passes k a [] = false
 any_number passes k a (c ∷ functions) = (has_address a c && passes k) || any_number passes (k + 1) a functions
 
+both : (p q r : Bool) → ((p && r) || (q && r)) ≡ ((p || q) && r)
+both p q r = grind (arith, nat_tests)
+
 any_spans : (passes : ℕ → Bool) (index class : ℕ) (spans : List Range) (a : ℕ) → IsCanonical spans → list_any (λ t. reaches t a && passes t.index) (span_stretches index class spans) ≡ (holds_any spans a && passes index)
 any_spans passes index class [] a canonical = refl
-any_spans passes index class (r ∷ spans) a canonical =
-    ap (λ b. (b && passes index) || list_any (λ t. reaches t a && passes t.index) (span_stretches index class spans)) (reaches_range r a canonical.0)
-    ∙ ap (λ b. (holds r a && passes index) || b) (any_spans passes index class spans a canonical.2)
-    ∙ both (holds r a) (holds_any spans a) (passes index)
-  where
-    both : (p q r : Bool) → ((p && r) || (q && r)) ≡ ((p || q) && r)
-    both true true true = refl
-    both true true false = refl
-    both true false true = refl
-    both true false false = refl
-    both false q r = refl
+any_spans passes index class (r ∷ spans) a canonical = rw (reaches_range r a canonical.0, any_spans passes index class spans a canonical.2) (both (holds r a) (holds_any spans a) (passes index))
 
 any_functions : (class : ℕ → ℕ) (passes : ℕ → Bool) (k : ℕ) (functions : List Covering) (a : ℕ) → HaveSets functions → list_any (λ t. reaches t a && passes t.index) (function_stretches class k functions) ≡ any_number passes k a functions
 any_functions class passes k [] a all = refl
 any_functions class passes k (c ∷ functions) a all =
-    list_any-append (λ t. reaches t a && passes t.index) (span_stretches k (class k) c.spans) (function_stretches class (k + 1) functions)
-    ∙ ap (λ b. b || list_any (λ t. reaches t a && passes t.index) (function_stretches class (k + 1) functions)) (any_spans passes k (class k) c.spans a all.0)
-    ∙ ap (λ b. (has_address a c && passes k) || b) (any_functions class passes (k + 1) functions a all.1)
+    grind (arith, nat_tests, list_any-append (λ t. reaches t a && passes t.index) (span_stretches k (class k) c.spans) (function_stretches class (k + 1) functions), any_spans passes k (class k) c.spans a all.0, any_functions class passes (k + 1) functions a all.1)
 
 -- whether a function that has the address has another name than one
 abbrev pub any_named : (Covering → List ℕ) → ℕ → List Covering → Option Numbered → Bool
@@ -94,34 +73,20 @@ any_named name a functions (Some m) = any_name name (name m.function) a function
 
 -- an entry without addresses has none
 owned : (c : Covering) (a : ℕ) → (is_function c.die && holds_any c.spans a) ≡ (has_code c && holds_any c.spans a)
-owned c a = go (is_function c.die) c.spans
+owned c a = go c.spans
   where
-    go : (b : Bool) (spans : List Range) → (b && holds_any spans a) ≡ ((b && is_some spans) && holds_any spans a)
-    go true [] = refl
-    go true (r ∷ spans) = refl
-    go false [] = refl
-    go false (r ∷ spans) = refl
+    go : (spans : List Range) → (is_function c.die && holds_any spans a) ≡ ((is_function c.die && is_some spans) && holds_any spans a)
+    go [] = grind (arith, nat_tests)
+    go (r ∷ spans) = grind (arith, nat_tests)
 
 -- the owner is the first function that has the address
 owner_by : (entries : List Covering) (a k : ℕ) → find (owns a) entries ≡ option_map (λ m. m.function) (first_function a k (functions_in entries))
 owner_by [] a k = refl
-owner_by (c ∷ entries) a k = ap (λ b. if b then Some c else find (owns a) entries) (owned c a) ∙ go (has_code c) (λ n. owner_by entries a n)
-  where
-    go : (b : Bool) → ((n : ℕ) → find (owns a) entries ≡ option_map (λ m. m.function) (first_function a n (functions_in entries))) → (if b && holds_any c.spans a then Some c else find (owns a) entries) ≡ option_map (λ m. m.function) (first_function a k (if b then c ∷ functions_in entries else functions_in entries))
-    go true is = chosen (holds_any c.spans a) (is (k + 1))
-      where
-        chosen : (t : Bool) → find (owns a) entries ≡ option_map (λ m. m.function) (first_function a (k + 1) (functions_in entries)) → (if t then Some c else find (owns a) entries) ≡ option_map (λ m. m.function) (if t then Some (record { number = k; function = c }) else first_function a (k + 1) (functions_in entries))
-        chosen true later = refl
-        chosen false later = later
-    go false is = is k
+owner_by (c ∷ entries) a k = grind (arith, nat_tests, owned c a, owner_by entries a k, owner_by entries a (k + 1))
 
 found_first : (functions : List Covering) (a k : ℕ) → find (has_address a) functions ≡ option_map (λ m. m.function) (first_function a k functions)
 found_first [] a k = refl
-found_first (c ∷ functions) a k = go (has_address a c) (found_first functions a (k + 1))
-  where
-    go : (b : Bool) → find (has_address a) functions ≡ option_map (λ m. m.function) (first_function a (k + 1) functions) → (if b then Some c else find (has_address a) functions) ≡ option_map (λ m. m.function) (if b then Some (record { number = k; function = c }) else first_function a (k + 1) functions)
-    go true later = refl
-    go false later = later
+found_first (c ∷ functions) a k = grind (arith, nat_tests, found_first functions a (k + 1))
 
 -- also by functions that stand for all
 pub owner_is : (units : List UnitRead) (functions : List Covering) (a : ℕ) → StandFor (covering_name units) (all_functions units) functions → owner units a ≡ option_map (λ m. m.function) (first_function a 0 functions)
@@ -130,18 +95,7 @@ owner_is units functions a s = owner_by (covering_from 0 units) a 0 ∙ sym (fou
 
 other_by : (name : Covering → List ℕ) (n : List ℕ) (entries : List Covering) (a : ℕ) → list_any (λ d. owns a d && not (bytes_eq (name d) n)) entries ≡ any_name name n a (functions_in entries)
 other_by name n [] a = refl
-other_by name n (c ∷ entries) a =
-    ap (λ b. (b && not (bytes_eq (name c) n)) || list_any (λ d. owns a d && not (bytes_eq (name d) n)) entries) (owned c a)
-    ∙ go (has_code c) (holds_any c.spans a) (not (bytes_eq (name c) n)) (list_any (λ d. owns a d && not (bytes_eq (name d) n)) entries) (any_name name n a (functions_in entries)) (other_by name n entries a)
-    ∙ joined (has_code c)
-  where
-    go : (b t u rest later : Bool) → rest ≡ later → (((b && t) && u) || rest) ≡ (if b then ((t && u) || later) else later)
-    go true t u rest later is = ap (λ r. (t && u) || r) is
-    go false t u rest later is = is
-
-    joined : (b : Bool) → (if b then ((holds_any c.spans a && not (bytes_eq (name c) n)) || any_name name n a (functions_in entries)) else any_name name n a (functions_in entries)) ≡ any_name name n a (if b then c ∷ functions_in entries else functions_in entries)
-    joined true = refl
-    joined false = refl
+other_by name n (c ∷ entries) a = grind (arith, nat_tests, owned c a, other_by name n entries a)
 
 named_by : (units : List UnitRead) (functions : List Covering) (a : ℕ) (o : Option Numbered) → StandFor (covering_name units) (all_functions units) functions → has_other units a (option_map (λ m. m.function) o) ≡ any_named (covering_name units) a functions o
 named_by units functions a None s = refl
@@ -169,10 +123,7 @@ first_at_number a functions m is = (let found = first_get a 0 functions m is in 
 same_any : (passes : ℕ → Bool) (name : Covering → List ℕ) (text : List ℕ) (k a : ℕ) (functions : List Covering) → ((j : ℕ) (d : Covering) → slice_get functions j ≡ Some d → passes (k + j) ≡ not (bytes_eq (name d) text)) → any_number passes k a functions ≡ any_name name text a functions
 same_any passes name text k a [] same = refl
 same_any passes name text k a (c ∷ functions) same =
-    let first : passes k ≡ not (bytes_eq (name c) text) = (let here : k + 0 ≡ k = omega arith in ap passes (sym here) ∙ same 0 c refl) in
-    ap (λ b. (has_address a c && b) || any_number passes (k + 1) a functions) first
-    ∙ ap (λ b. (has_address a c && not (bytes_eq (name c) text)) || b)
-    (same_any passes name text (k + 1) a functions (λ j d at. (let next : (k + 1) + j ≡ k + suc j = omega arith in ap passes next ∙ same (suc j) d at)))
+    grind (arith, nat_tests, same 0 c refl, same_any passes name text (k + 1) a functions (λ j d at. (let next : (k + 1) + j ≡ k + suc j = omega arith in ap passes next ∙ same (suc j) d at)))
 
 -- a stretch of another name is there just where a function of another name is
 pub other_name_is : (number_name : ℕ → List ℕ) (name : Covering → List ℕ) (functions : List Covering) (a : ℕ) → HaveSets functions → ((j : ℕ) (d : Covering) → slice_get functions j ≡ Some d → number_name j ≡ name d) → has_other_name number_name (function_stretches own_class 0 functions) a ≡ any_named name a functions (first_function a 0 functions)

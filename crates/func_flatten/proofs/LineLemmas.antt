@@ -1,11 +1,11 @@
 -- The walk over the stops of a line table.
-use Rattle.std.proofs.Common.{◌≡◌, ℕ, zero, suc, ◌+◌, ◌<◌, ◌≤◌, Bool, true, false, ◌&&◌, ◌==◌, nat_le, nat_lt, if◌then◌else◌, map, length, drop, subst, List, [], ◌∷◌, ◌++◌, Option, None, Some, IfSome, unwrap_or, arith, refl, sym, ap, ◌∙◌, inl, inr}
+use Rattle.std.proofs.Common.{◌≡◌, ℕ, zero, suc, ◌+◌, ◌<◌, ◌≤◌, Bool, true, false, ◌&&◌, nat_le, nat_lt, if◌then◌else◌, map, length, drop, subst, List, [], ◌∷◌, ◌++◌, Option, None, Some, IfSome, unwrap_or, arith, refl, sym, ap, ◌∙◌, inl, inr}
 use Rattle.std.proofs.lemmas.Bool.Decides.{nat_tests}
 use Rattle.std.specs.List.{slice_get, slice_index_or, slice_set}
-use Rattle.step_maps.specs.Runs.{IsRuns, AreRuns, between, has, value_in}
+use Rattle.step_maps.specs.Runs.{IsRuns, AreRuns, between, value_in}
 use Rattle.sym_edges.specs.Rising.{RisesFrom}
 use Rattle.step_maps.proofs.SteppingLemmas.{Point}
-use Rattle.std.proofs.lemmas.List.{get_or_default}
+use Rattle.std.proofs.lemmas.List.{drop_more}
 use Rattle.line_program.specs.LineMaps.{LineMap, numbered_line, named_line, NoStopBetween, AreDistinct}
 use Rattle.line_program.proofs.TableLemmas.{same_between}
 use Rattle.func_flatten.specs.declared.line_run.LineRun.{LineRun}
@@ -16,41 +16,19 @@ use Rattle.debug_units.specs.declared.unit_read.UnitRead.{UnitRead}
 use Rattle.debug_units.specs.Owners.{line_in}
 use Rattle.std.specs.Option.{option_map}
 use Rattle.func_flatten.specs.internal.Growing.{added, added_after, Grown, same_mark, continues, with_run_after, with_run, with_part, AreKnown, IsKnown, Walks}
-use Rattle.func_flatten.proofs.CollectLemmas.{drop_index}
 use Rattle.func_flatten.proofs.GrowingRuns.{Compares, grown_none, grown_some, grown_empty}
 
-and_left : (p q : Bool) → (p && q) ≡ true → p ≡ true
-and_left true q is = refl
-and_left false q is = is
-
-and_right : (p q : Bool) → (p && q) ≡ true → q ≡ true
-and_right true q is = is
-and_right false q is = absurd (cc)
+pair_same : (u v : ℕ × ℕ) → u.0 ≡ v.0 → u.1 ≡ v.1 → u ≡ v
+pair_same u v left right = (let f : ℕ → ℕ × ℕ = λ n. (n, u.1) in let g : ℕ → ℕ × ℕ = λ n. (v.0, n) in ap f left ∙ ap g right)
 
 marks_compare : Compares same_mark
 marks_compare = record {
-  yes = λ u v is.
-      (let one : (u.0 == v.0) ≡ true = and_left _ _ is in
-      let two : (u.1 == v.1) ≡ true = and_right (u.0 == v.0) _ is in
-      let left : u.0 ≡ v.0 = grind (arith, nat_tests) in
-      let right : u.1 ≡ v.1 = grind (arith, nat_tests) in
-      pair_alike u v left right);
-  no = λ u v is same.
-      (let one : (u.0 == v.0) ≡ true = (let e : u.0 ≡ v.0 = ap (λ m. m.0) same in grind (arith, nat_tests)) in
-      let two : (u.1 == v.1) ≡ true = (let e : u.1 ≡ v.1 = ap (λ m. m.1) same in grind (arith, nat_tests)) in
-      let both : (true && true) ≡ false = sym (ap (λ b. b && (u.1 == v.1)) one ∙ ap (λ b. true && b) two) ∙ is in
-      cc);
+  yes = λ u v is. pair_same u v (grind (arith, nat_tests, is)) (grind (arith, nat_tests, is));
+  no = λ u v is same. grind (arith, nat_tests, is, ap (λ m. m.0) same, ap (λ m. m.1) same);
 }
-  where
-    pair_alike : (u v : ℕ × ℕ) → u.0 ≡ v.0 → u.1 ≡ v.1 → u ≡ v
-    pair_alike u v left right = (let f : ℕ → ℕ × ℕ = λ n. (n, u.1) in let g : ℕ → ℕ × ℕ = λ n. (v.0, n) in ap f left ∙ ap g right)
-
-mapped_if : (b : Bool) (x y : List LineRun) → map number_run (if b then x else y) ≡ (if b then map number_run x else map number_run y)
-mapped_if true x y = refl
-mapped_if false x y = refl
 
 added_mapped : (x : LineRun) (xs : List LineRun) (r : LineRun) → map number_run (with_run_after x xs r) ≡ added_after same_mark (number_run x) (map number_run xs) (number_run r)
-added_mapped x [] r = mapped_if (continues x r) (record { start = x.start; end = r.end; path = x.path; line = x.line } ∷ []) (x ∷ r ∷ [])
+added_mapped x [] r = grind (arith, nat_tests)
 added_mapped x (y ∷ ys) r = ap (λ l. number_run x ∷ l) (added_mapped y ys r)
 
 with_mapped : (xs : List LineRun) (r : LineRun) → map number_run (with_run xs r) ≡ added same_mark (map number_run xs) (number_run r)
@@ -73,11 +51,7 @@ steady : (f : ℕ → Option (ℕ × ℕ)) (count start end at : ℕ) (now : Opt
 steady f count start end at now rest runs w low rises b high below = sym (w.same at b (omega arith) high (none_between low rest at b rises below))
 
 known_after : (count : ℕ) (x : LineRun) (xs : List LineRun) (r : LineRun) → AreKnown count (x ∷ xs) → r.path < count → AreKnown count (with_run_after x xs r)
-known_after count x [] r known one = go (continues x r)
-  where
-    go : (b : Bool) → AreKnown count (if b then record { start = x.start; end = r.end; path = x.path; line = x.line } ∷ [] else x ∷ r ∷ [])
-    go true = (known.0, tt)
-    go false = (known.0, (one, tt))
+known_after count x [] r known one = grind (arith, nat_tests, known.0, one)
 known_after count x (y ∷ ys) r known one = (known.0, known_after count y ys r known.1 one)
 
 known_run : (count : ℕ) (runs : List LineRun) (r : LineRun) → AreKnown count runs → r.path < count → AreKnown count (with_run runs r)
@@ -147,12 +121,12 @@ walks_start table stops count n start end now same some rising few point is know
     subst P (sym same) (λ inside at. walks_begin table count n start end now some rising inside at is known) few point
 
 pub drop_next : (xs : List ℕ) (n d : ℕ) → n < length xs → drop n xs ≡ slice_index_or xs n d ∷ drop (n + 1) xs
-drop_next xs n d inside = drop_index xs n (slice_index_or xs n d) inside (get_or_default xs n d (slice_index_or xs n d) inside)
+drop_next xs n d inside = drop_more xs n d inside
 
 -- the last run made longer, where another goes on with it
 pub with_longer : (runs : List LineRun) (n : ℕ) (x r : LineRun) → n + 1 ≡ length runs → x ≡ slice_index_or runs n x → continues x r ≡ true → slice_set runs n (record { start = x.start; end = r.end; path = x.path; line = x.line }) ≡ with_run runs r
 with_longer [] n x r few last on = absurd (omega arith)
-with_longer (y ∷ []) zero x r few last on = subst (λ (z : LineRun). record { start = x.start; end = r.end; path = x.path; line = x.line } ∷ [] ≡ with_run (z ∷ []) r) last (sym (ap (λ b. if b then record { start = x.start; end = r.end; path = x.path; line = x.line } ∷ [] else x ∷ r ∷ []) on))
+with_longer (y ∷ []) zero x r few last on = grind (arith, nat_tests, last, on)
 with_longer (y ∷ []) (suc n) x r few last on = absurd (omega arith)
 with_longer (y ∷ z ∷ runs) zero x r few last on = absurd (omega arith)
 with_longer (y ∷ z ∷ runs) (suc n) x r few last on = ap (λ l. y ∷ l) (with_longer (z ∷ runs) n x r (omega arith) last on)
@@ -160,7 +134,7 @@ with_longer (y ∷ z ∷ runs) (suc n) x r few last on = ap (λ l. y ∷ l) (wit
 -- another run after the last, where it does not go on with it
 pub with_more : (runs : List LineRun) (n : ℕ) (x r : LineRun) → n + 1 ≡ length runs → x ≡ slice_index_or runs n x → continues x r ≡ false → runs ++ r ∷ [] ≡ with_run runs r
 with_more [] n x r few last off = absurd (omega arith)
-with_more (y ∷ []) zero x r few last off = subst (λ (z : LineRun). z ∷ r ∷ [] ≡ with_run (z ∷ []) r) last (sym (ap (λ b. if b then record { start = x.start; end = r.end; path = x.path; line = x.line } ∷ [] else x ∷ r ∷ []) off))
+with_more (y ∷ []) zero x r few last off = grind (arith, nat_tests, last, off)
 with_more (y ∷ []) (suc n) x r few last off = absurd (omega arith)
 with_more (y ∷ z ∷ runs) zero x r few last off = absurd (omega arith)
 with_more (y ∷ z ∷ runs) (suc n) x r few last off = ap (λ l. y ∷ l) (with_more (z ∷ runs) n x r (omega arith) last off)
@@ -176,11 +150,7 @@ known_values count (r ∷ runs) known = (known.0, known_values count runs known.
 
 value_known : (count : ℕ) (runs : List LineRun) (a : ℕ) (m : ℕ × ℕ) → AreKnown count runs → value_in (map number_run runs) a ≡ Some m → m.0 < count
 value_known count [] a m known is = absurd (cc)
-value_known count (r ∷ runs) a m known is = go (has (number_run r) a) is (λ at. value_known count runs a m known.1 at)
-  where
-    go : (b : Bool) → (if b then Some (r.path, r.line) else value_in (map number_run runs) a) ≡ Some m → (value_in (map number_run runs) a ≡ Some m → m.0 < count) → m.0 < count
-    go true at later = (let same : (r.path, r.line) ≡ m = cc in let path : r.path ≡ m.0 = ap (λ p. p.0) same in omega (arith, known.0))
-    go false at later = later at
+value_known count (r ∷ runs) a m known is = grind (arith, nat_tests, is, known.0, value_known count runs a m known.1)
 
 get_some : (paths : List (List ℕ)) (k : ℕ) → k < length paths → slice_get paths k ≡ Some (unwrap_or (slice_get paths k) [])
 get_some [] k inside = absurd (omega arith)
@@ -194,9 +164,6 @@ paths_differ paths apart u v p q same =
     let line : u.1 ≡ v.1 = ap (λ m. m.1) same in
     let number : u.0 ≡ v.0 = apart u.0 v.0 (unwrap_or (slice_get paths u.0) []) (get_some paths u.0 p) (get_some paths v.0 q ∙ ap Some (sym path)) in
     pair_same u v number line
-  where
-    pair_same : (m n : ℕ × ℕ) → m.0 ≡ n.0 → m.1 ≡ n.1 → m ≡ n
-    pair_same m n left right = (let f : ℕ → ℕ × ℕ = λ k. (k, m.1) in let g : ℕ → ℕ × ℕ = λ k. (n.0, k) in ap f left ∙ ap g right)
 
 runs_by_path : (paths : List (List ℕ)) (runs : List LineRun) → map (path_run paths) runs ≡ map (map_run (path_line paths)) (map number_run runs)
 runs_by_path paths [] = refl
@@ -207,16 +174,9 @@ apart_by_path paths [] known apart are = tt
 apart_by_path paths (r ∷ runs) known apart are =
     apart_mapped (λ (m : ℕ × ℕ). m.0 < length paths) (path_line paths) (λ u v p q same. paths_differ paths (apart (omega arith)) u v p q same) (map number_run (r ∷ runs)) (known_values (length paths) (r ∷ runs) known) are
 
-named_some : (paths : List (List ℕ)) (m : ℕ × ℕ) → m.0 < length paths → named_line paths (Some m) ≡ Some (path_line paths m)
-named_some paths m inside = go (slice_get paths m.0) (get_some paths m.0 inside)
-  where
-    go : (o : Option (List ℕ)) → o ≡ Some (unwrap_or o []) → option_map (λ path. (let p : List ℕ × ℕ = (path, m.1) in p)) o ≡ (let p : List ℕ × ℕ = (unwrap_or o [], m.1) in Some p)
-    go None is = absurd (cc)
-    go (Some path) is = refl
-
 named_by : (paths : List (List ℕ)) (o : Option (ℕ × ℕ)) → ((m : ℕ × ℕ) → o ≡ Some m → m.0 < length paths) → option_map (path_line paths) o ≡ named_line paths o
 named_by paths None known = refl
-named_by paths (Some m) known = sym (named_some paths m (known m refl))
+named_by paths (Some m) known = grind (arith, nat_tests, get_some paths m.0 (known m refl))
 
 named_between : (paths : List (List ℕ)) (b : Bool) (o : Option (ℕ × ℕ)) → named_line paths (if b then o else None) ≡ (if b then named_line paths o else None)
 named_between paths true o = refl
@@ -245,11 +205,7 @@ unfolding unit_number_line unit_line unit_paths
 lines_some units piece runs part is made known apart = (let both = some_part units piece runs part (slice_get units piece.unit) is made known apart in record { numbers = both.0; paths = both.1 })
 
 no_value : {V : Type 0} (start end : ℕ) (f : ℕ → Option V) → ((a : ℕ) → start ≤ a → a < end → f a ≡ None) → IsRuns (between start end f) []
-no_value start end f none = record { apart = tt; values = λ a. go a (nat_le start a && nat_lt a end) refl }
-  where
-    go : (a : ℕ) (b : Bool) → (nat_le start a && nat_lt a end) ≡ b → None ≡ (if b then f a else None)
-    go a true is = sym (none a (let one : nat_le start a ≡ true = and_left _ _ is in grind (arith, nat_tests)) (let two : nat_lt a end ≡ true = and_right (nat_le start a) _ is in grind (arith, nat_tests)))
-    go a false is = refl
+no_value start end f none = record { apart = tt; values = λ a. grind (arith, nat_tests, none a) }
 
 no_part : (o : Option UnitRead) (a : ℕ) → None ≡ o → number_line_in a o ≡ None
 no_part None a is = refl

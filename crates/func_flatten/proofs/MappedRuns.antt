@@ -1,20 +1,17 @@
 -- Runs whose values are put through a function.
-use Rattle.std.proofs.Common.{◌≡◌, ℕ, Bool, true, false, if◌then◌else◌, map, List, [], ◌∷◌, Option, Some, arith, refl, ap, ◌∙◌}
+use Rattle.std.proofs.Common.{◌≡◌, ℕ, map, List, [], ◌∷◌, Option, Some, arith, refl, ap, ◌∙◌}
 use Rattle.std.specs.Option.{option_map}
-use Rattle.step_maps.specs.Runs.{Run, has, value_in, AreRuns, Follows, IsRuns, AreMaximal}
+use Rattle.std.proofs.lemmas.Bool.Decides.{nat_tests}
+use Rattle.step_maps.specs.Runs.{Run, value_in, AreRuns, Follows, IsRuns, AreMaximal}
 use Rattle.step_maps.proofs.MaximalLemmas.{maximal}
 
 -- a run with another value
 abbrev pub map_run : {V W : Type 0} → (V → W) → Run V → Run W
 map_run g r = record { start = r.start; end = r.end; value = g r.value }
 
-choice_mapped : {V W : Type 0} (g : V → W) (b : Bool) (v : V) (o : Option V) (p : Option W) → p ≡ option_map g o → (if b then Some (g v) else p) ≡ option_map g (if b then Some v else o)
-choice_mapped g true v o p is = refl
-choice_mapped g false v o p is = is
-
 pub mapped_value : {V W : Type 0} (g : V → W) (runs : List (Run V)) (a : ℕ) → value_in (map (map_run g) runs) a ≡ option_map g (value_in runs a)
 mapped_value g [] a = refl
-mapped_value g (r ∷ runs) a = choice_mapped g (has r a) r.value (value_in runs a) (value_in (map (map_run g) runs) a) (mapped_value g runs a)
+mapped_value g (r ∷ runs) a = grind (arith, nat_tests, mapped_value g runs a)
 
 -- something holds of each run's value
 abbrev pub AllValues : {V : Type 0} → (V → Type 0) → List (Run V) → Type 0

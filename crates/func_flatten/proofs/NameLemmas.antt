@@ -1,7 +1,8 @@
 -- Names that were met, and classes by them.
 use Rattle.std.proofs.Common.{◌≡◌, ◌≢◌, ℕ, zero, suc, ◌+◌, ◌-◌, ◌<◌, ◌==◌, Bool, true, false, cond, if◌then◌else◌, map, length, take, get_or, List, [], ◌∷◌, ◌++◌, codes, Option, None, Some, Result, Ok, Err, IfOk, arith, refl, sym, ap, subst, ◌∙◌, unwrap_or, option_and_then}
 use Rattle.std.proofs.lemmas.Bool.Decides.{nat_tests}
-use Rattle.std.proofs.lemmas.List.{take_more}
+use Rattle.std.proofs.lemmas.List.{take_more, nil_from_length}
+use Rattle.std.proofs.lemmas.Option.{slice_get_read}
 use Rattle.std.proofs.lemmas.Map.Text.{btree_map_updates_str}
 use Rattle.std.proofs.lemmas.Slice.Eq.{bytes_eq-Decides}
 use Rattle.std.specs.BTreeMap as tree
@@ -30,7 +31,7 @@ use Rattle.func_flatten.specs.internal.Classes.{classed, class_where, last_class
 use Rattle.func_flatten.specs.internal.NameBlocks.{kept, kept_upto, kept_more, BlockNumbers, number_at, text_key, Grows, IsKey}
 use Rattle.func_flatten.specs.internal.ScopeFronts.{outer, outer_front}
 use Rattle.func_flatten.specs.internal.MetNames.{IsMet, IsClean, AreClean, AreMet, key_number, whole_number, name_number, AreNumbersOf, Stays, StandApart, HasNumber, HaveNumbers, AreNamed, AreClassed, IsClass}
-use Rattle.func_flatten.proofs.BlockLemmas.{cleaned_kept, kept_joined, key_grows, found_text, HasMore, has_more, Given, given, grows_more, newest}
+use Rattle.func_flatten.proofs.BlockLemmas.{cleaned_kept, kept_joined, key_grows, found_text, HasMore, has_more, Given, given, newest}
 use Rattle.func_flatten.proofs.BlockLemmas.Given.{Old, New}
 
 fronts_nowhere : (numbers : List ℕ) → fronts [] numbers ≡ []
@@ -163,13 +164,8 @@ met_ends numbers name items names s met number at is same all =
     subst (λ (n : ℕ). IsMet numbers met (name n)) same
     (met_there numbers name items names (length items - 1) s met all (sym at) (ap (λ (n : ℕ). slice_get names (n - 1)) (sym (met_count numbers name items names all)) ∙ sym is))
 
-get_there : {A : Type 0} (xs : List A) (i : ℕ) (x : A) → i < length xs → x ≡ get_or xs i x → slice_get xs i ≡ Some x
-get_there [] i x inside at = absurd (omega arith)
-get_there (y ∷ xs) zero x inside at = ap Some (sym at)
-get_there (y ∷ xs) (suc i) x inside at = get_there xs i x (omega arith) at
-
 pub met_at : (numbers : BlockNumbers) (name : ℕ → List ℕ) (items : List Stretch) (names : List NameMet) (i : ℕ) (s : Stretch) (met : NameMet) → i < length items → s ≡ get_or items i s → i < length names → met ≡ get_or names i met → AreMet numbers name items names → IsMet numbers met (name s.index)
-met_at numbers name items names i s met inside at within is all = met_there numbers name items names i s met all (get_there items i s inside at) (get_there names i met within is)
+met_at numbers name items names i s met inside at within is all = met_there numbers name items names i s met all (slice_get_read items (length items) i s refl inside at) (slice_get_read names (length names) i met refl within is)
 
 pub none_of : (o : Option ℕ) → false ≡ is_some o → None ≡ o
 none_of None is = refl
@@ -177,11 +173,7 @@ none_of (Some n) is = absurd (cc)
 
 -- the numbers of names that were made
 some_more : (old new : BlockNumbers) (key : List ℕ) (number : ℕ) (other : List ℕ) → HasMore old new key number → is_some (number_at old other) ≡ true → is_some (number_at new other) ≡ true
-some_more old new key number other has some = go (number_at old other) refl some
-  where
-    go : (o : Option ℕ) → number_at old other ≡ o → is_some o ≡ true → is_some (number_at new other) ≡ true
-    go None at some = absurd (cc)
-    go (Some n) at some = ap is_some ((grows_more old new key number has).numbers other n at)
+some_more old new key number other has some = grind (arith, nat_tests, has.more other, some)
 
 pub made_stays : (old new : BlockNumbers) (key : Vec ℕ) (number : ℕ) (other : NameMet) → None ≡ number_at old key.items → new.entries ≡ tree.insert_entry (λ x y. slice_cmp nat_cmp x.items y.items) old.entries key number → HasNumber old other → HasNumber new other
 made_stays old new key number (Whole bytes) none added has = tt
@@ -228,10 +220,6 @@ clean_at (m ∷ names) zero met inside at all = subst IsClean (sym at) all.0
 clean_at (m ∷ names) (suc i) met inside at all = clean_at names i met (omega arith) at all.1
 
 -- no name was made
-no_entries : {A : Type 0} (l : List A) → length l ≡ 0 → l ≡ []
-no_entries [] none = refl
-no_entries (x ∷ l) none = absurd (omega (arith, none))
-
 none_at : (made : BlockNumbers) (key : List ℕ) → made.entries ≡ [] → number_at made key ≡ None
 unfolding number_at
 none_at made key none = ap (λ l. lookup (λ k. is_eq (slice_cmp nat_cmp key k.items)) l) none
@@ -241,17 +229,11 @@ none_made numbers names text none = go (text_key numbers text)
   where
     go : (o : Option (List ℕ)) → None ≡ option_and_then (number_at names.made) o
     go None = refl
-    go (Some key) = sym (none_at names.made key (no_entries names.made.entries none))
+    go (Some key) = sym (none_at names.made key (nil_from_length names.made.entries none))
 
 -- names that stand in the file
 whole_new : (old new : Names) (name : List ℕ) (number : ℕ) → tree.UpdatesBy (λ x y. slice_cmp nat_cmp x.now y.now) (λ k. slice_cmp nat_cmp name k.now) old.whole new.whole (Some number) → (text : List ℕ) → whole_number new text ≡ cond (bytes_eq name text) (Some number) (whole_number old text)
 whole_new old new name number updates text = btree_map_updates_str name old.whole new.whole (Some number) updates text
-
-pub whole_class : (numbers : BlockNumbers) (new : Names) (name : List ℕ) (class : ℕ) → Some class ≡ whole_number new name → name_number numbers new name ≡ Some class
-whole_class numbers new name class is = ap (λ o. option_or o (key_number numbers new name)) (sym is)
-
-pub key_class : (numbers : BlockNumbers) (new : Names) (name : List ℕ) (class : ℕ) → None ≡ whole_number new name → Some class ≡ key_number numbers new name → name_number numbers new name ≡ Some class
-key_class numbers new name class none is = ap (λ o. option_or o (key_number numbers new name)) (sym none) ∙ sym is
 
 pub none_class : {A : Type 0} (o found : Option A) → ((x : A) → o ≢ Some x) → o ≡ found → None ≡ found
 none_class None found none is = is
@@ -267,40 +249,11 @@ pub record AddsWhole (numbers : BlockNumbers) (old new : Names) (name : List ℕ
 pub adds_whole : (numbers : BlockNumbers) (old new : Names) (name : List ℕ) (number : ℕ) → None ≡ whole_number old name → None ≡ key_number numbers old name → new.made ≡ old.made
     → tree.UpdatesBy (λ x y. slice_cmp nat_cmp x.now y.now) (λ k. slice_cmp nat_cmp name k.now) old.whole new.whole (Some number) → AddsWhole numbers old new name number
 adds_whole numbers old new name number none unmade same updates = record {
-  class = ap (λ o. option_or o (key_number numbers new name)) (whole_new old new name number updates name ∙ ap (λ b. cond b (Some number) (whole_number old name)) ((bytes_eq-Decides name name).1 refl));
-  stays = λ text n is. ap (λ o. option_or o (key_number numbers new text)) (whole_new old new name number updates text) ∙ keeps text n (bytes_eq name text) refl is;
-  apart = λ apart text n is. ap (λ (m : BlockNumbers). option_and_then (number_at m) (text_key numbers text)) same ∙ stands text n apart (bytes_eq name text) refl (sym (whole_new old new name number updates text) ∙ is);
-  numbers_are = λ of here all text n is. tells text n of here all (bytes_eq name text) refl (sym (ap (λ o. option_or o (key_number numbers new text)) (whole_new old new name number updates text)) ∙ is);
+  class = grind (arith, nat_tests, whole_new old new name number updates name, (bytes_eq-Decides name name).1 refl);
+  stays = λ text n is. grind (arith, nat_tests, whole_new old new name number updates text, same, none, unmade, (bytes_eq-Decides name text).0, is);
+  apart = λ apart text n is. grind (arith, nat_tests, whole_new old new name number updates text, same, unmade, (bytes_eq-Decides name text).0, apart text n, is);
+  numbers_are = λ of here all text n is. grind (arith, nat_tests, whole_new old new name number updates text, same, here, (bytes_eq-Decides name text).0, all text n, is);
 }
-  where
-    keys : (text : List ℕ) → key_number numbers new text ≡ key_number numbers old text
-    keys text = ap (λ (m : BlockNumbers). option_and_then (number_at m) (text_key numbers text)) same
-
-    neither : name_number numbers old name ≡ None
-    neither = ap (λ o. option_or o (key_number numbers old name)) (sym none) ∙ sym unmade
-
-    keeps : (text : List ℕ) (n : ℕ) (b : Bool) → bytes_eq name text ≡ b → name_number numbers old text ≡ Some n → option_or (cond b (Some number) (whole_number old text)) (key_number numbers new text) ≡ Some n
-    keeps text n true at is = (let there : name ≡ text = (bytes_eq-Decides name text).0 at in let found : name_number numbers old name ≡ Some n = ap (name_number numbers old) there ∙ is in absurd (let wrong : None ≡ Some n = sym neither ∙ found in cc))
-    keeps text n false at is = ap (option_or (whole_number old text)) (keys text) ∙ is
-
-    stands : (text : List ℕ) (n : ℕ) → StandApart (whole_number old) (key_number numbers old) → (b : Bool) → bytes_eq name text ≡ b → cond b (Some number) (whole_number old text) ≡ Some n → key_number numbers old text ≡ None
-    stands text n apart true at is = (let there : name ≡ text = (bytes_eq-Decides name text).0 at in ap (key_number numbers old) (sym there) ∙ sym unmade)
-    stands text n apart false at is = apart text n is
-
-    tells : (text : List ℕ) (n : ℕ) (of : ℕ → List ℕ) → of number ≡ name → AreNumbersOf of (name_number numbers old) → (b : Bool) → bytes_eq name text ≡ b → option_or (cond b (Some number) (whole_number old text)) (key_number numbers new text) ≡ Some n → of n ≡ text
-    tells text n of here all true at is = (let there : name ≡ text = (bytes_eq-Decides name text).0 at in let same_number : number ≡ n = cc in ap of (sym same_number) ∙ here ∙ there)
-    tells text n of here all false at is = all text n (sym (ap (option_or (whole_number old text)) (keys text)) ∙ is)
-
--- the number beside a name that was made
-pub made_class : (numbers : BlockNumbers) (names : Names) (key : NameKey) (text : List ℕ) (class : ℕ) → Some class ≡ number_at names.made key.bytes.items → IsKey numbers key text → StandApart (whole_number names) (key_number numbers names) → name_number numbers names text ≡ Some class
-made_class numbers names key text class is of apart = go (whole_number names text) refl
-  where
-    found : key_number numbers names text ≡ Some class
-    found = ap (option_and_then (number_at names.made)) of.key_is ∙ sym is
-
-    go : (o : Option ℕ) → whole_number names text ≡ o → option_or o (key_number numbers names text) ≡ Some class
-    go None at = found
-    go (Some n) at = absurd (let wrong : None ≡ Some class = sym (apart text n at) ∙ found in cc)
 
 -- stretches that have classes
 class_grows : (old new : List ℕ → Option ℕ) (name : ℕ → List ℕ) (items named : List Stretch) → Stays old new → AreClassed old name items named → AreClassed new name items named
@@ -339,14 +292,7 @@ class_ends number name items named k class is all = go (slice_get named (length 
   where
     go : (o : Option Stretch) → slice_get named (length named - 1) ≡ o → class_where k o ≡ Some class → number (name k) ≡ Some class
     go None at found = absurd (cc)
-    go (Some t) at found = by (t.index == k) refl found
-      where
-        by : (b : Bool) → (t.index == k) ≡ b → (if b then Some t.class else None) ≡ Some class → number (name k) ≡ Some class
-        by true same found =
-            (let here : t.index ≡ k = grind (arith, nat_tests, same) in
-            let there : t.class ≡ class = cc in
-            subst (λ (n : ℕ). number (name n) ≡ Some class) here (class_there number name items named (length named - 1) t all at ∙ ap Some there))
-        by false same found = absurd (cc)
+    go (Some t) at found = grind (arith, nat_tests, found, class_there number name items named (length named - 1) t all at)
 
 pub stays_same : (number : List ℕ → Option ℕ) → Stays number number
 stays_same number text n is = is
@@ -384,9 +330,6 @@ none_known numbers names name none text n found = absurd (let wrong : None ≡ S
 
 pub none_whole : (names : Names) (text : List ℕ) → names.whole.entries ≡ [] → whole_number names text ≡ None
 none_whole names text none = ap (λ l. lookup (λ k. is_eq (slice_cmp nat_cmp text k.now)) l) none
-
-pub apart_none : (numbers : BlockNumbers) (names : Names) → names.whole.entries ≡ [] → StandApart (whole_number names) (key_number numbers names)
-apart_none numbers names none text n found = absurd (let wrong : None ≡ Some n = sym (none_whole names text none) ∙ found in cc)
 
 pub numbers_none : (numbers : BlockNumbers) (names : Names) (name : ℕ → List ℕ) → names.whole.entries ≡ [] → AreNumbersOf name (key_number numbers names) → AreNumbersOf name (name_number numbers names)
 numbers_none numbers names name none all text n found = all text n (sym (ap (λ (o : Option ℕ). option_or o (key_number numbers names text)) (none_whole names text none)) ∙ found)

@@ -1,13 +1,13 @@
 -- Covers of the stretches of all functions are the pieces.
-use Rattle.std.proofs.Common.{◌≡◌, ℕ, zero, suc, ◌+◌, ◌<◌, ◌≤◌, Bool, true, false, ◌&&◌, nat_le, nat_lt, if◌then◌else◌, map, length, List, [], ◌∷◌, Option, None, Some, arith, refl, sym, ap, ◌∙◌, append-nil, subst, inl, inr}
-use Rattle.std.proofs.lemmas.Bool.Decides.{nat_tests, leb_tells}
-use Rattle.std.specs.List.{find, slice_get}
+use Rattle.std.proofs.Common.{◌≡◌, ℕ, zero, suc, ◌+◌, ◌<◌, ◌≤◌, map, length, List, [], ◌∷◌, Option, None, Some, arith, refl, sym, ap, ◌∙◌, append-nil, subst}
+use Rattle.std.proofs.lemmas.Bool.Decides.{nat_tests}
+use Rattle.std.proofs.lemmas.Option.{slice_get_within}
+use Rattle.std.specs.List.{slice_get}
 use Rattle.std.specs.Option.{option_map}
 use Rattle.step_maps.specs.declared.stretch.Stretch.{Stretch}
 use Rattle.step_maps.specs.declared.stretch.Cover.{Cover}
 use Rattle.step_maps.specs.Runs.{between, AreMaximal}
-use Rattle.step_maps.specs.Covers.{reaches, first_at, index_at, cover_run}
-use Rattle.step_maps.proofs.RunLemmas.{if_true, if_false}
+use Rattle.step_maps.specs.Covers.{first_at, index_at, cover_run}
 use Rattle.step_maps.proofs.MaximalLemmas.{maximal}
 use Rattle.debug_units.specs.declared.unit_read.UnitRead.{UnitRead}
 use Rattle.debug_units.specs.UnitEntries.{places}
@@ -33,43 +33,25 @@ one_place : (low high : ℕ) (functions : List Covering) → Rise low high funct
 one_place low high [] rise i j p q same = absurd (omega arith)
 one_place low high (c ∷ functions) rise zero zero p q same = refl
 one_place low high (c ∷ functions) rise zero (suc j) p q same =
-    (let above : place_key (place_of c) + 1 ≤ place_key (place_at (map place_of functions) j) = key_from (place_key (place_of c) + 1) high functions j rise.1 (omega arith) in
-    let alike : place_key (place_of c) ≡ place_key (place_at (map place_of functions) j) = ap place_key same in
-    absurd (omega (arith, above, alike)))
+    absurd (omega (arith, key_from (place_key (place_of c) + 1) high functions j rise.1 (omega arith), ap place_key same))
 one_place low high (c ∷ functions) rise (suc i) zero p q same =
-    (let above : place_key (place_of c) + 1 ≤ place_key (place_at (map place_of functions) i) = key_from (place_key (place_of c) + 1) high functions i rise.1 (omega arith) in
-    let alike : place_key (place_at (map place_of functions) i) ≡ place_key (place_of c) = ap place_key same in
-    absurd (omega (arith, above, alike)))
+    absurd (omega (arith, key_from (place_key (place_of c) + 1) high functions i rise.1 (omega arith), ap place_key same))
 one_place low high (c ∷ functions) rise (suc i) (suc j) p q same = omega (arith, one_place (place_key (place_of c) + 1) high functions rise.1 i j (omega arith) (omega arith) same)
-
-get_length : {A : Type 0} (xs : List A) (k : ℕ) (x : A) → slice_get xs k ≡ Some x → k < length xs
-get_length [] k x is = absurd (cc)
-get_length (y ∷ xs) zero x is = omega arith
-get_length (y ∷ xs) (suc k) x is = omega (arith, get_length xs k x is)
 
 found_fit : (items : List Stretch) (a k : ℕ) → AreFit items → index_at items a ≡ Some k → a + 1 < 18446744073709551616
 unfolding index_at first_at
 found_fit [] a k fit is = absurd (cc)
-found_fit (s ∷ items) a k fit is = go (reaches s a) refl is (λ found. found_fit items a k fit.2 found)
-  where
-    go : (b : Bool) → reaches s a ≡ b → option_map (λ t. t.index) (if b then Some s else find (λ t. reaches t a) items) ≡ Some k → (option_map (λ t. t.index) (find (λ t. reaches t a) items) ≡ Some k → a + 1 < 18446744073709551616) → a + 1 < 18446744073709551616
-    go true has is later = (let low : a ≤ s.last = grind (arith, nat_tests) in omega (arith, fit.1))
-    go false has is later = later is
+found_fit (s ∷ items) a k fit is = grind (arith, nat_tests, is, fit.1, found_fit items a k fit.2)
 
 none_by : (o : Option ℕ) (a : ℕ) → 18446744073709551616 ≤ a → ((k : ℕ) → o ≡ Some k → a + 1 < 18446744073709551616) → o ≡ None
 none_by None a high fit = refl
-none_by (Some k) a high fit = absurd (let low : a + 1 < 18446744073709551616 = fit k refl in omega arith)
+none_by (Some k) a high fit = absurd (omega (arith, fit k refl))
 
 -- no stretch has an address above those of 64 bits
 inside_all : (items : List Stretch) (a : ℕ) → AreFit items → between 0 18446744073709551616 (index_at items) a ≡ index_at items a
-inside_all items a fit = elim (leb_tells 18446744073709551616 a) [
-  | inl high ↦
-      let out : (nat_le 0 a && nat_lt a 18446744073709551616) ≡ false = (let h : 18446744073709551616 ≤ a = high.1 in grind (arith, nat_tests)) in
-      if_false _ (index_at items a) None out ∙ sym (none_by (index_at items a) a high.1 (λ k is. found_fit items a k fit is))
-  | inr low ↦
-      let within : (nat_le 0 a && nat_lt a 18446744073709551616) ≡ true = (let h : a < 18446744073709551616 = low.1 in grind (arith, nat_tests)) in
-      if_true _ (index_at items a) None within
-]
+inside_all items a fit =
+    let none : 18446744073709551616 ≤ a → index_at items a ≡ None = λ high. none_by (index_at items a) a high (λ k is. found_fit items a k fit is) in
+    grind (arith, nat_tests, none)
 
 placed_by : (functions : List Covering) (o : Option Numbered) → ((m : Numbered) → o ≡ Some m → slice_get functions m.number ≡ Some m.function) → option_map (place_at (map place_of functions)) (option_map (λ m. m.number) o) ≡ option_map place_of (option_map (λ m. m.function) o)
 placed_by functions None at = refl
@@ -77,7 +59,7 @@ placed_by functions (Some m) at = ap Some (get_mapped functions m.number m.funct
 
 number_by : (functions : List Covering) (o : Option Numbered) (k : ℕ) → option_map (λ m. m.number) o ≡ Some k → ((m : Numbered) → o ≡ Some m → slice_get functions m.number ≡ Some m.function) → k < length functions
 number_by functions None k is at = absurd (cc)
-number_by functions (Some m) k is at = (let same : m.number ≡ k = cc in let less = get_length functions m.number m.function (at m refl) in omega arith)
+number_by functions (Some m) k is at = (let same : m.number ≡ k = cc in let less = slice_get_within functions m.number m.function (at m refl) in omega arith)
 
 -- each index is the number of a function
 pub index_below : (functions : List Covering) (a k : ℕ) → HaveSets functions → index_at (function_stretches own_class 0 functions) a ≡ Some k → k < length functions

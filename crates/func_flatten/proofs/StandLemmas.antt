@@ -1,5 +1,6 @@
 -- Of functions with one set of addresses two stand for all.
-use Rattle.std.proofs.Common.{◌≡◌, ℕ, zero, suc, ◌+◌, ◌<◌, ◌≤◌, Bool, true, false, not, ◌&&◌, ◌||◌, if◌then◌else◌, map, length, List, [], ◌∷◌, ◌++◌, Option, None, Some, arith, refl, sym, ap, ◌∙◌, subst}
+use Rattle.std.proofs.Common.{◌≡◌, ℕ, zero, suc, ◌+◌, ◌<◌, ◌≤◌, Bool, true, false, not, ◌&&◌, ◌||◌, map, length, List, [], ◌∷◌, ◌++◌, Option, None, Some, arith, refl, sym, ap, ◌∙◌, subst}
+use Rattle.std.proofs.lemmas.Bool.Decides.{nat_tests}
 use Rattle.std.proofs.lemmas.List.Folds.{find-append, list_any-append}
 use Rattle.std.proofs.lemmas.Slice.Eq.{bytes_eq-Decides}
 use Rattle.std.specs.List.{find, list_any, slice_get}
@@ -32,51 +33,20 @@ stand_more name all kept c s = record {
 
 any_here : (test : Covering → Bool) (kept : List Covering) (k : ℕ) (f : Covering) → slice_get kept k ≡ Some f → test f ≡ true → list_any test kept ≡ true
 any_here test [] k f there is = absurd (cc)
-any_here test (d ∷ kept) zero f there is = (let same : d ≡ f = cc in let here : test d ≡ true = ap test same ∙ is in ap (λ b. b || list_any test kept) here)
-any_here test (d ∷ kept) (suc k) f there is = ap (λ b. test d || b) (any_here test kept k f there is) ∙ or_true (test d)
-  where
-    or_true : (b : Bool) → (b || true) ≡ true
-    or_true true = refl
-    or_true false = refl
+any_here test (d ∷ kept) zero f there is = grind (arith, nat_tests, there, is)
+any_here test (d ∷ kept) (suc k) f there is = grind (arith, nat_tests, any_here test kept k f there is)
 
 first_kept : (test : Covering → Bool) (kept : List Covering) (o : Option Covering) → list_any test kept ≡ true → option_or (find test kept) o ≡ find test kept
 first_kept test [] o any = absurd (cc)
-first_kept test (d ∷ kept) o any = go (test d) any (λ later. first_kept test kept o later)
-  where
-    go : (b : Bool) → (b || list_any test kept) ≡ true → (list_any test kept ≡ true → option_or (find test kept) o ≡ find test kept) → option_or (if b then Some d else find test kept) o ≡ (if b then Some d else find test kept)
-    go true some later = refl
-    go false some later = later some
+first_kept test (d ∷ kept) o any = grind (arith, nat_tests, any, first_kept test kept o)
 
 -- a function for which others stand
 pub stand_known : (name : Covering → List ℕ) (all kept : List Covering) (c : Covering) → StandFor name all kept → ((a : ℕ) → has_address a c ≡ true → list_any (has_address a) kept ≡ true)
     → ((a : ℕ) (text : List ℕ) → has_address a c ≡ true → bytes_eq (name c) text ≡ false → any_name name text a kept ≡ true) → StandFor name (all ++ c ∷ []) kept
 stand_known name all kept c s held told = record {
-  first = λ a. first_at a (has_address a c) refl;
-  other = λ a text. other_at a text (has_address a c) (bytes_eq (name c) text) refl refl;
+  first = λ a. grind (arith, nat_tests, find-append (has_address a) all (c ∷ []), s.first a, held a, no_more (find (has_address a) all), first_kept (has_address a) kept (Some c));
+  other = λ a text. grind (arith, nat_tests, list_any-append (λ d. has_address a d && not (bytes_eq (name d) text)) all (c ∷ []), s.other a text, told a text);
 }
-  where
-    first_at : (a : ℕ) (b : Bool) → has_address a c ≡ b → find (has_address a) kept ≡ find (has_address a) (all ++ c ∷ [])
-    first_at a true is =
-        sym (find-append (has_address a) all (c ∷ []) ∙ ap (λ o. option_or o (find (has_address a) (c ∷ []))) (sym (s.first a)) ∙ first_kept (has_address a) kept (find (has_address a) (c ∷ [])) (held a is))
-    first_at a false is =
-        sym (find-append (has_address a) all (c ∷ []) ∙ ap (λ b. option_or (find (has_address a) all) (if b then Some c else None)) is ∙ no_more (find (has_address a) all) ∙ sym (s.first a))
-
-    or_false : (b : Bool) → (b || false) ≡ b
-    or_false true = refl
-    or_false false = refl
-
-    other_at : (a : ℕ) (text : List ℕ) (b t : Bool) → has_address a c ≡ b → bytes_eq (name c) text ≡ t → any_name name text a kept ≡ any_name name text a (all ++ c ∷ [])
-    other_at a text true false is same =
-        told a text is same ∙ sym (list_any-append (λ d. has_address a d && not (bytes_eq (name d) text)) all (c ∷ []) ∙ ap (λ b. b || any_name name text a (c ∷ [])) (sym (s.other a text) ∙ told a text is same))
-    other_at a text true true is same =
-        sym (list_any-append (λ d. has_address a d && not (bytes_eq (name d) text)) all (c ∷ [])
-        ∙ ap (λ b. any_name name text a all || ((has_address a c && not b) || false)) same
-        ∙ ap (λ b. any_name name text a all || ((b && false) || false)) is
-        ∙ or_false (any_name name text a all) ∙ sym (s.other a text))
-    other_at a text false t is same =
-        sym (list_any-append (λ d. has_address a d && not (bytes_eq (name d) text)) all (c ∷ [])
-        ∙ ap (λ b. any_name name text a all || ((b && not (bytes_eq (name c) text)) || false)) is
-        ∙ or_false (any_name name text a all) ∙ sym (s.other a text))
 
 -- a function of the same set and name stands for it
 pub stand_same : (name : Covering → List ℕ) (all kept : List Covering) (c f : Covering) (k : ℕ) → StandFor name all kept → slice_get kept k ≡ Some f → f.spans ≡ c.spans → bytes_eq (name c) (name f) ≡ true → StandFor name (all ++ c ∷ []) kept
@@ -85,22 +55,11 @@ stand_same name all kept c f k s there set named =
     stand_known name all kept c s
     (λ a is. any_here (has_address a) kept k f there (ap (λ l. holds_any l a) set ∙ is))
     (λ a text is other.
-    any_here (λ d. has_address a d && not (bytes_eq (name d) text)) kept k f there
-    (ap (λ l. holds_any l a && not (bytes_eq (name f) text)) set
-    ∙ ap (λ b. b && not (bytes_eq (name f) text)) is
-    ∙ ap (λ n. not (bytes_eq n text)) (sym same)
-    ∙ ap not other))
+    any_here (λ d. has_address a d && not (bytes_eq (name d) text)) kept k f there (grind (arith, nat_tests, set, is, same, other)))
 
 one_other : (name : Covering → List ℕ) (f g : Covering) (text : List ℕ) → bytes_eq (name g) (name f) ≡ false → bytes_eq (name f) text ≡ true → bytes_eq (name g) text ≡ false
-one_other name f g text apart same = go (bytes_eq (name g) text) refl
-  where
-    go : (b : Bool) → bytes_eq (name g) text ≡ b → b ≡ false
-    go false is = refl
-    go true is =
-        (let left : name g ≡ text = (bytes_eq-Decides (name g) text).0 is in
-        let right : name f ≡ text = (bytes_eq-Decides (name f) text).0 same in
-        let both : bytes_eq (name g) (name f) ≡ true = (bytes_eq-Decides (name g) (name f)).1 (left ∙ sym right) in
-        absurd (let wrong : true ≡ false = sym both ∙ apart in grind (arith, wrong)))
+one_other name f g text apart same =
+    grind (arith, nat_tests, apart, (bytes_eq-Decides (name g) text).0, (bytes_eq-Decides (name f) text).0 same, (bytes_eq-Decides (name g) (name f)).1)
 
 -- two functions of the same set and of different names stand for it
 pub stand_two : (name : Covering → List ℕ) (all kept : List Covering) (c f g : Covering) (k l : ℕ) → StandFor name all kept → slice_get kept k ≡ Some f → slice_get kept l ≡ Some g → f.spans ≡ c.spans → g.spans ≡ c.spans → bytes_eq (name g) (name f) ≡ false
@@ -112,8 +71,7 @@ stand_two name all kept c f g k l s first second set also apart =
   where
     here : (a : ℕ) (text : List ℕ) (m : ℕ) (h : Covering) → slice_get kept m ≡ Some h → h.spans ≡ c.spans → has_address a c ≡ true → bytes_eq (name h) text ≡ false → any_name name text a kept ≡ true
     here a text m h there same is other =
-        any_here (λ d. has_address a d && not (bytes_eq (name d) text)) kept m h there
-        (ap (λ set. holds_any set a && not (bytes_eq (name h) text)) same ∙ ap (λ b. b && not (bytes_eq (name h) text)) is ∙ ap not other)
+        any_here (λ d. has_address a d && not (bytes_eq (name d) text)) kept m h there (grind (arith, nat_tests, same, is, other))
 
     go : (a : ℕ) (text : List ℕ) → has_address a c ≡ true → (b : Bool) → bytes_eq (name f) text ≡ b → any_name name text a kept ≡ true
     go a text is false other = here a text k f first set is other

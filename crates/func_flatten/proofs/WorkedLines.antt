@@ -1,5 +1,5 @@
 -- Worked rows: the lines in a piece. A sign for each address, in order: a digit for a line of the first path, a letter for one of the second, or a point.
-use Rattle.std.proofs.Common.{◌≡◌, ℕ, ◌+◌, ◌*◌, map, List, [], ◌∷◌, Option, Some, None, codes, refl}
+use Rattle.std.proofs.Common.{◌≡◌, ℕ, ◌+◌, ◌*◌, map, List, [], ◌∷◌, Option, Some, None, codes, rules}
 use Rattle.std.specs.List.{range_with_len}
 use Prim.Native.String.{String}
 use Rattle.sym_edges.proofs.Shown.{shown}
@@ -31,24 +31,15 @@ sign (Some m) = 48 + m.1 + m.0 * 48
 unfoldable seen : ℕ → ℕ → ℕ → String
 seen unit start end = shown (map (λ a. sign (between start end (unit_number_line lines unit) a)) (range_with_len 0 13))
 
-whole : seen 0 0 13 ≡ "..1133..ccc.."
+record Signs : Type 0 where
+  whole : seen 0 0 13 ≡ "..1133..ccc.."
+  -- across the piece's ends
+  within : seen 0 3 9 ≡ "...133..c...."
+  -- a unit that is not there
+  no_unit : seen 1 0 13 ≡ "............."
+  by_path : unit_line lines 0 9 ≡ Some (codes "b.c", 3)
+  without_a_line : unit_line lines 0 7 ≡ None
+
+signs : Signs
 unfolding seen lines func_flatten_computes
-whole = refl
-
--- across the piece's ends
-within : seen 0 3 9 ≡ "...133..c...."
-unfolding seen lines func_flatten_computes
-within = refl
-
--- a unit that is not there
-no_unit : seen 1 0 13 ≡ "............."
-unfolding seen lines func_flatten_computes
-no_unit = refl
-
-by_path : unit_line lines 0 9 ≡ Some (codes "b.c", 3)
-unfolding lines func_flatten_computes
-by_path = refl
-
-without_a_line : unit_line lines 0 7 ≡ None
-unfolding lines func_flatten_computes
-without_a_line = refl
+signs = search rules

@@ -1,5 +1,5 @@
 -- Worked rows: who owns which addresses. A sign for each address, in order: the number of the owner's entry, or a point.
-use Rattle.std.proofs.Common.{◌≡◌, ℕ, ◌+◌, ◌-◌, ◌*◌, ◌^◌, Bool, true, false, map, List, [], ◌∷◌, Option, Some, None, codes, refl}
+use Rattle.std.proofs.Common.{◌≡◌, ℕ, ◌+◌, ◌-◌, ◌*◌, ◌^◌, Bool, true, false, map, List, [], ◌∷◌, Option, Some, None, codes, rules}
 use Rattle.std.specs.List.{range_with_len}
 use Prim.Native.String.{String}
 use Rattle.sym_edges.specs.Addresses.{Range}
@@ -58,87 +58,51 @@ one entries = unit (root ∷ entries) ∷ []
 unfoldable same : List UnitRead
 same = one (function (codes "a") (on 2 5 ∷ []) ∷ function (codes "b") (on 2 5 ∷ []) ∷ [])
 
-same_owners : owners same 0 7 ≡ "..111.."
-unfolding owners same one function entry unit func_flatten_computes
-same_owners = refl
-
-same_marks : marks same 0 7 ≡ "--+++--"
-unfolding marks same one function entry unit func_flatten_computes
-same_marks = refl
-
 -- the later of two that overlap has what is left
 unfoldable later : List UnitRead
 later = one (function (codes "a") (on 0x1000 0x1010 ∷ []) ∷ function (codes "b") (on 0x1008 0x1018 ∷ []) ∷ [])
-
-later_owners : owners later 0x0ffe 0x1c ≡ "..111111111111111122222222.."
-unfolding owners later one function entry unit func_flatten_computes
-later_owners = refl
-
--- where it begins another name is there, and where b's own part begins none is
-later_marks : marks later 0x1006 0x14 ≡ "--++++++++----------"
-unfolding marks later one function entry unit func_flatten_computes
-later_marks = refl
 
 -- the later one lies in the earlier one, and begins with it
 unfoldable within : List UnitRead
 within = one (function (codes "a") (on 0x1000 0x1010 ∷ []) ∷ function (codes "b") (on 0x1000 0x1008 ∷ []) ∷ [])
 
-within_owners : owners within 0x0fff 0x12 ≡ ".1111111111111111."
-unfolding owners within one function entry unit func_flatten_computes
-within_owners = refl
-
-within_marks : marks within 0x1000 0x10 ≡ "++++++++--------"
-unfolding marks within one function entry unit func_flatten_computes
-within_marks = refl
-
 -- nested, the inner one first; two that touch; one with several ranges, and one with none
 unfoldable several : List UnitRead
 several = one (function (codes "inner") (on 3 5 ∷ []) ∷ function (codes "outer") (on 1 7 ∷ on 8 9 ∷ []) ∷ function (codes "next") (on 7 8 ∷ []) ∷ function (codes "none") [] ∷ [])
-
-several_owners : owners several 0 11 ≡ ".22112232.."
-unfolding owners several one function entry unit func_flatten_computes
-several_owners = refl
 
 -- two of one name, and of names that are one when they are cleaned
 unfoldable alike : List ℕ → List UnitRead
 alike name = one (function (codes "?") (on 2 5 ∷ []) ∷ function name (on 2 5 ∷ []) ∷ [])
 
-alike_marks : marks (alike (codes "?")) 0 7 ≡ "-------"
-unfolding marks alike one function entry unit func_flatten_computes
-alike_marks = refl
-
-cleaned_alike : marks (alike (32 ∷ 9 ∷ [])) 0 7 ≡ "-------"
-unfolding marks alike one function entry unit func_flatten_computes
-cleaned_alike = refl
-
-not_alike : marks (alike (codes "??")) 0 7 ≡ "--+++--"
-unfolding marks alike one function entry unit func_flatten_computes
-not_alike = refl
-
 -- a declaration and a copy that was put in line own nothing
 unfoldable passed : List UnitRead
 passed = one (entry 0x2e true (Some (codes "d")) (on 2 5 ∷ []) ∷ entry 0x1d false (Some (codes "i")) (on 2 5 ∷ []) ∷ function (codes "f") (on 3 5 ∷ []) ∷ [])
-
-passed_owners : owners passed 0 7 ≡ "...33.."
-unfolding owners passed one function entry unit func_flatten_computes
-passed_owners = refl
-
-passed_marks : marks passed 0 7 ≡ "-------"
-unfolding marks passed one function entry unit func_flatten_computes
-passed_marks = refl
 
 -- units in the order of the section
 unfoldable units : List UnitRead
 units = unit (root ∷ function (codes "a") (on 2 4 ∷ []) ∷ []) ∷ unit (root ∷ function (codes "b") (on 0 4 ∷ []) ∷ []) ∷ []
 
-units_owners : owners units 0 5 ≡ "5511."
-unfolding owners units function entry unit func_flatten_computes
-units_owners = refl
-
 -- no range has the last address of all
 unfoldable last : List UnitRead
 last = one (function (codes "a") (on (2 ^ 64 - 3) (2 ^ 64 - 1) ∷ []) ∷ [])
 
-last_owners : owners last (2 ^ 64 - 4) 6 ≡ ".11..."
-unfolding owners last one function entry unit func_flatten_computes
-last_owners = refl
+record Owned : Type 0 where
+  same_owners : owners same 0 7 ≡ "..111.."
+  same_marks : marks same 0 7 ≡ "--+++--"
+  later_owners : owners later 0x0ffe 0x1c ≡ "..111111111111111122222222.."
+  -- where it begins another name is there, and where b's own part begins none is
+  later_marks : marks later 0x1006 0x14 ≡ "--++++++++----------"
+  within_owners : owners within 0x0fff 0x12 ≡ ".1111111111111111."
+  within_marks : marks within 0x1000 0x10 ≡ "++++++++--------"
+  several_owners : owners several 0 11 ≡ ".22112232.."
+  alike_marks : marks (alike (codes "?")) 0 7 ≡ "-------"
+  cleaned_alike : marks (alike (32 ∷ 9 ∷ [])) 0 7 ≡ "-------"
+  not_alike : marks (alike (codes "??")) 0 7 ≡ "--+++--"
+  passed_owners : owners passed 0 7 ≡ "...33.."
+  passed_marks : marks passed 0 7 ≡ "-------"
+  units_owners : owners units 0 5 ≡ "5511."
+  last_owners : owners last (2 ^ 64 - 4) 6 ≡ ".11..."
+
+owned : Owned
+unfolding owners same one function entry unit func_flatten_computes marks later within several alike passed units last
+owned = search rules

@@ -1,5 +1,5 @@
 -- Worked rows: function symbols that no piece covers.
-use Rattle.std.proofs.Common.{◌≡◌, ℕ, Bool, true, false, List, [], ◌∷◌, codes, refl}
+use Rattle.std.proofs.Common.{◌≡◌, ℕ, Bool, true, false, List, [], ◌∷◌, codes, rules}
 use Rattle.elf_sections.specs.Symbols.{SymbolParts}
 use Rattle.func_flatten.specs.declared.piece.Piece.{Piece}
 use Rattle.func_flatten.specs.Publics.{PublicParts, publics}
@@ -14,36 +14,21 @@ piece start end = record { unit = 0; entry = 1; start = start; end = end; many =
 abbrev public : ℕ → Bool → List ℕ → PublicParts
 public address many name = record { address = address; many = many; name = name }
 
--- a symbol inside of a function
-inside : publics (piece 0x1000 0x1010 ∷ []) (symbol 0x1004 (codes "x") ∷ []) ≡ []
-unfolding func_flatten_computes
-inside = refl
+record Symbols : Type 0 where
+  -- a symbol inside of a function
+  inside : publics (piece 0x1000 0x1010 ∷ []) (symbol 0x1004 (codes "x") ∷ []) ≡ []
+  -- at its first address, at its last, at its end, and below it
+  around : publics (piece 0x1000 0x1010 ∷ []) (symbol 0x1010 (codes "end") ∷ symbol 0x1000 (codes "first") ∷ symbol 0x100f (codes "last") ∷ symbol 0x0fff (codes "below") ∷ []) ≡ public 0x0fff false (codes "below") ∷ public 0x1010 false (codes "end") ∷ []
+  -- between two pieces
+  between_pieces : publics (piece 2 4 ∷ piece 5 7 ∷ []) (symbol 4 (codes "x") ∷ symbol 5 (codes "y") ∷ []) ≡ public 4 false (codes "x") ∷ []
+  -- several at one address: the first name, marked where there is another
+  several : publics [] (symbol 8 (codes "b") ∷ symbol 4 (codes "x") ∷ symbol 8 (codes "a") ∷ symbol 4 (codes "x") ∷ []) ≡ public 4 false (codes "x") ∷ public 8 true (codes "b") ∷ []
+  -- names are compared when they are cleaned
+  cleaned_names : publics [] (symbol 4 (codes " ?") ∷ symbol 4 (9 ∷ []) ∷ []) ≡ public 4 false (codes "?") ∷ []
+  -- none, and one at the last address
+  no_symbol : publics (piece 2 4 ∷ []) [] ≡ []
+  last_address : publics (piece 0 18446744073709551615 ∷ []) (symbol 18446744073709551615 (codes "x") ∷ symbol 18446744073709551614 (codes "y") ∷ []) ≡ public 18446744073709551615 false (codes "x") ∷ []
 
--- at its first address, at its last, at its end, and below it
-around : publics (piece 0x1000 0x1010 ∷ []) (symbol 0x1010 (codes "end") ∷ symbol 0x1000 (codes "first") ∷ symbol 0x100f (codes "last") ∷ symbol 0x0fff (codes "below") ∷ []) ≡ public 0x0fff false (codes "below") ∷ public 0x1010 false (codes "end") ∷ []
+symbols : Symbols
 unfolding func_flatten_computes
-around = refl
-
--- between two pieces
-between_pieces : publics (piece 2 4 ∷ piece 5 7 ∷ []) (symbol 4 (codes "x") ∷ symbol 5 (codes "y") ∷ []) ≡ public 4 false (codes "x") ∷ []
-unfolding func_flatten_computes
-between_pieces = refl
-
--- several at one address: the first name, marked where there is another
-several : publics [] (symbol 8 (codes "b") ∷ symbol 4 (codes "x") ∷ symbol 8 (codes "a") ∷ symbol 4 (codes "x") ∷ []) ≡ public 4 false (codes "x") ∷ public 8 true (codes "b") ∷ []
-unfolding func_flatten_computes
-several = refl
-
--- names are compared when they are cleaned
-cleaned_names : publics [] (symbol 4 (codes " ?") ∷ symbol 4 (9 ∷ []) ∷ []) ≡ public 4 false (codes "?") ∷ []
-unfolding func_flatten_computes
-cleaned_names = refl
-
--- none, and one at the last address
-no_symbol : publics (piece 2 4 ∷ []) [] ≡ []
-unfolding func_flatten_computes
-no_symbol = refl
-
-last_address : publics (piece 0 18446744073709551615 ∷ []) (symbol 18446744073709551615 (codes "x") ∷ symbol 18446744073709551614 (codes "y") ∷ []) ≡ public 18446744073709551615 false (codes "x") ∷ []
-unfolding func_flatten_computes
-last_address = refl
+symbols = search rules
