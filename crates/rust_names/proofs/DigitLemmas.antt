@@ -13,11 +13,11 @@ use Rattle.rust_names.proofs.FrontLemmas.{every_more}
 use Rattle.rust_names.specs.Legacy.{is_digit, is_number}
 use Rattle.rust_names.specs.internal.Reading.{digits_in_front, number_upto, cut_by, cut_of}
 
-no_digits : (b : ℕ) (bytes : List ℕ) → is_digit b ≡ false → length (digits_in_front (b ∷ bytes)) ≡ 0
+pub no_digits : (b : ℕ) (bytes : List ℕ) → is_digit b ≡ false → length (digits_in_front (b ∷ bytes)) ≡ 0
 unfolding digits_in_front
 no_digits b bytes none = ap (λ t. length (cond t (b ∷ digits_in_front bytes) [])) none
 
-one_digit : (b : ℕ) (bytes : List ℕ) → is_digit b ≡ true → length (digits_in_front (b ∷ bytes)) ≡ suc (length (digits_in_front bytes))
+pub one_digit : (b : ℕ) (bytes : List ℕ) → is_digit b ≡ true → length (digits_in_front (b ∷ bytes)) ≡ suc (length (digits_in_front bytes))
 unfolding digits_in_front
 one_digit b bytes is = ap (λ t. length (cond t (b ∷ digits_in_front bytes) [])) is
 
@@ -83,7 +83,7 @@ number_more i n digits within digit is = omega (arith, is, digits_value_more 10 
 pub all_more : (digits : List ℕ) (i : ℕ) → i < length digits → list_all is_digit (take i digits) ≡ true → is_digit (get_or digits i 0) ≡ true → list_all is_digit (take (i + 1) digits) ≡ true
 all_more = every_more is_digit
 
-first_some : (digits : List ℕ) → list_all is_digit digits ≡ true → length digits ≢ 0 → get_or digits 0 0 ≢ 48 → is_number digits ≡ true
+pub first_some : (digits : List ℕ) → list_all is_digit digits ≡ true → length digits ≢ 0 → get_or digits 0 0 ≢ 48 → is_number digits ≡ true
 first_some [] all some first = absurd (some refl)
 first_some (d ∷ digits) all some first = let other : (d == 48) ≡ false = grind (arith, nat_tests) in both (not_false other) all
 

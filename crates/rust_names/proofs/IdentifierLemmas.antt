@@ -1,10 +1,13 @@
--- The length in front of an identifier (length_in_front).
-use Rattle.std.proofs.Common.{◌≡◌, ℕ, List, length, take, drop, Option, None, sym, ◌∙◌, ap}
+-- The length in front of an identifier (short_length, any_length).
+use Rattle.std.proofs.Common.{◌≡◌, ℕ, ◌-◌, ◌≤◌, ◌==◌, suc, cond, true, false, List, [], ◌∷◌, length, take, drop, get_or, Option, Some, None, refl, sym, ◌∙◌, ap, arith}
 use Rattle.std.specs.Option.{option_map}
 use Rattle.rust_names.specs.Digits.{digits_in_front, number_upto}
-use Rattle.rust_names.specs.V0Numbers.{eat}
+use Rattle.std.specs.Str.Parse.{digits_value}
+use Rattle.std.proofs.lemmas.Bool.Decides.{nat_tests}
+use Rattle.rust_names.specs.Legacy.{is_digit, is_number}
+use Rattle.rust_names.specs.V0Numbers.{front, eat}
 use Rattle.rust_names.specs.V0Identifiers.{length_by, length_in_front}
-use Rattle.rust_names.proofs.DigitLemmas.{front_digits}
+use Rattle.rust_names.proofs.DigitLemmas.{front_digits, one_digit, no_digits, number_more, number_by}
 
 length_at : (bytes : List ℕ) (n : ℕ) → None ≡ eat 48 bytes → n ≡ length (digits_in_front bytes) → length_in_front bytes ≡ option_map (λ k. (k, drop n bytes)) (number_upto (length bytes) (take n bytes))
 unfolding length_in_front
@@ -16,3 +19,25 @@ length_at bytes n none is =
 pub length_found : (bytes digits after : List ℕ) (n : ℕ) (found : Option ℕ) → None ≡ eat 48 bytes → n ≡ length (digits_in_front bytes) → digits ≡ take n bytes → after ≡ drop n bytes → found ≡ number_upto (length bytes) digits → option_map (λ k. (k, after)) found ≡ length_in_front bytes
 length_found bytes digits after n found none is front back number =
     ap (λ o. option_map (λ k. (k, after)) o) (number ∙ ap (number_upto (length bytes)) front) ∙ ap (λ xs. option_map (λ k. (k, xs)) (number_upto (length bytes) (take n bytes))) back ∙ sym (length_at bytes n none is)
+
+-- one digit alone
+
+no_zero : (a : ℕ) (bytes : List ℕ) → 49 ≤ a → None ≡ eat 48 (a ∷ bytes)
+unfolding eat front
+no_zero a bytes some = let other : (a == 48) ≡ false = grind (arith, nat_tests) in ap (λ t. cond t (Some bytes) None) (sym other)
+
+is_one : (a : ℕ) → 49 ≤ a → a ≤ 57 → is_digit a ≡ true
+is_one a low high = grind (arith, nat_tests)
+
+one_value : (a : ℕ) → is_digit a ≡ true → a - 48 ≡ digits_value 10 (a ∷ [])
+one_value a is = omega (arith, number_more 0 0 (a ∷ []) (omega arith) is refl)
+
+pub one_digit_length : (bytes : List ℕ) (n : ℕ) → 2 ≤ length bytes → 49 ≤ get_or bytes 0 0 → get_or bytes 0 0 ≤ 57 → is_digit (get_or bytes 1 0) ≡ false → n ≡ get_or bytes 0 0 - 48 → n ≤ length bytes → Some (n, drop 1 bytes) ≡ length_in_front bytes
+one_digit_length [] n some low high other is within = absurd (omega (arith, some))
+one_digit_length (a ∷ []) n some low high other is within = absurd (omega (arith, some))
+one_digit_length (a ∷ b ∷ bytes) n some low high other is within =
+    let digit = is_one a low high in
+    let value : n ≡ digits_value 10 (a ∷ []) = is ∙ one_value a digit in
+    length_found (a ∷ b ∷ bytes) (a ∷ []) (b ∷ bytes) 1 (Some n) (no_zero a (b ∷ bytes) low)
+    (sym (one_digit a (b ∷ bytes) digit ∙ ap suc (no_digits b bytes other))) refl refl
+    (ap Some value ∙ sym (number_by (length (a ∷ b ∷ bytes)) (a ∷ []) (let e : is_number (a ∷ []) ≡ true = grind (arith, nat_tests) in e) (omega (arith, value, within))))

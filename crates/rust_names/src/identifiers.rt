@@ -1,5 +1,5 @@
 //! The identifiers of v0 names.
-ghost use Rattle.std.specs.Prelude.{◌≡◌, true, IfOk};
+ghost use Rattle.std.specs.Prelude.{◌≡◌, ◌≤◌, length, drop, Some, true, IfOk, IfSome};
 ghost use Rattle.std.specs.List.{list_all};
 ghost use Rattle.std.specs.Option.{option_map};
 ghost use Rattle.rust_names.specs.V0Identifiers as v0;
@@ -7,7 +7,7 @@ ghost use Rattle.rust_names.specs.V0Leaves.{shown_on};
 ghost use Rattle.rust_names.specs.internal.Reading.{kept};
 
 use crate::numbers::eat;
-use crate::part::{count_digits, number_upto};
+use crate::part::{count_digits, is_digit, number_upto};
 use crate::texts::add;
 use idna::{Errors, punycode};
 use std::alloc::Global;
@@ -69,10 +69,37 @@ fn is_identifier(marked: bool, bytes: &[u8]) -> bool
     !digits.is_empty() && are_punycode_digits(digits)
 }
 
+/// The length that one digit writes alone, as most are written; none may be where there is a length.
+#[tactic(auto, using(crate::proofs::IdentifierLemmas::one_digit_length))]
+#[inline(always)]
+fn short_length(bytes: &[u8]) -> Option<usize>
+    ensures length { IfSome result (λ n. Some (n, drop 1 bytes.now) ≡ v0.length_in_front bytes.now) }
+    ensures within { IfSome result (λ _. 2 ≤ length bytes.now) }
+{
+    if bytes.len() < 2 || bytes[0] < b'1' || bytes[0] > b'9' || is_digit(bytes[1]) {
+        return None;
+    }
+    let number = usize::from(bytes[0] - b'0');
+    if number > bytes.len() {
+        return None;
+    }
+    Some(number)
+}
+
 /// A length, and what stands after it.
-#[tactic(auto, unfolding(crate::specs::V0Identifiers::length_in_front))]
 #[inline(always)]
 fn length_in_front(bytes: &[u8]) -> Option<(usize, &[u8])>
+    ensures { option_map (λ x. (x.0, x.1.now)) result ≡ v0.length_in_front bytes.now }
+{
+    match short_length(bytes) {
+        Some(number) => Some((number, bytes.split_at(1).1)),
+        None => any_length(bytes),
+    }
+}
+
+/// A length of any number of digits, and what stands after it.
+#[tactic(auto, unfolding(crate::specs::V0Identifiers::length_in_front))]
+fn any_length(bytes: &[u8]) -> Option<(usize, &[u8])>
     ensures { option_map (λ x. (x.0, x.1.now)) result ≡ v0.length_in_front bytes.now }
 {
     match eat(b'0', bytes) {

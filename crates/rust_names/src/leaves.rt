@@ -198,6 +198,7 @@ fn is_end(bytes: &[u8]) -> bool
 
 /// Reads a leaf and adds what it shows; what stands after it.
 #[tactic(auto, unfolding(crate::specs::V0Leaves::read_leaf, crate::specs::V0Leaves::leaf_of))]
+#[inline(always)]
 pub(crate) fn read_leaf<'a>(
     alloc: Global,
     text: &mut Vec<u8>,

@@ -8,7 +8,8 @@ ghost use Rattle.rust_names.specs.internal.Reading.{digits_in_front, number_upto
 use crate::piece::{add_shown, piece_of, written_length};
 use sym_edges::OutOfMemory;
 
-fn is_digit(b: u8) -> bool
+#[inline(always)]
+pub(crate) fn is_digit(b: u8) -> bool
     ensures { result ≡ is_digit b }
 {
     b'0' <= b && b <= b'9'

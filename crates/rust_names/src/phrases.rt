@@ -421,6 +421,7 @@ fn returned_parts<'a>(
 
 /// What a symbol within a level is made of.
 #[tactic(auto, unfolding(crate::specs::V0Grammar::phrase_parts))]
+#[inline(always)]
 pub(crate) fn phrase_parts<'a>(
     stack: &mut Vec<Frame>,
     nest: &Nest,

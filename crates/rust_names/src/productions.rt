@@ -514,6 +514,7 @@ fn target(kind: Kind) -> Part
 
 /// A backreference: what stands at its place, where it is shown.
 #[tactic(auto, unfolding(crate::specs::V0Grammar::back_parts), using(crate::proofs::FrameLemmas::onto_none))]
+#[inline(always)]
 pub(crate) fn back_parts<'a>(
     stack: &mut Vec<Frame>,
     nest: &Nest,

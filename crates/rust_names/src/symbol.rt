@@ -1,5 +1,7 @@
 //! A name in the v0 mangling.
 ghost use Rattle.std.specs.Prelude.{◌≡◌, reverse, IfOk};
+ghost use Rattle.std.specs.List.{list_all};
+ghost use Rattle.clean_names.specs.Names.{is_name, is_within_line};
 ghost use Rattle.rust_names.specs.V0Names as v0;
 ghost use Rattle.rust_names.specs.internal.Passing.{AreConstants};
 ghost use Rattle.rust_names.specs.internal.Stepping.{AreHidden};
@@ -11,7 +13,6 @@ use crate::hidden::{Ahead, HiddenPaths, pass};
 use crate::turns::{Room, read_frames};
 use std::alloc::Global;
 use sym_edges::OutOfMemory;
-use sym_records::is_name;
 
 /// How many levels may nest.
 const MOST_LEVELS: usize = 500;
@@ -101,6 +102,28 @@ fn text_within(
         width,
     })?;
     read_shown(alloc, rooms, name)
+}
+
+/// Whether no byte ends a line. All bytes are looked at, since a loop without a way out takes many at once.
+fn are_one_line(bytes: &[u8]) -> bool
+    ensures { result ≡ list_all is_within_line bytes.now }
+{
+    let mut one_line = true;
+    for at in 0..bytes.len() {
+        one_line = one_line & (bytes[at] != b'\n');
+    }
+    one_line
+}
+
+/// Whether a record may carry the text as a name.
+#[tactic(auto, unfolding(clean_names::specs::Names::is_name))]
+fn is_name(text: &[u8]) -> bool
+    ensures { result ≡ is_name text.now }
+{
+    if text.is_empty() {
+        return false;
+    }
+    text[0] != b' ' && text[text.len() - 1] != b'\r' && are_one_line(text)
 }
 
 /// Makes what a v0 name shows the text shown in the room; false where it shows nothing.

@@ -15,6 +15,7 @@ const TEXT_LIMIT: usize = 65_536;
 
 /// Adds bytes to a text; false where they do not fit.
 #[tactic(auto, using(crate::proofs::TextLemmas::say_over, crate::proofs::TextLemmas::say_fits))]
+#[inline(always)]
 pub(crate) fn add(text: &mut Vec<u8>, more: &[u8]) -> Result<bool, OutOfMemory>
     ensures { IfOk result (λ said. v0.say text.old.items more.now ≡ kept said text.new.items) }
 {
@@ -26,6 +27,7 @@ pub(crate) fn add(text: &mut Vec<u8>, more: &[u8]) -> Result<bool, OutOfMemory>
 }
 
 /// Adds bytes where they are shown.
+#[inline(always)]
 pub(crate) fn show(text: &mut Vec<u8>, visible: bool, more: &[u8]) -> Result<bool, OutOfMemory>
     ensures { IfOk result (λ said. shown_on visible text.old.items (Some more.now) ≡ kept said text.new.items) }
 {

@@ -62,6 +62,7 @@ pub enum Word {
 }
 
 /// The text of a word.
+#[inline(always)]
 pub(crate) fn word_text(word: Word) -> &'static [u8]
     ensures { result.now ≡ word_text word }
 {
