@@ -2,7 +2,10 @@
 use Rattle.std.proofs.Common.{◌≡◌, ◌≢◌, ℕ, ◌+◌, ◌<◌, ◌≤◌, ◌==◌, Bool, true, false, List, [], ◌∷◌, ◌++◌, length, take, drop, get_or, Option, Some, None, refl, sym, ◌∙◌, ap, arith, append_assoc}
 use Rattle.std.specs.Option.{option_map, option_and_then}
 use Rattle.std.proofs.lemmas.Bool.Decides.{nat_tests}
-use Rattle.std.proofs.lemmas.List.{at_drop_more, at_drop_all, take_more, append-nil}
+use Rattle.std.specs.List.{list_all}
+use Rattle.std.proofs.lemmas.Bool.{eqb-true}
+use Rattle.std.proofs.lemmas.List.{at_drop_more, at_drop_all, take_more, append-nil, take-append-drop}
+use Rattle.sym_rules.proofs.BoolLemmas.{and_true}
 use Rattle.rust_names.specs.V0Numbers.{front, base_62_digit, below_64, next_62, base_62_from, hex_digit, with_digit, hex_digits, next_hex, hex_from}
 
 pub front_none : (bytes : List ℕ) → length bytes ≡ 0 → None ≡ front bytes
@@ -64,6 +67,21 @@ base_over value = refl
 
 pub base_end : (bytes : List ℕ) (i value : ℕ) → length bytes ≤ i → base_62_from value (drop i bytes) ≡ None
 base_end bytes i value past = at_drop_all (base_62_from value) bytes i past ∙ base_over value
+
+-- zeros in front
+
+zero_first : (bytes : List ℕ) → base_62_from 0 (48 ∷ bytes) ≡ base_62_from 0 bytes
+unfolding base_62_from
+zero_first bytes = refl
+
+zeros_before : (zeros bytes : List ℕ) → list_all (λ b. b == 48) zeros ≡ true → base_62_from 0 (zeros ++ bytes) ≡ base_62_from 0 bytes
+zeros_before [] bytes all = refl
+zeros_before (b ∷ zeros) bytes all =
+    ap (λ c. base_62_from 0 (c ∷ (zeros ++ bytes))) (eqb-true b 48 (and_true all).0) ∙ zero_first (zeros ++ bytes) ∙ zeros_before zeros bytes (and_true all).1
+
+pub zeros_front : (bytes block after : List ℕ) (n : ℕ) → block ≡ take n bytes → after ≡ drop n bytes → list_all (λ b. b == 48) block ≡ true → base_62_from 0 after ≡ base_62_from 0 bytes
+zeros_front bytes block after n front back all =
+    ap (base_62_from 0) back ∙ sym (zeros_before (take n bytes) (drop n bytes) (ap (list_all (λ b. b == 48)) (sym front) ∙ all)) ∙ ap (base_62_from 0) (take-append-drop n bytes)
 
 -- hexadecimal digits
 

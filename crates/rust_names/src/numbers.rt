@@ -1,7 +1,11 @@
 //! The numbers of v0 names.
-ghost use Rattle.std.specs.Prelude.{◌≡◌, ◌<◌, ◌≤◌, ◌+◌, ◌^◌, length, take, drop, IfSome};
+ghost use Rattle.std.specs.Prelude.{◌≡◌, ◌==◌, ◌<◌, ◌≤◌, ◌+◌, ◌^◌, length, take, drop, IfSome};
+ghost use Rattle.std.specs.List.{list_all};
 ghost use Rattle.std.specs.Option.{option_map, option_copied};
 ghost use Rattle.rust_names.specs.V0Numbers.{front, eat, base_62_digit, below_64, next_62, base_62_from, base_62, after_letter, hex_digit, hex_digits, next_hex, hex_from};
+
+/// Numbers of base 62 may have many zeros in front, and backreferences may lead to one again and again: so many are passed at once.
+const BLOCK: usize = 64;
 
 /// The first byte, and those after it.
 #[tactic(auto, unfolding(crate::specs::V0Numbers::front), using(crate::proofs::NumberLemmas::front_none, crate::proofs::NumberLemmas::front_some))]
@@ -81,6 +85,34 @@ fn next_62(value: u64, b: u8) -> Option<u64>
     }
 }
 
+/// Whether all bytes are zeros. All bytes are looked at, since a loop without a way out takes many at once.
+#[inline(always)]
+fn are_zeros(bytes: &[u8]) -> bool
+    ensures { result ≡ list_all (λ b. b == 48) bytes.now }
+{
+    let mut zeros = true;
+    for at in 0..bytes.len() {
+        zeros = zeros & (bytes[at] == b'0');
+    }
+    zeros
+}
+
+/// The digits without whole blocks of zeros in front.
+fn after_zeros(bytes: &[u8]) -> &[u8]
+    ensures same { base_62_from 0 result.now ≡ base_62_from 0 bytes.now }
+    ensures within { length result.now ≤ length bytes.now }
+{
+    let mut rest = bytes;
+    'zeros: while rest.len() > BLOCK {
+        let (block, after) = rest.split_at(BLOCK);
+        if !are_zeros(block) {
+            return rest;
+        }
+        rest = after;
+    }
+    rest
+}
+
 /// The value of digits up to `_`, and what stands after it.
 fn base_62_from(bytes: &[u8]) -> Option<(u64, &[u8])>
     ensures number { option_map (λ x. (x.0, x.1.now)) result ≡ base_62_from 0 bytes.now }
@@ -111,7 +143,12 @@ pub(crate) fn base_62(bytes: &[u8]) -> Option<(u64, &[u8])>
 {
     match eat(b'_', bytes) {
         Some(after) => Some((0, after)),
-        None => base_62_from(bytes),
+        None => {
+            if bytes.starts_with(b"00") {
+                return base_62_from(after_zeros(bytes));
+            }
+            base_62_from(bytes)
+        }
     }
 }
 
