@@ -13,6 +13,9 @@ use idna::{Errors, punycode};
 use std::alloc::Global;
 use sym_edges::OutOfMemory;
 
+/// The length in bytes up to which an identifier is mostly read.
+const SHORT: usize = 64;
+
 /// Whether a byte is a letter, a digit or `_`; most are small letters.
 #[inline(always)]
 fn is_identifier_byte(b: u8) -> bool
@@ -24,10 +27,28 @@ fn is_identifier_byte(b: u8) -> bool
     (b'0' <= b && b <= b'9') || (b'A' <= b && b <= b'Z') || b == b'_'
 }
 
+/// Whether many bytes are letters, digits and `_`. All are looked at, since a loop without a way out takes many at once.
+fn are_many_identifier_bytes(bytes: &[u8]) -> bool
+    ensures { result ≡ list_all v0.is_identifier_byte bytes.now }
+{
+    let mut all = true;
+    for at in 0..bytes.len() {
+        let b = bytes[at];
+        let digit = (b'0' <= b) & (b <= b'9');
+        let capital = (b'A' <= b) & (b <= b'Z');
+        let small = (b'a' <= b) & (b <= b'z');
+        all = all & (digit | capital | (b == b'_') | small);
+    }
+    all
+}
+
 /// Whether bytes are letters, digits and `_`.
 fn are_identifier_bytes(bytes: &[u8]) -> bool
     ensures { result ≡ list_all v0.is_identifier_byte bytes.now }
 {
+    if bytes.len() > SHORT {
+        return are_many_identifier_bytes(bytes);
+    }
     bytes.iter().all(|b| is_identifier_byte(*b))
 }
 
