@@ -532,6 +532,9 @@ pub nested_end : (start bytes after : List ℕ) (space : ℕ) → IsEnd start by
 nested_end start bytes after space ends begins =
     beyond start bytes after ends (subst (λ r. IsEnd r after) (sym begins) (beyond (78 ∷ space ∷ after) (space ∷ after) after (next 78 (space ∷ after)) (next space after)))
 
+pub back_end : (bytes after : List ℕ) → bytes ≡ 66 ∷ after → IsEnd bytes after
+back_end bytes after begins = subst (λ r. IsEnd r after) (sym begins) (next 66 after)
+
 pub expanded_end : (size : ℕ) (frame : Frame) (opened : Bool) (old new : List Frame) (name bytes after : List ℕ) → IsEnd name bytes → Expanded old new (expand size frame opened bytes) (Some after) → IsEnd name after
 expanded_end size frame opened old new name bytes after ends is = beyond name bytes after ends (expanded_by_end old new bytes after (expand size frame opened bytes) (expand_ends size frame opened bytes) is)
 

@@ -20,9 +20,9 @@ use Rattle.rust_names.specs.V0Leaves.{read_leaf}
 use Rattle.rust_names.specs.V0Grammar.{say, is_namespace, type_parts, any_type_parts, deep_parts, deep_by, path_parts, nested_parts, phrase_parts, named_parts, unless_empty}
 use Rattle.rust_names.specs.V0Names.{State, all, read_within, read_level, most_width, after_leaf}
 use Rattle.rust_names.specs.internal.Passing.{IsEnd, Turned}
-use Rattle.rust_names.specs.internal.Running.{inside, in_scope, at, is_made, is_path, expand, Expanded, BeginsPathType, IsTypePath, SameRun, crate_read, name_read, named_read, read_frame, run, weight}
+use Rattle.rust_names.specs.internal.Running.{inside, in_scope, at, is_made, is_path, expand, Expanded, BeginsPathType, IsBackPath, IsTypePath, SameRun, back_of, crate_read, name_read, named_read, read_frame, run, weight}
 use Rattle.rust_names.proofs.NumberLemmas.{front_is}
-use Rattle.rust_names.proofs.EndLemmas.{crate_end}
+use Rattle.rust_names.proofs.EndLemmas.{here, back_end, crate_end}
 use Rattle.rust_names.proofs.RunLemmas.{made_same, made_lighter, plain_turn}
 
 pub path_made : (p : Part) → is_path p ≡ true → is_made p ≡ true
@@ -148,6 +148,56 @@ type_so name f path below bytes is = record {
 
 pub type_entered : (name : List ℕ) (f path : Frame) (below : List Frame) (bytes : List ℕ) → is_made f.part ≡ true → (path ≡ f) ⊎ IsTypePath (length name) f path bytes → Entered name f path below bytes
 type_entered name f path below bytes made is = ⊎_elim (left_so name f path below bytes made) (type_so name f path below bytes) is
+
+-- a path that is a backreference
+
+back_at : (size : ℕ) (scope : Scope) (levels width : ℕ) (p : Part) (opened : Bool) (after : List ℕ) → is_path p ≡ true → expand size (inside scope (suc levels) width p) opened (66 ∷ after) ≡ Some (inside scope levels (size + 8) (back_of p) ∷ [], after)
+unfolding expand deep_parts deep_by path_parts front
+back_at size scope levels width (Deep kind.Path) opened after is = refl
+back_at size scope levels width (Deep kind.ValuePath) opened after is = refl
+back_at size scope levels width p opened after is = cc
+
+back_in : (size : ℕ) (scope : Scope) (levels width : ℕ) (p : Part) (opened : Bool) (after : List ℕ) → levels ≢ 0 → is_path p ≡ true → expand size (inside scope levels width p) opened (66 ∷ after) ≡ Some (inside scope (levels - 1) (size + 8) (back_of p) ∷ [], after)
+back_in size scope zero width p opened after some is = absurd (some refl)
+back_in size scope (suc levels) width p opened after some is =
+    back_at size scope levels width p opened after is ∙ ap (λ l. Some (inside scope l (size + 8) (back_of p) ∷ [], after)) (let e : levels ≡ suc levels - 1 = omega arith in e)
+
+back_expanded : (size : ℕ) (f back : Frame) (below : List Frame) (opened : Bool) (bytes after : List ℕ) → IsBackPath size f back bytes after → Expanded below (below ++ back ∷ []) (expand size f opened bytes) (Some after)
+back_expanded size f back below opened bytes after is =
+    subst (λ g. Expanded below (below ++ g ∷ []) (expand size f opened bytes) (Some after)) (sym is.2)
+    (one_frame below (inside f.scope (f.levels - 1) (size + 8) (back_of f.part)) after (expand size f opened bytes) (ap (expand size f opened) is.3 ∙ back_in size f.scope f.levels f.width f.part opened after is.0 is.1))
+
+back_made : (p : Part) → is_path p ≡ true → is_made (back_of p) ≡ true
+back_made (Deep k) is = refl
+back_made (Back k) is = cc
+back_made (Made p) is = cc
+back_made (Within p) is = cc
+back_made (Read p) is = cc
+back_made (Goto q) is = cc
+back_made (Opened b) is = cc
+
+-- a frame that was made that of a backreference, or left as it is
+pub record Backed (name : List ℕ) (f back : Frame) (below : List Frame) (bytes after : List ℕ) : Type 0 where
+  pub same : SameRun name (below ++ f ∷ []) bytes (below ++ back ∷ []) after
+  pub lighter : weight (length name) (below ++ back ∷ []) ≤ weight (length name) (below ++ f ∷ [])
+  pub made : is_made back.part ≡ true
+  pub ends : IsEnd bytes after
+
+not_back : (name : List ℕ) (f back : Frame) (below : List Frame) (bytes after : List ℕ) → is_made f.part ≡ true → (back ≡ f) × (after ≡ bytes) → Backed name f back below bytes after
+not_back name f back below bytes after made is =
+    subst (λ p. Backed name f p below bytes after) (sym is.0)
+    (subst (λ r. Backed name f f below bytes r) (sym is.1) (record { same = λ text opened. refl; lighter = omega arith; made = made; ends = here bytes }))
+
+back_so : (name : List ℕ) (f back : Frame) (below : List Frame) (bytes after : List ℕ) → IsBackPath (length name) f back bytes after → Backed name f back below bytes after
+back_so name f back below bytes after is = record {
+  same = λ text opened. made_same name f below (below ++ back ∷ []) bytes text after opened (path_made f.part is.1) (back_expanded (length name) f back below opened bytes after is);
+  lighter = omega (arith, made_lighter (length name) f below (below ++ back ∷ []) false bytes after (path_made f.part is.1) (back_expanded (length name) f back below false bytes after is));
+  made = ap (λ (g : Frame). is_made g.part) is.2 ∙ back_made f.part is.1;
+  ends = back_end bytes after is.3;
+}
+
+pub backed : (name : List ℕ) (f back : Frame) (below : List Frame) (bytes after : List ℕ) → is_made f.part ≡ true → ((back ≡ f) × (after ≡ bytes)) ⊎ IsBackPath (length name) f back bytes after → Backed name f back below bytes after
+backed name f back below bytes after made is = ⊎_elim (not_back name f back below bytes after made) (back_so name f back below bytes after) is
 
 -- leaves one after the other
 

@@ -7,7 +7,7 @@ ghost use Rattle.rust_names.specs.declared.grammar.Phrase.TheVariants as phrase;
 ghost use Rattle.rust_names.specs.V0Grammar as v0;
 ghost use Rattle.rust_names.specs.V0Numbers.{eat, front};
 ghost use Rattle.rust_names.specs.internal.Passing.{IsEnd};
-ghost use Rattle.rust_names.specs.internal.Running.{BeginsPathType, IsTypePath, SameRun, crate_read, is_made, is_path, name_read, named_read, weight};
+ghost use Rattle.rust_names.specs.internal.Running.{BeginsPathType, IsBackPath, IsTypePath, SameRun, back_of, crate_read, is_made, is_path, name_read, named_read, weight};
 
 use crate::grammar::{Frame, Kind, Part, Phrase, Scope};
 use crate::leaves::{read_disambiguator, read_identifier, read_word};
@@ -129,7 +129,35 @@ fn nested_front<'a>(frame: Frame, bytes: &'a [u8]) -> Option<(u8, &'a [u8])>
     }
 }
 
-/// Enters nested paths, whose names it puts onto the stack: the frame is then what stands in all of them. What is left.
+/// The backreference that a path is.
+#[inline(always)]
+fn back_of(part: Part) -> Part
+    ensures { result ≡ back_of part }
+{
+    match part {
+        Part::Deep(kind) => Part::Back(kind),
+        other => other,
+    }
+}
+
+/// Makes the frame of a path that of a backreference, where it is one. What is left.
+#[inline(always)]
+fn enter_back<'a>(frame: &mut Frame, size: usize, bytes: &'a [u8]) -> &'a [u8]
+    requires { size < 2 ^ 63 }
+    ensures { ((frame.new ≡ frame.old) × (result.now ≡ bytes.now)) ⊎ IsBackPath size frame.old frame.new bytes.now result.now }
+{
+    match path_front(b'B', *frame, bytes) {
+        Some(after) => {
+            frame.part = back_of(frame.part);
+            frame.levels -= 1;
+            frame.width = size + 8;
+            after
+        }
+        None => bytes,
+    }
+}
+
+/// Enters nested paths, whose names it puts onto the stack, and a backreference: the frame is then what stands in all of them. What is left.
 #[inline(always)]
 pub(crate) fn enter<'a>(
     stack: &mut Vec<Frame>,
@@ -156,7 +184,7 @@ pub(crate) fn enter<'a>(
         })?;
         rest = after;
     }
-    Ok(rest)
+    Ok(enter_back(frame, name.len(), rest))
 }
 
 /// The name of a crate.

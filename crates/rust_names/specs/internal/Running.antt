@@ -141,6 +141,15 @@ abbrev pub IsTypePath : ℕ → Frame → Frame → List ℕ → Type 0
 IsTypePath size frame path bytes =
     (frame.part ≡ Made phrase.AnyType) × (frame.levels ≢ 0) × (frame.width ≢ 0) × (path ≡ inside frame.scope (frame.levels - 1) (size + 8) (Deep kind.Path)) × BeginsPathType (front bytes)
 
+-- the frame of the backreference that a path is, and what stands after its letter
+abbrev pub back_of : Part → Part
+back_of (Deep k) = Back k
+back_of p = p
+
+abbrev pub IsBackPath : ℕ → Frame → Frame → List ℕ → List ℕ → Type 0
+IsBackPath size frame back bytes after =
+    (frame.levels ≢ 0) × (is_path frame.part ≡ true) × (back ≡ inside frame.scope (frame.levels - 1) (size + 8) (back_of frame.part)) × (bytes ≡ 66 ∷ after)
+
 -- a bound on the steps that frames take
 unfoldable pub within_weight : ℕ → ℕ → ℕ
 within_weight level zero = 1
