@@ -51,7 +51,7 @@ fn list_between<T>(members: &[T], start: usize, end: usize) -> &[T]
     list
 }
 
-impl<T: Copy> FlatLists<T> {
+impl<T> FlatLists<T> {
     /// No list yet. Takes no memory.
     pub fn new(alloc: Global) -> FlatLists<T>
         ensures { result ≡ [] }
@@ -76,10 +76,10 @@ impl<T: Copy> FlatLists<T> {
         })
     }
 
-    /// Adds a list. Where memory runs out, nothing changes.
+    /// Adds a list, whose members are moved. Where memory runs out, nothing changes.
     #[tactic(auto, using(crate::proofs::EndLemmas::list_added, crate::proofs::EndLemmas::end_added))]
-    pub fn push(&mut self, list: &[T]) -> Result<(), OutOfMemory>
-        ensures added { OnOk result (self.new ≡ self.old ++ list.now ∷ []) }
+    pub fn append(&mut self, list: &mut Vec<T>) -> Result<(), OutOfMemory>
+        ensures added { OnOk result (self.new ≡ self.old ++ list.old.items ∷ []) }
         ensures kept { OnErr result (self.new ≡ self.old) }
     {
         let end = self.members.len().saturating_add(list.len());
@@ -87,29 +87,9 @@ impl<T: Copy> FlatLists<T> {
             return Err(OutOfMemory);
         }
         self.ends.reserve(1)?;
-        self.members.extend_from_slice(list)?;
+        self.members.append(list)?;
         self.ends.push_reserved(end as u32);
         Ok(())
-    }
-
-    /// Forgets all lists, and makes room for so many: the memory of those before is used again.
-    pub fn clear(&mut self, lists: usize) -> Result<(), OutOfMemory>
-        ensures { OnOk result (self.new ≡ []) }
-    {
-        self.ends.clear();
-        self.members.clear();
-        self.ends.reserve(lists)?;
-        Ok(())
-    }
-
-    /// The same lists, in no more room than they take.
-    pub fn copied(&self, alloc: Global) -> Result<FlatLists<T>, OutOfMemory>
-        ensures { IfOk result (λ lists. lists ≡ self.now) }
-    {
-        Ok(FlatLists {
-            ends: Vec::from_slice(alloc, self.ends.as_slice())?,
-            members: Vec::from_slice(alloc, self.members.as_slice())?,
-        })
     }
 
     /// Gives back the room that no list took.
@@ -151,5 +131,43 @@ impl<T: Copy> FlatLists<T> {
             Some(list) => list,
             None => unreachable!(),
         }
+    }
+}
+
+impl<T: Copy> FlatLists<T> {
+    /// Adds a list. Where memory runs out, nothing changes.
+    #[tactic(auto, using(crate::proofs::EndLemmas::list_added, crate::proofs::EndLemmas::end_added))]
+    pub fn push(&mut self, list: &[T]) -> Result<(), OutOfMemory>
+        ensures added { OnOk result (self.new ≡ self.old ++ list.now ∷ []) }
+        ensures kept { OnErr result (self.new ≡ self.old) }
+    {
+        let end = self.members.len().saturating_add(list.len());
+        if end > u32::MAX as usize {
+            return Err(OutOfMemory);
+        }
+        self.ends.reserve(1)?;
+        self.members.extend_from_slice(list)?;
+        self.ends.push_reserved(end as u32);
+        Ok(())
+    }
+
+    /// Forgets all lists, and makes room for so many: the memory of those before is used again.
+    pub fn clear(&mut self, lists: usize) -> Result<(), OutOfMemory>
+        ensures { OnOk result (self.new ≡ []) }
+    {
+        self.ends.clear();
+        self.members.clear();
+        self.ends.reserve(lists)?;
+        Ok(())
+    }
+
+    /// The same lists, in no more room than they take.
+    pub fn copied(&self, alloc: Global) -> Result<FlatLists<T>, OutOfMemory>
+        ensures { IfOk result (λ lists. lists ≡ self.now) }
+    {
+        Ok(FlatLists {
+            ends: Vec::from_slice(alloc, self.ends.as_slice())?,
+            members: Vec::from_slice(alloc, self.members.as_slice())?,
+        })
     }
 }
