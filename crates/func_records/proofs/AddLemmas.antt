@@ -18,7 +18,6 @@ use Rattle.func_flatten.specs.declared.piece.Piece.{Piece}
 use Rattle.func_flatten.specs.declared.line_run.LineRun.{LineRun}
 use Rattle.func_flatten.specs.LineRuns.{paths_in, number_run, unit_paths, AreLineRuns}
 use Rattle.inline_chain.specs.InlineRuns.{InlineParts}
-use Rattle.die_names.specs.declared.name_source.NameRef.{NameRef}
 use Rattle.func_records.specs.declared.numbers.Numbers.{Numbers}
 use Rattle.func_records.specs.internal.Texts.{text_cmp, SameTexts}
 use Rattle.func_records.specs.FuncRecords.{Part, pieces_of, path_in, call_path, call_line, number_in, file_lines, origin_lines, extent, func_record, inline_record, line_record, part_lines, AreLined, names_path, names_origin}
@@ -26,7 +25,7 @@ use Rattle.debug_units.specs.CallPaths.{no_path}
 use Rattle.func_records.specs.internal.Calls.{call_number, path_or, IsPathed, IsKnown, AreKnown, AreAllKnown}
 use Rattle.func_records.specs.internal.Gathering.{bytes_of, has_text, ArePathed, AreHeld, Gathered, copies_of}
 use Rattle.func_records.specs.internal.Spelling.{number_or_0, unit_numbers, line_by, row_of}
-use Rattle.func_records.specs.internal.Origins.{made_name, entry_names, all_names, beside, name_number, AddsNames}
+use Rattle.func_records.specs.internal.Origins.{made_name, entry_names, all_names, all_refs, beside, name_number, AddsNames}
 use Rattle.func_records.specs.internal.Parts.{file_by, inline_by, parts_by, AddsParts}
 use Rattle.func_records.specs.Adding.{AddsFunctions}
 use Rattle.func_records.proofs.PathLemmas.{all_pathed}
@@ -180,20 +179,19 @@ names_in_parts units name (p ∷ parts) =
     ∙ ap (λ b. names_origin units name p || b) (names_in_parts units name parts)
 
 -- the numbers beside the names that entries give are those of the names
-names_beside : (units : List UnitRead) (refs : List NameRef) (numbers : Numbers) (old new : List ℕ) → numbers.entries.now ≡ refs → (added : AddsNames units refs numbers.numbers.now old new) → AreBeside numbers units added.names
-names_beside units refs numbers old new entries added name has =
-    ap (λ (rs : List NameRef). beside (map (made_name units) rs) numbers.numbers.now name) entries
-    ∙ ap (λ ns. beside (map (made_name units) refs) ns name) added.are
-    ∙ number_beside (number_or_0 added.names) (map (made_name units) refs) name (sym (added.same name) ∙ has)
+names_beside : (units : List UnitRead) (numbers : Numbers) (old new : List ℕ) → (added : AddsNames units (all_refs numbers.entries.now) numbers.numbers.now old new) → AreBeside numbers units added.names
+names_beside units numbers old new added name has =
+    ap (λ ns. beside (map (made_name units) (all_refs numbers.entries.now)) ns name) added.are
+    ∙ number_beside (number_or_0 added.names) (map (made_name units) (all_refs numbers.entries.now)) name (sym (added.same name) ∙ has)
     ∙ number_there added.names name has
 
 -- all together
-pub functions_added : (base : ℕ) (units : List UnitRead) (pieces : List Piece) (held : List (List InlineParts)) (used sorted : List (Bor (List ℕ))) (refs : List NameRef) (numbers : Numbers) (old filed named new : List ℕ) → AreHeld units pieces held → Gathered units pieces held (has_text used) → IsStrictlySortedBy text_cmp sorted → SameTexts used sorted
-    → ((name : List ℕ) → list_any (bytes_eq name) (map (made_name units) refs) ≡ list_any (bytes_eq name) (all_names units pieces held))
-    → numbers.rows.now ≡ unit_numbers (bytes_of sorted) units → numbers.omitted ≡ number_or_0 (bytes_of sorted) no_path → numbers.entries.now ≡ refs
-    → filed ≡ old ++ canon_text (file_lines 0 (bytes_of sorted)) → first_bad_from 0 Inside (file_lines 0 (bytes_of sorted)) ≡ None → AddsNames units refs numbers.numbers.now filed named
+pub functions_added : (base : ℕ) (units : List UnitRead) (pieces : List Piece) (held : List (List InlineParts)) (used sorted : List (Bor (List ℕ))) (numbers : Numbers) (old filed named new : List ℕ) → AreHeld units pieces held → Gathered units pieces held (has_text used) → IsStrictlySortedBy text_cmp sorted → SameTexts used sorted
+    → ((name : List ℕ) → list_any (bytes_eq name) (map (made_name units) (all_refs numbers.entries.now)) ≡ list_any (bytes_eq name) (all_names units pieces held))
+    → numbers.rows.now ≡ unit_numbers (bytes_of sorted) units → numbers.omitted ≡ number_or_0 (bytes_of sorted) no_path
+    → filed ≡ old ++ canon_text (file_lines 0 (bytes_of sorted)) → first_bad_from 0 Inside (file_lines 0 (bytes_of sorted)) ≡ None → AddsNames units (all_refs numbers.entries.now) numbers.numbers.now filed named
     → AddsParts base numbers units pieces held named new → AddsFunctions base units pieces old new
-functions_added base units pieces held used sorted refs numbers old filed named new are gathered strict same all_texts rows omitted entries files files_fit origins adds =
+functions_added base units pieces held used sorted numbers old filed named new are gathered strict same all_texts rows omitted files files_fit origins adds =
     let paths : List (List ℕ) = bytes_of sorted in
     let owners : List (List ℕ) = origins.names in
     let parts : gathered.parts ≡ adds.parts = one_parts units gathered.parts adds.parts (gathered.pieces_are ∙ sym adds.pieces_are) (gathered.copies_are ∙ sym adds.copies_are) gathered.lines_are adds.lines_are in
@@ -207,7 +205,7 @@ functions_added base units pieces held used sorted refs numbers old filed named 
     ∙ ap (λ (cs : List (List InlineParts)). list_any (bytes_eq name) (all_names units (pieces_of adds.parts) cs)) (sym adds.copies_are)
     ∙ names_in_parts units name adds.parts in
     let spelled : parts_by base numbers units adds.parts ≡ part_lines base paths owners units adds.parts
-    = parts_same base paths owners numbers units adds.parts rows omitted (names_beside units refs numbers filed named entries origins) adds.lines_are known (λ path had. path_same path ∙ had) (λ name had. name_same name ∙ had) in
+    = parts_same base paths owners numbers units adds.parts rows omitted (names_beside units numbers filed named origins) adds.lines_are known (λ path had. path_same path ∙ had) (λ name had. name_same name ∙ had) in
     let functions : List SymLine = part_lines base paths owners units adds.parts in
     record {
       records = file_lines 0 paths ++ (origin_lines 0 owners ++ functions);

@@ -17,6 +17,12 @@ take_more (y ∷ xs) (suc n) x is =
 pub take_next : {X : Type 0} (xs : List X) (n : ℕ) (d : X) → n < length xs → take (n + 1) xs ≡ take n xs ++ get_or xs n d ∷ []
 take_next xs n d below = take_more xs n (get_or xs n d) (slice_get-get_or xs n d below)
 
+-- a member that is there is the one at its place
+pub member_at : {X : Type 0} (xs : List X) (n : ℕ) (x : X) → Some x ≡ slice_get xs n → x ≡ get_or xs n x
+member_at [] n x is = absurd (cc)
+member_at (y ∷ xs) zero x is = let same : x ≡ y = cc in same
+member_at (y ∷ xs) (suc n) x is = member_at xs n x is
+
 -- what is left of a list
 pub drop_next : {X : Type 0} (xs : List X) (n : ℕ) (d : X) → n < length xs → drop n xs ≡ get_or xs n d ∷ drop (n + 1) xs
 drop_next [] n d below = absurd (omega (arith, below))

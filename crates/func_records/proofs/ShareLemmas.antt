@@ -19,10 +19,10 @@ use Rattle.func_records.specs.declared.path_list.PathRef.{PathRef}
 use Rattle.func_records.specs.FuncRecords.{Part, pieces_of, AreLined, EndBelow, names_path}
 use Rattle.func_records.specs.internal.Calls.{AreAllKnown}
 use Rattle.func_records.specs.internal.Gathering.{bytes_of, path_at, has_path, AreHeld, Gathered, copies_of}
-use Rattle.func_records.specs.internal.Origins.{made_name, entry_names, all_names, all_numbers, name_number, ref_numbers}
+use Rattle.func_records.specs.internal.Origins.{made_name, entry_names, all_names, all_refs, all_numbers, name_number, ref_numbers}
 use Rattle.func_records.specs.internal.Parts.{part_by, parts_by, AddsParts}
 use Rattle.unit_workers.specs.Shares.{share}
-use Rattle.func_records.specs.internal.Shares.{all_held, all_refs, all_paths, IsFound, AreFound, AreSplit}
+use Rattle.func_records.specs.internal.Shares.{all_held, all_paths, IsFound, AreFound, AreSplit}
 use Rattle.func_records.proofs.ListLemmas.{take_next, drop_next}
 use Rattle.func_records.proofs.CanonLemmas.{canon_join}
 use Rattle.func_records.proofs.HoldLemmas.{held_count}
@@ -107,9 +107,9 @@ pub record AreJoined (units : List UnitRead) (pieces : List Piece) (shares : Lis
 
 found_joined : (units : List UnitRead) (pieces more : List Piece) (s : FoundShare) (shares : List FoundShare) → IsFound units pieces s → AreJoined units more shares → AreJoined units (pieces ++ more) (s ∷ shares)
 found_joined units pieces more s shares first second = record {
-  held = held_joined units pieces more s.held.items (all_held shares) first.held second.held;
-  names = λ name. names_had units pieces more s.held.items (all_held shares) s.refs.items (all_refs shares) name (held_count units pieces s.held.items first.held) (first.names.same name) (second.names name);
-  paths = gathered_joined units pieces more s.held.items (all_held shares) s.paths.items (all_paths shares) first.paths second.paths;
+  held = held_joined units pieces more s.held (all_held shares) first.held second.held;
+  names = λ name. names_had units pieces more s.held (all_held shares) s.refs.items (all_refs shares) name (held_count units pieces s.held first.held) (first.names.same name) (second.names name);
+  paths = gathered_joined units pieces more s.held (all_held shares) s.paths.items (all_paths shares) first.paths second.paths;
 }
 
 found_shares : (units : List UnitRead) (shares : List FoundShare) (pieces : List Piece) → length pieces ≤ 512 * length shares → ((k : ℕ) (d : FoundShare) → k < length shares → IsFound units (share 512 k pieces) (get_or shares k d)) → AreJoined units pieces shares
@@ -183,9 +183,9 @@ numbers_behind numbers units shares k d rest below is =
     ∙ drop-append_seam here (ref_numbers numbers units (all_refs (drop (k + 1) shares)))
 
 -- the numbers of a share's copies
-pub share_numbers : (numbers : Numbers) (units : List UnitRead) (pieces : List Piece) (s : FoundShare) (known : List ℕ) → IsFound units pieces s → known ≡ ref_numbers numbers units s.refs.items → map (λ k. unwrap_or (slice_get known k) 0) s.places.items ≡ all_numbers numbers units pieces s.held.items
+pub share_numbers : (numbers : Numbers) (units : List UnitRead) (pieces : List Piece) (s : FoundShare) (known : List ℕ) → IsFound units pieces s → known ≡ ref_numbers numbers units s.refs.items → map (λ k. unwrap_or (slice_get known k) 0) s.places.items ≡ all_numbers numbers units pieces s.held
 share_numbers numbers units pieces s known found is =
-    places_numbered (name_number numbers units) (map (made_name units) s.refs.items) known s.places.items (all_names units pieces s.held.items) is found.names.at
+    places_numbered (name_number numbers units) (map (made_name units) s.refs.items) known s.places.items (all_names units pieces s.held) is found.names.at
 
 -- the records of all shares
 below_joined : (limit : ℕ) (pieces more : List Piece) → EndBelow limit pieces → EndBelow limit more → EndBelow limit (pieces ++ more)
@@ -211,22 +211,22 @@ parts_joined base numbers units pieces more held others old mid new first second
   below = below_joined (2 ^ 64) pieces more first.below second.below;
 }
 
-shares_spelled : {X : Type 0} (f : X → List ℕ) (base : ℕ) (numbers : Numbers) (units : List UnitRead) (texts : List X) (shares : List FoundShare) (pieces : List Piece) → length texts ≡ length shares → length pieces ≤ 512 * length shares → ((k : ℕ) (d : X) (e : FoundShare) → k < length shares → AddsParts base numbers units (share 512 k pieces) (get_or shares k e).held.items [] (f (get_or texts k d))) → AddsParts base numbers units pieces (all_held shares) [] (flat_map f texts)
+shares_spelled : {X : Type 0} (f : X → List ℕ) (base : ℕ) (numbers : Numbers) (units : List UnitRead) (texts : List X) (shares : List FoundShare) (pieces : List Piece) → length texts ≡ length shares → length pieces ≤ 512 * length shares → ((k : ℕ) (d : X) (e : FoundShare) → k < length shares → AddsParts base numbers units (share 512 k pieces) (get_or shares k e).held [] (f (get_or texts k d))) → AddsParts base numbers units pieces (all_held shares) [] (flat_map f texts)
 shares_spelled f base numbers units [] [] pieces same inside each =
     subst (λ (ps : List Piece). AddsParts base numbers units ps [] [] []) (sym (nil_from_length pieces (omega (arith, inside)))) (parts_none base numbers units [])
 shares_spelled f base numbers units [] (s ∷ shares) pieces same inside each = absurd (omega (arith, same))
 shares_spelled f base numbers units (t ∷ texts) [] pieces same inside each = absurd (omega (arith, same))
 shares_spelled f base numbers units (t ∷ texts) (s ∷ shares) pieces same inside each =
-    subst (λ (ps : List Piece). AddsParts base numbers units ps (s.held.items ++ all_held shares) [] (f t ++ flat_map f texts)) (take-append-drop 512 pieces)
-    (parts_joined base numbers units (take 512 pieces) (drop 512 pieces) s.held.items (all_held shares) [] (f t) (flat_map f texts)
-    (subst (λ (ps : List Piece). AddsParts base numbers units ps s.held.items [] (f t)) (share_first pieces) (each 0 t s (omega arith)))
+    subst (λ (ps : List Piece). AddsParts base numbers units ps (s.held ++ all_held shares) [] (f t ++ flat_map f texts)) (take-append-drop 512 pieces)
+    (parts_joined base numbers units (take 512 pieces) (drop 512 pieces) s.held (all_held shares) [] (f t) (flat_map f texts)
+    (subst (λ (ps : List Piece). AddsParts base numbers units ps s.held [] (f t)) (share_first pieces) (each 0 t s (omega arith)))
     (shares_spelled f base numbers units texts shares (drop 512 pieces)
     (omega (arith, same)) (omega (arith, inside, length-drop 512 pieces))
     (λ k d e below.
-    subst (λ (ps : List Piece). AddsParts base numbers units ps (get_or shares k e).held.items [] (f (get_or texts k d))) (sym (share_next k pieces))
+    subst (λ (ps : List Piece). AddsParts base numbers units ps (get_or shares k e).held [] (f (get_or texts k d))) (sym (share_next k pieces))
     (each (suc k) d e (omega (arith, below))))))
 
-pub shares_added : {X : Type 0} (f : X → List ℕ) (base : ℕ) (numbers : Numbers) (units : List UnitRead) (texts : List X) (shares : List FoundShare) (pieces : List Piece) (old new : List ℕ) → length texts ≡ length shares → length pieces ≤ 512 * length shares → ((k : ℕ) (d : X) (e : FoundShare) → k < length shares → AddsParts base numbers units (share 512 k pieces) (get_or shares k e).held.items [] (f (get_or texts k d))) → new ≡ old ++ flat_map f texts → AddsParts base numbers units pieces (all_held shares) old new
+pub shares_added : {X : Type 0} (f : X → List ℕ) (base : ℕ) (numbers : Numbers) (units : List UnitRead) (texts : List X) (shares : List FoundShare) (pieces : List Piece) (old new : List ℕ) → length texts ≡ length shares → length pieces ≤ 512 * length shares → ((k : ℕ) (d : X) (e : FoundShare) → k < length shares → AddsParts base numbers units (share 512 k pieces) (get_or shares k e).held [] (f (get_or texts k d))) → new ≡ old ++ flat_map f texts → AddsParts base numbers units pieces (all_held shares) old new
 shares_added f base numbers units texts shares pieces old new same inside each is =
     subst (λ (t : List ℕ). AddsParts base numbers units pieces (all_held shares) old t) (sym is)
     (parts_joined base numbers units [] pieces [] (all_held shares) old old (flat_map f texts) (parts_none base numbers units old) (shares_spelled f base numbers units texts shares pieces same inside each))

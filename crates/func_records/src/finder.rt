@@ -10,28 +10,34 @@ use crate::paths::gather_paths;
 use crate::shares::{SHARE, share_count};
 use debug_units::Units;
 use die_names::LinkGuesses;
+use flat_lists::FlatLists;
 use func_flatten::Piece;
-use inline_chain::{InlineRuns, InlineTrees, LevelLists, inlines};
+use inline_chain::{InlineRun, InlineTrees, LevelLists, inlines};
 use std::alloc::Global;
 use std::marker::Model;
 use std::thread::Threads;
 use sym_edges::OutOfMemory;
 use unit_workers::{Crew, NoGate, UnitJob, share_of};
 
-/// The inlined copies of some pieces, each.
+/// Room for the copies of a share, which are then not moved as they grow. What they do not take is given back.
+const ROOM: usize = 1 << 16;
+
+/// The inlined copies of some pieces, those of each in a list.
 fn find_copies(
     alloc: Global,
     trees: &InlineTrees<'_, '_>,
     pieces: &[Piece],
     levels: &mut LevelLists,
-) -> Result<Vec<InlineRuns>, OutOfMemory>
-    ensures are { IfOk result (λ held. AreHeld trees.now pieces.now held.items) }
-    ensures count { IfOk result (λ held. length held.items ≡ length pieces.now) }
+) -> Result<FlatLists<InlineRun>, OutOfMemory>
+    ensures are { IfOk result (λ held. AreHeld trees.now pieces.now held) }
+    ensures count { IfOk result (λ held. length held ≡ length pieces.now) }
 {
-    let mut held = Vec::with_capacity(alloc, pieces.len())?;
+    let mut held = FlatLists::with_room(alloc, pieces.len(), ROOM)?;
     'pieces: for place in 0..pieces.len() {
-        held.push(inlines(alloc, trees, &pieces[place], levels)?)?;
+        let mut copies = inlines(alloc, trees, &pieces[place], levels)?.into_vec();
+        held.append(&mut copies)?;
     }
+    held.shrink();
     Ok(held)
 }
 
@@ -87,9 +93,8 @@ impl<'t, 'u, 'a> ShareFinder<'t, 'u, 'a> {
         ensures { IfOk result (λ found. IsFound self.now.units pieces.now found) }
     {
         let held = find_copies(alloc, self.trees, pieces, &mut scratch.levels)?;
-        let copies = held.as_slice();
-        let origins = gather_refs(alloc, self.units, pieces, copies, &mut scratch.links)?;
-        let paths = gather_paths(alloc, self.units, pieces, copies)?;
+        let origins = gather_refs(alloc, self.units, pieces, &held, &mut scratch.links)?;
+        let paths = gather_paths(alloc, self.units, pieces, &held)?;
         let (refs, places) = origins.into_parts();
         Ok(FoundShare {
             held,

@@ -76,15 +76,17 @@ pub fn add_functions<R: Threads + Sync>(
     let rows = number_rows(crew, units, paths)?;
     let mut text = front;
     add_texts(alloc, Numbering::Files, paths, &mut text)?;
-    let refs = join_refs(alloc, shares)?;
-    let numbers = add_names(crew, units, refs.as_slice(), &mut text)?;
+    let numbers = {
+        let refs = join_refs(alloc, shares)?;
+        add_names(crew, units, refs.as_slice(), &mut text)?
+    };
     let writer = FuncWriter {
         base,
         units,
         numbers: Numbers {
             rows: rows.as_slice(),
             omitted: number_of(paths, no_path()),
-            entries: refs.as_slice(),
+            entries: shares,
             numbers: numbers.as_slice(),
         },
     };

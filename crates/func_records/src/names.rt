@@ -1,9 +1,8 @@
 //! The names of the functions that were inlined.
 ghost use Rattle.std.specs.Prelude.{◌≡◌, map, IfOk};
 ghost use Rattle.std.specs.List.{flat_map};
-ghost use Rattle.func_records.specs.internal.Origins.{made_name};
+ghost use Rattle.func_records.specs.internal.Origins.{made_name, all_refs};
 ghost use Rattle.unit_workers.specs.Shares.{share};
-ghost use Rattle.func_records.specs.internal.Shares.{all_refs};
 
 use crate::found::FoundShare;
 use crate::made_names::MadeName;
@@ -16,11 +15,20 @@ use std::thread::Threads;
 use sym_edges::OutOfMemory;
 use unit_workers::{Crew, NoGate, UnitJob, share_of};
 
+/// How many entries all shares have.
+fn count_refs(shares: &[FoundShare]) -> usize {
+    let mut count: usize = 0;
+    for share in shares {
+        count = count.saturating_add(share.refs.len());
+    }
+    count
+}
+
 /// The entries that name the functions that were inlined, share after share.
 pub fn join_refs(alloc: Global, shares: &[FoundShare]) -> Result<Vec<NameRef>, OutOfMemory>
     ensures { IfOk result (λ refs. refs.items ≡ all_refs shares.now) }
 {
-    let mut refs = Vec::new(alloc);
+    let mut refs = Vec::with_capacity(alloc, count_refs(shares))?;
     'shares: for k in 0..shares.len() {
         refs.extend_from_slice(shares[k].refs.as_slice())?;
     }

@@ -6,17 +6,17 @@ ghost use Rattle.func_records.specs.internal.Texts.{text_cmp};
 ghost use Rattle.func_records.specs.internal.Gathering.{bytes_of};
 ghost use Rattle.func_records.specs.internal.Spelling.{number_or_0, row_of};
 
-use die_names::NameRef;
+use crate::found::FoundShare;
 use std::alloc::Global;
 use sym_edges::{ListOf, OutOfMemory};
 
-/// The numbers in the text: of the paths of each unit's table, of the text for a path that is not known, and of the name that each of some
-/// entries gives.
+/// The numbers in the text: of the paths of each unit's table, of the text for a path that is not known, and of the name that each of
+/// the entries of some shares gives.
 #[derive(Clone, Copy)]
 pub struct Numbers<'n> {
     pub rows: &'n [ListOf<u32>],
     pub omitted: u32,
-    pub entries: &'n [NameRef],
+    pub entries: &'n [FoundShare],
     pub numbers: &'n [u32],
 }
 

@@ -5,8 +5,9 @@ ghost use Rattle.func_records.specs.internal.Origins.{made_name, entry_names, al
 
 use debug_units::Units;
 use die_names::{LinkGuesses, NameRef, name_by};
+use flat_lists::FlatLists;
 use func_flatten::Piece;
-use inline_chain::{InlineRun, InlineRuns};
+use inline_chain::InlineRun;
 use place_guesses::PlaceGuesses;
 use std::alloc::Global;
 use std::marker::Model;
@@ -48,16 +49,18 @@ impl OriginRefs {
         })
     }
 
-    /// The references, and the places.
+    /// The references, and the places, in no more room than they take.
     pub fn into_parts(self) -> (Vec<NameRef>, Vec<u32>)
         ensures refs { result.0.items ≡ self.refs }
         ensures places { result.1.items ≡ self.places }
     {
         let OriginRefs {
-            refs,
-            places,
+            mut refs,
+            mut places,
             guesses: _,
         } = self;
+        refs.shrink_to_fit();
+        places.shrink_to_fit();
         (refs, places)
     }
 
@@ -95,7 +98,7 @@ pub fn gather_refs(
     alloc: Global,
     units: &Units<'_>,
     pieces: &[Piece],
-    held: &[InlineRuns],
+    held: &FlatLists<InlineRun>,
     links: &mut LinkGuesses,
 ) -> Result<OriginRefs, OutOfMemory>
     requires { length held.now ≡ length pieces.now }
@@ -103,7 +106,7 @@ pub fn gather_refs(
 {
     let mut origins = OriginRefs::new(alloc, SLOTS)?;
     'pieces: for place in 0..pieces.len() {
-        origins.add_copies(units, pieces[place].unit, held[place].as_slice(), links)?;
+        origins.add_copies(units, pieces[place].unit, held.at(place), links)?;
     }
     Ok(origins)
 }

@@ -16,8 +16,9 @@ use crate::inlines::add_copies;
 use crate::numbers::{number_in, row_in};
 use crate::writer::FuncWriter;
 use die_names::{name_of, name_slice, name_text};
+use flat_lists::FlatLists;
 use func_flatten::{LineRun, Piece, lines_of};
-use inline_chain::{InlineRun, InlineRuns};
+use inline_chain::InlineRun;
 use std::alloc::Global;
 use sym_edges::OutOfMemory;
 use sym_records::laws::{cleaned_bytes_are_names, records_of_functions_fit};
@@ -108,7 +109,7 @@ pub fn add_parts(
     alloc: Global,
     writer: &FuncWriter<'_, '_, '_>,
     pieces: &[Piece],
-    held: &[InlineRuns],
+    held: &FlatLists<InlineRun>,
     origins: &[u32],
     text: &mut TextPieces,
 ) -> Result<(), OutOfMemory>
@@ -123,7 +124,7 @@ pub fn add_parts(
     };
     let mut rest = origins;
     'pieces: for place in 0..pieces.len() {
-        let copies = held[place].as_slice();
+        let copies = held.at(place);
         let (here, later) = rest.split_at(copies.len());
         rest = later;
         add_part(

@@ -100,11 +100,15 @@ impl PathList {
         })
     }
 
-    /// The paths.
+    /// The paths, in no more room than they take.
     pub fn into_refs(self) -> Vec<PathRef>
         ensures { result.items ≡ self }
     {
-        let PathList { refs, guesses: _ } = self;
+        let PathList {
+            mut refs,
+            guesses: _,
+        } = self;
+        refs.shrink_to_fit();
         refs
     }
 

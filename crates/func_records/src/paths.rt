@@ -8,8 +8,9 @@ use crate::found::FoundShare;
 use crate::line_paths::gather_lines;
 use crate::path_list::{PathList, PathRef, path_text};
 use debug_units::Units;
+use flat_lists::FlatLists;
 use func_flatten::Piece;
-use inline_chain::{InlineRun, InlineRuns};
+use inline_chain::InlineRun;
 use std::alloc::Global;
 use sym_edges::OutOfMemory;
 
@@ -36,15 +37,14 @@ pub fn gather_paths(
     alloc: Global,
     units: &Units<'_>,
     pieces: &[Piece],
-    held: &[InlineRuns],
+    held: &FlatLists<InlineRun>,
 ) -> Result<Vec<PathRef>, OutOfMemory>
     requires { length held.now ≡ length pieces.now }
     ensures { IfOk result (λ refs. Gathered units.now pieces.now held.now (has_path units.now refs.items)) }
 {
     let mut paths = PathList::new(alloc, SLOTS)?;
     'pieces: for place in 0..pieces.len() {
-        let copies = held[place].as_slice();
-        gather_piece(units, &pieces[place], copies, &mut paths)?;
+        gather_piece(units, &pieces[place], held.at(place), &mut paths)?;
     }
     Ok(paths.into_refs())
 }

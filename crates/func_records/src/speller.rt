@@ -2,10 +2,10 @@
 ghost use Rattle.std.specs.Prelude.{◌≡◌, ◌++◌, [], map, length, IfOk};
 ghost use Rattle.std.specs.List.{flat_map};
 ghost use Rattle.sym_records.specs.Spelled.{text_bytes};
-ghost use Rattle.func_records.specs.internal.Origins.{ref_numbers, all_numbers};
+ghost use Rattle.func_records.specs.internal.Origins.{all_refs, ref_numbers, all_numbers};
 ghost use Rattle.func_records.specs.internal.Parts.{AddsParts};
 ghost use Rattle.unit_workers.specs.Shares.{share};
-ghost use Rattle.func_records.specs.internal.Shares.{all_held, all_refs, AreFound, AddsShare, AreSplit, CanSpell};
+ghost use Rattle.func_records.specs.internal.Shares.{all_held, AreFound, AddsShare, AreSplit, CanSpell};
 
 use crate::found::FoundShare;
 use crate::numbers::numbers_at;
@@ -107,7 +107,7 @@ impl<'s, 'u, 'a, 'n> UnitJob for Speller<'s, 'u, 'a, 'n> {
             alloc,
             self.writer,
             share_of(self.pieces, SHARE, k),
-            found.held.as_slice(),
+            &found.held,
             origins.as_slice(),
             &mut text,
         )?;

@@ -1,6 +1,6 @@
 -- The names of the functions that were inlined, as they are gathered and numbered.
 use Rattle.std.specs.Prelude.{◌≡◌, ◌⊎◌, ℕ, if◌then◌else◌, List, [], ◌∷◌, ◌++◌, map, length, Some, None}
-use Rattle.std.specs.List.{slice_get, list_any}
+use Rattle.std.specs.List.{slice_get, list_any, flat_map}
 use Rattle.std.specs.List.Sorted.{IsStrictlySortedBy}
 use Rattle.std.specs.Ordering.{nat_cmp}
 use Rattle.std.specs.Cmp.Lexicographic.{slice_cmp}
@@ -15,6 +15,7 @@ use Rattle.die_names.specs.Names.{entry_name}
 use Rattle.die_names.specs.NameRefs.{name_bytes}
 use Rattle.func_flatten.specs.declared.piece.Piece.{Piece}
 use Rattle.inline_chain.specs.InlineRuns.{InlineParts}
+use Rattle.func_records.specs.declared.found.FoundShare.{FoundShare}
 use Rattle.func_records.specs.declared.numbers.Numbers.{Numbers}
 use Rattle.func_records.specs.FuncRecords.{origin_lines}
 use Rattle.func_records.specs.internal.Spelling.{number_or_0}
@@ -60,9 +61,13 @@ abbrev pub beside : List (List ℕ) → List ℕ → List ℕ → ℕ
 beside (text ∷ texts) (n ∷ numbers) name = if bytes_eq name text then n else beside texts numbers name
 beside _ _ name = 0
 
+-- the entries of all shares that give names, one share after another
+abbrev pub all_refs : List FoundShare → List NameRef
+all_refs shares = flat_map (λ (f : FoundShare). f.refs.items) shares
+
 -- the number of a name, by the entries that give names, and the number of the name of each
 abbrev pub name_number : Numbers → List UnitRead → List ℕ → ℕ
-name_number numbers units name = beside (map (made_name units) numbers.entries.now) numbers.numbers.now name
+name_number numbers units name = beside (map (made_name units) (all_refs numbers.entries.now)) numbers.numbers.now name
 
 -- the numbers of the names of a piece's inlined copies, and of those of all pieces
 abbrev pub copy_numbers : Numbers → List UnitRead → ℕ → List InlineParts → List ℕ

@@ -21,16 +21,13 @@ pub record FinderParts : Type 0 where
 
 -- what was found of some pieces is theirs
 pub record IsFound (units : List UnitRead) (pieces : List Piece) (found : FoundShare) : Type 0 where
-  pub held : AreHeld units pieces found.held.items
-  pub names : RefsSay units (record { refs = found.refs.items; places = found.places.items }) (all_names units pieces found.held.items)
-  pub paths : Gathered units pieces found.held.items (has_path units found.paths.items)
+  pub held : AreHeld units pieces found.held
+  pub names : RefsSay units (record { refs = found.refs.items; places = found.places.items }) (all_names units pieces found.held)
+  pub paths : Gathered units pieces found.held (has_path units found.paths.items)
 
 -- what the shares have, one after another
 abbrev pub all_held : List FoundShare → List (List InlineParts)
-all_held shares = flat_map (λ (f : FoundShare). f.held.items) shares
-
-abbrev pub all_refs : List FoundShare → List NameRef
-all_refs shares = flat_map (λ (f : FoundShare). f.refs.items) shares
+all_held shares = flat_map (λ (f : FoundShare). f.held) shares
 
 abbrev pub all_paths : List FoundShare → List PathRef
 all_paths shares = flat_map (λ (f : FoundShare). f.paths.items) shares
@@ -67,4 +64,4 @@ pub record CanSpell (s : SpellerParts) : Type 0 where
 
 -- the records of a share are the text
 abbrev pub AddsShare : SpellerParts → ℕ → List ℕ → Type 0
-AddsShare s k text = (d : FoundShare) → k < length s.shares → AddsParts s.base s.numbers s.units (share 512 k s.pieces) (slice_index_or s.shares k d).held.items [] text
+AddsShare s k text = (d : FoundShare) → k < length s.shares → AddsParts s.base s.numbers s.units (share 512 k s.pieces) (slice_index_or s.shares k d).held [] text

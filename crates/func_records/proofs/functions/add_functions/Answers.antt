@@ -6,8 +6,8 @@ use Rattle.debug_units.specs.declared.unit_read.UnitRead.{UnitRead}
 use Rattle.die_names.specs.declared.name_source.NameRef.{NameRef}
 use Rattle.func_records.specs.internal.Gathering.{bytes_of, has_text, Gathered}
 use Rattle.func_records.specs.internal.Spelling.{number_or_0}
-use Rattle.func_records.specs.internal.Origins.{made_name, beside, AddsNames}
-use Rattle.func_records.specs.internal.Shares.{all_held, all_refs, all_paths, AreFound}
+use Rattle.func_records.specs.internal.Origins.{made_name, all_refs, beside, AddsNames}
+use Rattle.func_records.specs.internal.Shares.{all_held, all_paths, AreFound}
 use Rattle.func_records.proofs.OriginLemmas.{numbers_beside}
 use Rattle.func_records.proofs.ShareLemmas.{AreJoined, all_found}
 use Rattle.func_records.proofs.UsedLemmas.{paths_clean, texts_gathered}
@@ -31,10 +31,9 @@ add_shares-requires-clause-numbered g c κs within =
     let units : List UnitRead = c.args.units.now in
     let f : List ℕ → ℕ = number_or_0 c.in_ok-numbers.ensures.names in
     let names : List (List ℕ) = map (made_name units) (all_refs c.as_slice-shares.result.now) in
-    c.as_slice-6.ensures.value
+    c.as_slice-5.ensures.value
     ∙ sym (numbers_beside f names c.in_ok-numbers.numbers.items (c.in_ok-numbers.ensures.are ∙ ap (λ (rs : List NameRef). map f (map (made_name units) rs)) (c.as_slice-2.ensures.value ∙ c.in_ok-refs.ensures)))
-    ∙ ap (λ (rs : List NameRef). map (beside (map (made_name units) rs) c.in_ok-numbers.numbers.items) names) (sym (c.as_slice-4.ensures.value ∙ c.in_ok-refs.ensures))
-    ∙ ap (λ ns. map (beside (map (made_name units) c.as_slice-4.result.now) ns) names) (sym c.as_slice-5.ensures.value)
+    ∙ ap (λ ns. map (beside names ns) names) (sym c.as_slice-4.ensures.value)
 
 pub returns : goal.returns
 returns g c =
@@ -44,10 +43,9 @@ returns g c =
     let paths : c.as_slice-paths.result.now ≡ c.in_ok-ranked.ranked.sorted.items = c.as_slice-paths.ensures.value in
     let joined : AreJoined units c.args.pieces.now c.as_slice-shares.result.now = all_found units c.args.pieces.now c.as_slice-shares.result.now (rw (sym shares) at c.in_ok-found.ensures) in
     let gathered : Gathered units c.args.pieces.now (all_held c.as_slice-shares.result.now) (has_text c.in_ok-used.used.items) = texts_gathered units c.args.pieces.now (all_held c.as_slice-shares.result.now) (all_paths c.as_slice-shares.result.now) c.in_ok-used.used.items c.in_ok-used.ensures joined.paths in
-    let entries : c.as_slice-4.result.now ≡ all_refs c.as_slice-shares.result.now = c.as_slice-4.ensures.value ∙ c.in_ok-refs.ensures in
-    functions_added c.args.base units c.args.pieces.now (all_held c.as_slice-shares.result.now) c.in_ok-used.used.items c.as_slice-paths.result.now c.as_slice-4.result.now _ (text_bytes c.args.front) _ _ _ joined.held gathered (rw (sym paths) at c.in_ok-ranked.ensures.sorted) (rw (sym paths) at (rw used at c.in_ok-ranked.ensures.same))
-    (λ name. ap (λ (rs : List NameRef). list_any (bytes_eq name) (map (made_name units) rs)) entries ∙ joined.names name)
-    (c.as_slice-3.ensures.value ∙ c.in_ok-rows.ensures) (c.number_of.ensures ∙ ap (number_or_0 (bytes_of c.as_slice-paths.result.now)) c.no_path.ensures) refl c.in_ok-add_texts.ensures.text c.in_ok-add_texts.ensures.fit
-    (subst (λ ns. AddsNames units c.as_slice-4.result.now ns (text_bytes c.add_texts.new.text) (text_bytes c.add_names.new.text)) (sym c.as_slice-5.ensures.value)
-    (subst (λ (rs : List NameRef). AddsNames units rs c.in_ok-numbers.numbers.items (text_bytes c.add_texts.new.text) (text_bytes c.add_names.new.text)) (c.as_slice-2.ensures.value ∙ sym c.as_slice-4.ensures.value) c.in_ok-numbers.ensures))
+    functions_added c.args.base units c.args.pieces.now (all_held c.as_slice-shares.result.now) c.in_ok-used.used.items c.as_slice-paths.result.now _ (text_bytes c.args.front) _ _ _ joined.held gathered (rw (sym paths) at c.in_ok-ranked.ensures.sorted) (rw (sym paths) at (rw used at c.in_ok-ranked.ensures.same))
+    joined.names
+    (c.as_slice-3.ensures.value ∙ c.in_ok-rows.ensures) (c.number_of.ensures ∙ ap (number_or_0 (bytes_of c.as_slice-paths.result.now)) c.no_path.ensures) c.in_ok-add_texts.ensures.text c.in_ok-add_texts.ensures.fit
+    (subst (λ ns. AddsNames units (all_refs c.as_slice-shares.result.now) ns (text_bytes c.add_texts.new.text) (text_bytes c.add_names.new.text)) (sym c.as_slice-4.ensures.value)
+    (subst (λ (rs : List NameRef). AddsNames units rs c.in_ok-numbers.numbers.items (text_bytes c.add_texts.new.text) (text_bytes c.add_names.new.text)) (c.as_slice-2.ensures.value ∙ c.in_ok-refs.ensures) c.in_ok-numbers.ensures))
     c.in_ok-text.ensures

@@ -1,5 +1,5 @@
 use Rattle.std.proofs.Common.{◌≡◌, take}
-use Rattle.func_records.specs.internal.Shares.{all_refs}
+use Rattle.func_records.specs.internal.Origins.{all_refs}
 use Rattle.func_records.proofs.names.join_refs.Given as goal
 
 abbrev pub invariant-shares : goal.invariant-shares

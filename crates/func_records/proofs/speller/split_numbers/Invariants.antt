@@ -1,6 +1,6 @@
 use Rattle.std.proofs.Common.{◌≡◌, take, drop}
-use Rattle.func_records.specs.internal.Origins.{ref_numbers}
-use Rattle.func_records.specs.internal.Shares.{all_refs, AreSplit}
+use Rattle.func_records.specs.internal.Origins.{all_refs, ref_numbers}
+use Rattle.func_records.specs.internal.Shares.{AreSplit}
 use Rattle.func_records.proofs.speller.split_numbers.Given as goal
 
 abbrev pub invariant-shares : goal.invariant-shares

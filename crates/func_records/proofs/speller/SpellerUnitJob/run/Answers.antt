@@ -15,7 +15,7 @@ add_parts-requires-clause-numbered c =
     let units : List UnitRead = c.self.inside.writer.now.units.now in
     let one : FoundShare = get_or c.self.inside.shares.now c.args.k c.index-self-k.result in
     let found : IsFound units (share 512 c.args.k c.self.inside.pieces.now) one = c.self.invariant.found.each c.args.k c.index-self-k.result (omega (arith, c.if-k-self.false)) in
-    rw (c.as_slice-3.ensures.value, c.in_ok-origins.ensures, c.as_slice.ensures.value, c.share_of.ensures, c.as_slice-2.ensures.value)
+    rw (c.as_slice-2.ensures.value, c.in_ok-origins.ensures, c.as_slice.ensures.value, c.share_of.ensures)
     (share_numbers c.self.inside.writer.now.numbers units (share 512 c.args.k c.self.inside.pieces.now) one _ found
     (split_at c.self.inside.writer.now.numbers units c.self.inside.shares.now c.self.inside.numbers.now c.args.k _ c.index-self-k.result (omega (arith, c.if-k-self.false)) c.self.invariant.numbered))
 
@@ -24,4 +24,4 @@ add_parts-requires-clause-short c =
     let units : List UnitRead = c.self.inside.writer.now.units.now in
     let one : FoundShare = get_or c.self.inside.shares.now c.args.k c.index-self-k.result in
     let found : IsFound units (share 512 c.args.k c.self.inside.pieces.now) one = c.self.invariant.found.each c.args.k c.index-self-k.result (omega (arith, c.if-k-self.false)) in
-    rw c.as_slice-2.ensures.value (held_short units (share 512 c.args.k c.self.inside.pieces.now) one.held.items found.held)
+    held_short units (share 512 c.args.k c.self.inside.pieces.now) one.held found.held
