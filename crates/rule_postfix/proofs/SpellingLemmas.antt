@@ -1,7 +1,6 @@
 -- What is spelled at the end of a text; for `close`, `write_change_line`.
-use Rattle.std.proofs.Common.{◌≡◌, ◌≢◌, ℕ, ◌<◌, ◌≤◌, List, [], ◌∷◌, ◌++◌, length, drop, ap, sym, ◌∙◌, arith, append_assoc, append-nil, length-append, length-drop}
+use Rattle.std.proofs.Common.{◌≡◌, ◌≢◌, ℕ, List, [], ◌∷◌, ◌++◌, length, ap, sym, ◌∙◌, arith, append_assoc, append-nil, length-append}
 use Rattle.std.specs.List.{flat_map}
-use Rattle.std.proofs.lemmas.List.{drop_all}
 use Rattle.std.proofs.lemmas.List.Concat.{flat_map-append}
 use Rattle.sym_rules.specs.declared.rules.RuleText.{RuleText}
 use Rattle.sym_rules.specs.Rules.{spelled_rule, spelled_rules}
@@ -25,21 +24,21 @@ more front old new xs ys was is =
     is ∙ ap (λ t. t ++ canon_text ys) was ∙ append_assoc front (canon_text xs) (canon_text ys) ∙ ap (λ t. front ++ t) (sym (canon_append xs ys))
 
 -- where no rule differs there is no record of changes
-pub no_change : (address : ℕ) (rules : List RuleText) (old new : List ℕ) (at end : ℕ) → length new ≡ length old → at ≡ end → drop at new ≡ spelled_rules rules ++ drop end old → drop (length new) new ≡ canon_text (change address rules)
+pub no_change : (address n : ℕ) (rules : List RuleText) (none end new line : List ℕ) → none ≡ [] → end ≡ 10 ∷ none → new ≡ spelled_rules rules ++ end → n ≡ length new → n ≡ 1 → line ≡ [] → line ≡ canon_text (change address rules)
 unfolding canon_text spelled_rules spelled_rule
-no_change address [] old new at end same here is = drop_all (length new) new (omega arith)
-no_change address (r ∷ rules) old new at end same here is =
-    absurd (omega (arith, ap length is, length-drop at new, length-drop end old, length-append (flat_map spelled_rule (r ∷ rules)) (drop end old), same, here))
+no_change address n [] none end new line empty last is size one cleared = cleared
+no_change address n (r ∷ rules) none end new line empty last is size one cleared =
+    absurd (omega (arith, ap length is, ap length last, length-append (flat_map spelled_rule (r ∷ rules)) end, size, one))
 
-pub some_change : (address : ℕ) (rules : List RuleText) (old new line : List ℕ) (at end start : ℕ) → length new ≡ length old → at ≤ end → end < length old → at ≢ end → drop end old ≡ 10 ∷ [] → drop at new ≡ spelled_rules rules ++ drop end old → drop start line ≡ change_front address ++ drop at new → drop start line ≡ canon_text (change address rules)
+pub some_change : (address n : ℕ) (rules : List RuleText) (none end new line : List ℕ) → none ≡ [] → end ≡ 10 ∷ none → new ≡ spelled_rules rules ++ end → n ≡ length new → n ≢ 1 → line ≡ change_front address ++ new → line ≡ canon_text (change address rules)
 unfolding spelled_rules
-some_change address [] old new line at end start same low within apart last is front =
-    absurd (omega (arith, ap length is, length-drop at new, length-drop end old, same, low, within, apart))
-some_change address (r ∷ rules) old new line at end start same low within apart last is front =
-    front ∙ ap (λ l. change_front address ++ l) (is ∙ ap (λ l. flat_map spelled_rule (r ∷ rules) ++ l) last)
+some_change address n [] none end new line empty last is size some front =
+    absurd (omega (arith, ap length is, ap length last, ap length empty, size, some))
+some_change address n (r ∷ rules) none end new line empty last is size some front =
+    front ∙ ap (λ l. change_front address ++ l) (is ∙ ap (λ l. flat_map spelled_rule (r ∷ rules) ++ l) (last ∙ ap (λ l. 10 ∷ l) empty))
     ∙ change_line address (r ∷ rules) ∙ sym (canon_one (Change address (r ∷ rules)))
 
 -- an INIT that ends: its front, and the text after that
-pub init_closed : (front body old before a b new : List ℕ) (end : ℕ) → length before ≤ end → a ≡ front ++ drop end before → b ≡ old ++ a → new ≡ b ++ body → new ≡ old ++ (front ++ body)
-init_closed front body old before a b new end past written first second =
-    second ∙ ap (λ l. l ++ body) (first ∙ ap (λ l. old ++ l) (written ∙ ap (λ l. front ++ l) (drop_all end before past) ∙ append-nil front)) ∙ append_assoc old front body
+pub init_closed : (front body old none a b new : List ℕ) → none ≡ [] → a ≡ front ++ none → b ≡ old ++ a → new ≡ b ++ body → new ≡ old ++ (front ++ body)
+init_closed front body old none a b new empty written first second =
+    second ∙ ap (λ l. l ++ body) (first ∙ ap (λ l. old ++ l) (written ∙ ap (λ l. front ++ l) empty ∙ append-nil front)) ∙ append_assoc old front body

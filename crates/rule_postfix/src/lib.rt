@@ -14,16 +14,17 @@
 //!
 //! The instructions of a CIE are carried out once for all of its entries: `cie_states` has the states that they leave.
 //!
-//! Records are spelled backward, into a line that has room for all rules (`rules`). The words of a DWARF expression, which `expr_postfix`
+//! Records are spelled backward, into a line (`backward_line`) that has room for all rules (`rules`). The words of a DWARF expression, which `expr_postfix`
 //! gives, may be longer, so the rules of a record with one are made in memory and spelled forward, as records that were read are (`long_rules`).
 //!
 //! Entries are translated in shares, side by side, each share as if no range were taken before it; one of whose ranges is taken is translated anew, in turn.
 //!
-//! To read: `parts`, `column_target`, `rules`, `change_record`, `long_rules`, `open_init`, `entry_records`, then `omission`, `written_ranges`, `cie_states`,
-//! `progress`, `shares` and `all`.
+//! To read: `parts`, `column_target`, `backward_line`, `rules`, `change_record`, `long_rules`, `open_init`, `entry_records`, then `omission`,
+//! `written_ranges`, `cie_states`, `progress`, `shares` and `all`.
 #![tactic(auto)]
 
 mod all;
+mod backward_line;
 mod change_record;
 mod cie_states;
 mod column_target;

@@ -1,5 +1,5 @@
 //! The records of an entry, spelled row after row: an INIT is written when its end is known.
-ghost use Rattle.std.specs.Prelude.{◌≡◌, ◌<◌, ◌≤◌, ◌++◌, ◌∷◌, ◌-◌, ◌||◌, [], ℕ, List, true, false, not, None, Some, length, take, drop, IfOk, OnOk};
+ghost use Rattle.std.specs.Prelude.{◌≡◌, ◌<◌, ◌≤◌, ◌++◌, ◌∷◌, ◌-◌, ◌||◌, [], ℕ, List, true, false, not, None, Some, length, take, IfOk, OnOk};
 ghost use Rattle.std.specs.List.{list_any};
 ghost use Rattle.sym_edges.specs.Outside.{MatchStop};
 ghost use Rattle.frame_rows.specs.Columns.{StayOutside};
@@ -11,6 +11,7 @@ ghost use Rattle.frame_rows.specs.declared.row.Row.{Row};
 ghost use Rattle.rule_postfix.specs.internal.Writing.{Open, with_row, lines_of};
 ghost use Rattle.rule_postfix.specs.internal.Spelling.{IsSpelled, lacks_rule};
 
+use crate::backward_line::BackwardLine;
 use crate::change_record::write_change_line;
 use crate::long_rules::{add_change_record, add_row_rules, lose_column};
 use crate::rules::{LINE, Rows, Unwritten, write_row_rules};
@@ -18,7 +19,6 @@ use frame_entries::Fde;
 use frame_rows::{Columns, Row, Stepper};
 use std::alloc::Global;
 use sym_edges::{OutOfMemory, Reason, Stop};
-use sym_records::write_init;
 
 /// The most bytes that the front of an INIT has.
 const FRONT: usize = 48;
@@ -29,7 +29,7 @@ const FRONT: usize = 48;
 pub struct OpenInit {
     start: u64,
     body: Vec<u8>,
-    line: [u8; LINE],
+    line: BackwardLine<LINE>,
 }
 
 impl OpenInit {
@@ -38,18 +38,9 @@ impl OpenInit {
         OpenInit {
             start: 0,
             body: Vec::new(alloc),
-            line: [0; LINE],
+            line: BackwardLine::new(),
         }
     }
-}
-
-/// Adds what stands in a line from a place on.
-fn add_end(text: &mut Vec<u8>, line: &[u8], at: usize) -> Result<(), OutOfMemory>
-    requires { at ≤ length line.now }
-    ensures { OnOk result (text.new.items ≡ text.old.items ++ drop at line.now) }
-{
-    text.extend_from_slice(line.split_at(at).1)?;
-    Ok(())
 }
 
 /// An INIT begins at a row of an entry.
@@ -66,8 +57,8 @@ fn begin(
     open.start = address;
     open.body.clear();
     match write_row_rules(fde, row, &mut open.line) {
-        Some(at) => add_end(&mut open.body, &open.line, at),
-        None => add_row_rules(alloc, fde, &mut open.body, row),
+        Ok(()) => open.line.add_to(&mut open.body),
+        Err(_) => add_row_rules(alloc, fde, &mut open.body, row),
     }
 }
 
@@ -78,9 +69,9 @@ fn close(text: &mut Vec<u8>, open: &OpenInit, end: u64, base: u64) -> Result<(),
     requires ends { open.now.start ≤ end }
     ensures { OnOk result (text.new.items ≡ text.old.items ++ (init_front (open.now.start - base) (end - open.now.start) ++ open.now.body.items)) }
 {
-    let mut line = [0; FRONT];
-    let at = write_init(open.start - base, end - open.start, &mut line, FRONT);
-    text.extend_from_slice(&line[at..])?;
+    let mut front = BackwardLine::<FRONT>::new();
+    front.put_init(open.start - base, end - open.start);
+    front.add_to(text)?;
     text.extend_from_slice(&open.body)?;
     Ok(())
 }
@@ -154,7 +145,7 @@ fn put_row(
     };
     let at = change.address - change.base;
     match write_change_line(&rows, columns, at, &mut open.line) {
-        Ok(at) => add_end(&mut open.body, &open.line, at),
+        Ok(()) => open.line.add_to(&mut open.body),
         Err(Unwritten::Unspecified) => { cut(alloc, text, open, change) }
         Err(Unwritten::Expression) => put_long_row(alloc, text, open, change),
     }

@@ -1,6 +1,6 @@
 //! The rules of a record: those that a row has, and those that differ between two rows. They are written from the last to the
-//! first into the line of the record, in front of what stands there from `end` on.
-ghost use Rattle.std.specs.Prelude.{◌≡◌, ◌+◌, ◌≤◌, ◌∷◌, [], ◌++◌, true, false, None, Some, length, drop, codes, IfSome, MatchOption, MatchResult, IfOk, OnErr, Err};
+//! first into the line of the record.
+ghost use Rattle.std.specs.Prelude.{◌≡◌, ◌+◌, ◌≤◌, ◌∷◌, [], ◌++◌, true, false, None, Some, length, codes, MatchOption, MatchResult, OnOk, OnErr, Err};
 ghost use Rattle.std.specs.List.{flat_map};
 ghost use Rattle.sym_rules.specs.Rules.{spelled_token, spelled_rules, target_word};
 ghost use Rattle.sym_rules.specs.declared.rules.Target.TheVariants.{Cfa, Ra};
@@ -12,6 +12,7 @@ ghost use Rattle.rule_postfix.specs.RowRules.{own_name, unruled_tokens, rule_spe
 ghost use Rattle.rule_postfix.specs.internal.Backward.{column_of, target_of, rule_text, is_expression, is_plain_part, IfLost};
 ghost use Rattle.rule_postfix.specs.declared.rules.Unwritten.TheVariants.{Expression};
 
+use crate::backward_line::BackwardLine;
 use crate::column_target::ColumnTarget;
 use crate::parts::{
     RowPart, becomes_unspecified, column_part, is_expression, is_kept, keeps_cfa, rule_at,
@@ -19,7 +20,6 @@ use crate::parts::{
 };
 use frame_entries::Fde;
 use frame_rows::{CfaRule, Columns, Row, Rule};
-use sym_rules::{write_byte, write_bytes, write_last, write_register, write_signed};
 
 /// The most bytes that a line with all rules has.
 pub const LINE: usize = 768;
@@ -35,158 +35,133 @@ pub struct Rows<'r, 'f, 'a> {
 /// The CFA plus so much.
 #[inline]
 #[tactic(auto, using(crate::proofs::TokenLemmas::sum_written))]
-fn write_sum(offset: i64, line: &mut [u8], end: usize) -> usize
-    requires room { 29 ≤ end }
-    requires within { end ≤ length line.old }
-    ensures below { result ≤ end }
-    ensures short { end ≤ result + 29 }
-    ensures written { drop result line.new ≡ flat_map spelled_token (token.Cfa ∷ token.Number offset ∷ token.Add ∷ []) ++ drop end line.old }
+fn write_sum(offset: i64, line: &mut BackwardLine<LINE>)
+    requires room { length line.old + 29 ≤ 768 }
+    ensures short { length line.new ≤ length line.old + 29 }
+    ensures written { line.new ≡ flat_map spelled_token (token.Cfa ∷ token.Number offset ∷ token.Add ∷ []) ++ line.old }
 {
-    let at = write_bytes(b" +", line, end);
-    let at = write_signed(offset, line, at);
-    write_bytes(b" .cfa ", line, at)
+    line.put_bytes(b" +");
+    line.put_signed(offset);
+    line.put_bytes(b" .cfa ");
 }
 
 /// The word at the CFA plus so much.
 #[inline]
 #[tactic(auto, using(crate::proofs::TokenLemmas::word_written))]
-fn write_word_at(offset: i64, line: &mut [u8], end: usize) -> usize
-    requires room { 31 ≤ end }
-    requires within { end ≤ length line.old }
-    ensures below { result ≤ end }
-    ensures short { end ≤ result + 31 }
-    ensures written { drop result line.new ≡ flat_map spelled_token (token.Cfa ∷ token.Number offset ∷ token.Add ∷ token.Fetch ∷ []) ++ drop end line.old }
+fn write_word_at(offset: i64, line: &mut BackwardLine<LINE>)
+    requires room { length line.old + 31 ≤ 768 }
+    ensures short { length line.new ≤ length line.old + 31 }
+    ensures written { line.new ≡ flat_map spelled_token (token.Cfa ∷ token.Number offset ∷ token.Add ∷ token.Fetch ∷ []) ++ line.old }
 {
-    let at = write_bytes(b" + ^", line, end);
-    let at = write_signed(offset, line, at);
-    write_bytes(b" .cfa ", line, at)
+    line.put_bytes(b" + ^");
+    line.put_signed(offset);
+    line.put_bytes(b" .cfa ");
 }
 
 /// The value of a register.
 #[inline]
 #[tactic(auto, using(crate::proofs::TokenLemmas::value_written))]
-fn write_value(number: u8, line: &mut [u8], end: usize) -> usize
-    requires room { 5 ≤ end }
-    requires within { end ≤ length line.old }
-    ensures below { result ≤ end }
-    ensures short { end ≤ result + 5 }
-    ensures written { drop result line.new ≡ flat_map spelled_token (token.Reg number ∷ []) ++ drop end line.old }
+fn write_value(number: u8, line: &mut BackwardLine<LINE>)
+    requires room { length line.old + 5 ≤ 768 }
+    ensures short { length line.new ≤ length line.old + 5 }
+    ensures written { line.new ≡ flat_map spelled_token (token.Reg number ∷ []) ++ line.old }
 {
-    let at = write_register(number, line, end);
-    write_byte(b' ', line, at)
+    line.put_register(number);
+    line.put_byte(b' ');
 }
 
 /// A register plus so much.
 #[inline]
 #[tactic(auto, using(crate::proofs::TokenLemmas::base_written))]
-fn write_base(register: u8, offset: i64, line: &mut [u8], end: usize) -> usize
-    requires room { 29 ≤ end }
-    requires within { end ≤ length line.old }
-    ensures below { result ≤ end }
-    ensures short { end ≤ result + 29 }
-    ensures written { drop result line.new ≡ flat_map spelled_token (token.Reg register ∷ token.Number offset ∷ token.Add ∷ []) ++ drop end line.old }
+fn write_base(register: u8, offset: i64, line: &mut BackwardLine<LINE>)
+    requires room { length line.old + 29 ≤ 768 }
+    ensures short { length line.new ≤ length line.old + 29 }
+    ensures written { line.new ≡ flat_map spelled_token (token.Reg register ∷ token.Number offset ∷ token.Add ∷ []) ++ line.old }
 {
-    let at = write_bytes(b" +", line, end);
-    let at = write_signed(offset, line, at);
-    let at = write_byte(b' ', line, at);
-    let at = write_register(register, line, at);
-    write_byte(b' ', line, at)
+    line.put_bytes(b" +");
+    line.put_signed(offset);
+    line.put_byte(b' ');
+    line.put_register(register);
+    line.put_byte(b' ');
 }
 
 /// The name of a column after one space, with `:` after it.
 #[inline]
 #[tactic(auto, using(crate::proofs::TokenLemmas::register_written))]
-fn write_target(target: ColumnTarget, line: &mut [u8], end: usize) -> usize
-    requires room { 6 ≤ end }
-    requires within { end ≤ length line.old }
-    ensures below { result ≤ end }
-    ensures short { end ≤ result + 6 }
-    ensures written { drop result line.new ≡ (32 ∷ target_word (target_of target)) ++ drop end line.old }
+fn write_target(target: ColumnTarget, line: &mut BackwardLine<LINE>)
+    requires room { length line.old + 6 ≤ 768 }
+    ensures short { length line.new ≤ length line.old + 6 }
+    ensures written { line.new ≡ (32 ∷ target_word (target_of target)) ++ line.old }
 {
     match target {
-        ColumnTarget::Ra => write_bytes(b" .ra:", line, end),
+        ColumnTarget::Ra => line.put_bytes(b" .ra:"),
         ColumnTarget::Reg(number) => {
-            let at = write_byte(b':', line, end);
-            let at = write_register(number, line, at);
-            write_byte(b' ', line, at)
+            line.put_byte(b':');
+            line.put_register(number);
+            line.put_byte(b' ');
         }
     }
 }
 
 /// A column by its own name; the return address has none.
 #[tactic(auto, using(crate::proofs::TokenLemmas::rule_written, crate::proofs::TokenLemmas::no_rule))]
-fn write_own(target: ColumnTarget, line: &mut [u8], end: usize) -> usize
-    requires room { 40 ≤ end }
-    requires within { end ≤ length line.old }
-    ensures below { result ≤ end }
-    ensures short { end ≤ result + 40 }
-    ensures written { drop result line.new ≡ rule_text (target_of target) (own_name (target_of target)) ++ drop end line.old }
+fn write_own(target: ColumnTarget, line: &mut BackwardLine<LINE>)
+    requires room { length line.old + 40 ≤ 768 }
+    ensures short { length line.new ≤ length line.old + 40 }
+    ensures written { line.new ≡ rule_text (target_of target) (own_name (target_of target)) ++ line.old }
 {
     match target {
-        ColumnTarget::Ra => end,
+        ColumnTarget::Ra => {}
         ColumnTarget::Reg(number) => {
-            let at = write_value(number, line, end);
-            write_target(target, line, at)
+            write_value(number, line);
+            write_target(target, line);
         }
     }
 }
 
 /// What says that a column is unruled again, where something does.
 #[tactic(auto, using(crate::proofs::TokenLemmas::rule_written, crate::proofs::TokenLemmas::no_rule), unfolding(sym_edges::specs::Abi::default_of))]
-fn write_unruled(target: ColumnTarget, line: &mut [u8], end: usize) -> usize
-    requires room { 40 ≤ end }
-    requires within { end ≤ length line.old }
-    ensures below { result ≤ end }
-    ensures short { end ≤ result + 40 }
-    ensures written { drop result line.new ≡ rule_text (target_of target) (unruled_tokens (target_of target)) ++ drop end line.old }
+fn write_unruled(target: ColumnTarget, line: &mut BackwardLine<LINE>)
+    requires room { length line.old + 40 ≤ 768 }
+    ensures short { length line.new ≤ length line.old + 40 }
+    ensures written { line.new ≡ rule_text (target_of target) (unruled_tokens (target_of target)) ++ line.old }
 {
     match target {
-        ColumnTarget::Ra => end,
+        ColumnTarget::Ra => {}
         ColumnTarget::Reg(number) => {
             if is_kept(number) {
-                let at = write_value(number, line, end);
-                return write_target(target, line, at);
+                write_value(number, line);
+                write_target(target, line);
+            } else if number == 7 {
+                line.put_bytes(b" .cfa");
+                write_target(target, line);
             }
-            if number == 7 {
-                let at = write_bytes(b" .cfa", line, end);
-                return write_target(target, line, at);
-            }
-            end
         }
     }
 }
 
 /// A rule of a column that is no expression, where it has a spelling.
 #[tactic(auto, using(crate::proofs::TokenLemmas::rule_written, crate::proofs::TokenLemmas::no_rule))]
-fn write_rule(
-    fde: &Fde<'_>,
-    target: ColumnTarget,
-    given: Rule,
-    line: &mut [u8],
-    end: usize,
-) -> usize
+fn write_rule(fde: &Fde<'_>, target: ColumnTarget, given: Rule, line: &mut BackwardLine<LINE>)
     requires plain { is_expression given ≡ false }
-    requires room { 40 ≤ end }
-    requires within { end ≤ length line.old }
-    ensures below { result ≤ end }
-    ensures short { end ≤ result + 40 }
-    ensures written { drop result line.new ≡ rule_text (target_of target) (rule_spelled fde.now (target_of target) given) ++ drop end line.old }
+    requires room { length line.old + 40 ≤ 768 }
+    ensures short { length line.new ≤ length line.old + 40 }
+    ensures written { line.new ≡ rule_text (target_of target) (rule_spelled fde.now (target_of target) given) ++ line.old }
 {
     match given {
-        Rule::Rest => end,
-        Rule::Undefined => end,
-        Rule::Same => write_own(target, line, end),
+        Rule::Rest | Rule::Undefined => {}
+        Rule::Same => write_own(target, line),
         Rule::Offset(offset) => {
-            let at = write_word_at(offset, line, end);
-            write_target(target, line, at)
+            write_word_at(offset, line);
+            write_target(target, line);
         }
         Rule::ValOffset(offset) => {
-            let at = write_sum(offset, line, end);
-            write_target(target, line, at)
+            write_sum(offset, line);
+            write_target(target, line);
         }
         Rule::Register(register) => {
-            let at = write_value(register, line, end);
-            write_target(target, line, at)
+            write_value(register, line);
+            write_target(target, line);
         }
         Rule::Expr { .. } => unreachable!(),
     }
@@ -194,43 +169,33 @@ fn write_rule(
 
 /// A part of a column that is no expression, where it has a spelling.
 #[tactic(auto, unfolding(crate::specs::RowRules::spelled))]
-fn write_part(
-    fde: &Fde<'_>,
-    target: ColumnTarget,
-    part: RowPart,
-    line: &mut [u8],
-    end: usize,
-) -> usize
+fn write_part(fde: &Fde<'_>, target: ColumnTarget, part: RowPart, line: &mut BackwardLine<LINE>)
     requires plain { is_plain_part part ≡ true }
-    requires room { 40 ≤ end }
-    requires within { end ≤ length line.old }
-    ensures below { result ≤ end }
-    ensures short { end ≤ result + 40 }
-    ensures written { drop result line.new ≡ rule_text (target_of target) (spelled fde.now (target_of target) part) ++ drop end line.old }
+    requires room { length line.old + 40 ≤ 768 }
+    ensures short { length line.new ≤ length line.old + 40 }
+    ensures written { line.new ≡ rule_text (target_of target) (spelled fde.now (target_of target) part) ++ line.old }
 {
     match part {
-        RowPart::Unruled => write_unruled(target, line, end),
+        RowPart::Unruled => write_unruled(target, line),
         RowPart::Base(_) => unreachable!(),
-        RowPart::Column(given) => write_rule(fde, target, given, line, end),
+        RowPart::Column(given) => write_rule(fde, target, given, line),
     }
 }
 
 /// The rule of a column, where two rows differ in it, and the second has no expression there.
 #[tactic(auto, using(crate::proofs::TokenLemmas::no_rule, crate::proofs::PartLemmas::plain_column))]
-fn write_column(rows: &Rows<'_, '_, '_>, target: ColumnTarget, line: &mut [u8], end: usize) -> usize
+fn write_column(rows: &Rows<'_, '_, '_>, target: ColumnTarget, line: &mut BackwardLine<LINE>)
     requires plain { is_expression (rule_at rows.now.after.now (column_of target)) ≡ false }
-    requires room { 40 ≤ end }
-    requires within { end ≤ length line.old }
-    ensures below { result ≤ end }
-    ensures short { end ≤ result + 40 }
-    ensures written { drop result line.new ≡ rule_text (target_of target) (if_other rows.now.fde.now (target_of target) (column_part (column_of target) (rule_at rows.now.before.now (column_of target))) (column_part (column_of target) (rule_at rows.now.after.now (column_of target)))) ++ drop end line.old }
+    requires room { length line.old + 40 ≤ 768 }
+    ensures short { length line.new ≤ length line.old + 40 }
+    ensures written { line.new ≡ rule_text (target_of target) (if_other rows.now.fde.now (target_of target) (column_part (column_of target) (rule_at rows.now.before.now (column_of target))) (column_part (column_of target) (rule_at rows.now.after.now (column_of target)))) ++ line.old }
 {
     let column = target.column();
     let part = column_part(column, rule_at(rows.after, column));
     if same_part(column_part(column, rule_at(rows.before, column)), part) {
-        return end;
+        return;
     }
-    write_part(rows.fde, target, part, line, end)
+    write_part(rows.fde, target, part, line);
 }
 
 /// Why the changes between two rows are not written into a line.
@@ -244,22 +209,21 @@ pub enum Unwritten {
 
 /// The rule of the CFA, where two rows differ in it.
 #[tactic(auto, using(crate::proofs::TokenLemmas::cfa_written, crate::proofs::TokenLemmas::no_rule), unfolding(crate::specs::RowRules::spelled))]
-fn write_cfa(rows: &Rows<'_, '_, '_>, line: &mut [u8], end: usize) -> Result<usize, Unwritten>
-    requires room { 40 ≤ end }
-    requires within { end ≤ length line.old }
+fn write_cfa(rows: &Rows<'_, '_, '_>, line: &mut BackwardLine<LINE>) -> Result<(), Unwritten>
+    requires room { length line.old + 40 ≤ 768 }
     ensures why { OnErr result (result ≡ Err Expression) }
-    ensures below { IfOk result (λ start. start ≤ end) }
-    ensures short { IfOk result (λ start. end ≤ start + 40) }
-    ensures written { IfOk result (λ start. drop start line.new ≡ rule_text Cfa (if_other rows.now.fde.now Cfa (cfa_part rows.now.before.now.cfa) (cfa_part rows.now.after.now.cfa)) ++ drop end line.old) }
+    ensures short { OnOk result (length line.new ≤ length line.old + 40) }
+    ensures written { OnOk result (line.new ≡ rule_text Cfa (if_other rows.now.fde.now Cfa (cfa_part rows.now.before.now.cfa) (cfa_part rows.now.after.now.cfa)) ++ line.old) }
 {
     if keeps_cfa(rows.before, rows.after) {
-        return Ok(end);
+        return Ok(());
     }
     match &rows.after.cfa {
-        None => Ok(end),
+        None => Ok(()),
         Some(CfaRule::Base { register, offset }) => {
-            let at = write_base(*register, *offset, line, end);
-            Ok(write_bytes(b" .cfa:", line, at))
+            write_base(*register, *offset, line);
+            line.put_bytes(b" .cfa:");
+            Ok(())
         }
         Some(CfaRule::Expr { .. }) => Err(Unwritten::Expression),
     }
@@ -271,18 +235,14 @@ fn write_cfa(rows: &Rows<'_, '_, '_>, line: &mut [u8], end: usize) -> Result<usi
 fn write_registers(
     rows: &Rows<'_, '_, '_>,
     columns: Columns,
-    line: &mut [u8],
-    end: usize,
-) -> Result<usize, Unwritten>
+    line: &mut BackwardLine<LINE>,
+) -> Result<(), Unwritten>
     requires alike { StayOutside columns rows.now.before.now rows.now.after.now }
-    requires room { 640 ≤ end }
-    requires within { end ≤ length line.old }
+    requires room { length line.old + 640 ≤ 768 }
     ensures kept { MatchResult result (λ _. some_unspecified_below rows.now.before.now rows.now.after.now 16 ≡ false) (IfLost rows.now.before.now rows.now.after.now) }
-    ensures below { IfOk result (λ start. start ≤ end) }
-    ensures short { IfOk result (λ start. end ≤ start + 640) }
-    ensures written { IfOk result (λ start. drop start line.new ≡ spelled_rules (rules_of (if_changed rows.now.fde.now rows.now.before.now rows.now.after.now) (registers 16)) ++ drop end line.old) }
+    ensures short { OnOk result (length line.new ≤ length line.old + 640) }
+    ensures written { OnOk result (line.new ≡ spelled_rules (rules_of (if_changed rows.now.fde.now rows.now.before.now rows.now.after.now) (registers 16)) ++ line.old) }
 {
-    let mut at = end;
     let mut number = columns.end.min(16);
     'turns: while columns.first < number {
         number -= 1;
@@ -293,25 +253,23 @@ fn write_registers(
             if is_expression(rule_at(rows.after, number)) {
                 return Err(Unwritten::Expression);
             }
-            at = write_column(rows, ColumnTarget::Reg(number), line, at);
+            write_column(rows, ColumnTarget::Reg(number), line);
         }
     }
-    Ok(at)
+    Ok(())
 }
 
 /// The rule of the return address, where two rows differ in it.
 #[tactic(auto, using(crate::proofs::RulesLemmas::one_lost, crate::proofs::RulesLemmas::ra_kept, crate::proofs::RulesLemmas::ra_stays, crate::proofs::RulesLemmas::no_ra_text))]
-fn write_ra(rows: &Rows<'_, '_, '_>, line: &mut [u8], end: usize) -> Result<usize, Unwritten>
+fn write_ra(rows: &Rows<'_, '_, '_>, line: &mut BackwardLine<LINE>) -> Result<(), Unwritten>
     requires kept { some_unspecified_below rows.now.before.now rows.now.after.now 16 ≡ false }
-    requires room { 40 ≤ end }
-    requires within { end ≤ length line.old }
+    requires room { length line.old + 40 ≤ 768 }
     ensures kept { MatchResult result (λ _. some_becomes_unspecified rows.now.before.now rows.now.after.now ≡ false) (IfLost rows.now.before.now rows.now.after.now) }
-    ensures below { IfOk result (λ start. start ≤ end) }
-    ensures short { IfOk result (λ start. end ≤ start + 40) }
-    ensures written { IfOk result (λ start. drop start line.new ≡ rule_text Ra (if_other rows.now.fde.now Ra (column_part 16 (rule_at rows.now.before.now 16)) (column_part 16 (rule_at rows.now.after.now 16))) ++ drop end line.old) }
+    ensures short { OnOk result (length line.new ≤ length line.old + 40) }
+    ensures written { OnOk result (line.new ≡ rule_text Ra (if_other rows.now.fde.now Ra (column_part 16 (rule_at rows.now.before.now 16)) (column_part 16 (rule_at rows.now.after.now 16))) ++ line.old) }
 {
     if stays(rows.before, rows.after, 16) {
-        return Ok(end);
+        return Ok(());
     }
     if becomes_unspecified(rows.before, rows.after, 16) {
         return Err(Unwritten::Unspecified);
@@ -319,7 +277,8 @@ fn write_ra(rows: &Rows<'_, '_, '_>, line: &mut [u8], end: usize) -> Result<usiz
     if is_expression(rule_at(rows.after, 16)) {
         return Err(Unwritten::Expression);
     }
-    Ok(write_column(rows, ColumnTarget::Ra, line, end))
+    write_column(rows, ColumnTarget::Ra, line);
+    Ok(())
 }
 
 /// The rules of the targets in which two rows of an entry differ, where no column becomes unspecified and none of these rules is an
@@ -328,24 +287,21 @@ fn write_ra(rows: &Rows<'_, '_, '_>, line: &mut [u8], end: usize) -> Result<usiz
 pub fn write_changes(
     rows: &Rows<'_, '_, '_>,
     columns: Columns,
-    line: &mut [u8],
-    end: usize,
-) -> Result<usize, Unwritten>
+    line: &mut BackwardLine<LINE>,
+) -> Result<(), Unwritten>
     requires alike { StayOutside columns rows.now.before.now rows.now.after.now }
-    requires room { 720 ≤ end }
-    requires within { end ≤ length line.old }
+    requires room { length line.old + 720 ≤ 768 }
     ensures kept { MatchResult result (λ _. some_becomes_unspecified rows.now.before.now rows.now.after.now ≡ false) (IfLost rows.now.before.now rows.now.after.now) }
-    ensures below { IfOk result (λ start. start ≤ end) }
-    ensures short { IfOk result (λ start. end ≤ start + 720) }
-    ensures written { IfOk result (λ start. drop start line.new ≡ spelled_rules (changed_rules rows.now.fde.now rows.now.before.now rows.now.after.now) ++ drop end line.old) }
+    ensures short { OnOk result (length line.new ≤ length line.old + 720) }
+    ensures written { OnOk result (line.new ≡ spelled_rules (changed_rules rows.now.fde.now rows.now.before.now rows.now.after.now) ++ line.old) }
 {
-    let at = match write_registers(rows, columns, line, end) {
-        Ok(at) => at,
+    match write_registers(rows, columns, line) {
+        Ok(()) => {}
         Err(why) => return Err(why),
-    };
-    let at = write_ra(rows, line, at)?;
-    match write_cfa(rows, line, at) {
-        Ok(at) => Ok(at),
+    }
+    write_ra(rows, line)?;
+    match write_cfa(rows, line) {
+        Ok(()) => Ok(()),
         Err(_) => Err(Unwritten::Expression),
     }
 }
@@ -361,21 +317,24 @@ pub fn empty_row() -> Row
     }
 }
 
-/// The rules that a row of an entry has, and the end of their line: where they start; nothing where a rule is an expression.
+/// The rules that a row of an entry has, and the end of their line, where none of them is an expression.
 #[tactic(auto, using(crate::proofs::RulesLemmas::from_empty, crate::proofs::RulesLemmas::alike_outside))]
-pub fn write_row_rules(fde: &Fde<'_>, row: &Row, line: &mut [u8]) -> Option<usize>
-    requires { 768 ≤ length line.old }
-    ensures below { IfSome result (λ start. start ≤ length line.old) }
-    ensures written { IfSome result (λ start. drop start line.new ≡ spelled_rules (row_rules fde.now row.now) ++ 10 ∷ []) }
+pub fn write_row_rules(
+    fde: &Fde<'_>,
+    row: &Row,
+    line: &mut BackwardLine<LINE>,
+) -> Result<(), Unwritten>
+    ensures { OnOk result (line.new ≡ spelled_rules (row_rules fde.now row.now) ++ 10 ∷ []) }
 {
-    let end = write_last(b'\n', line);
+    line.clear();
+    line.put_byte(b'\n');
     let rows = Rows {
         fde,
         before: &empty_row(),
         after: row,
     };
-    match write_changes(&rows, Columns::all(), line, end) {
-        Ok(at) => Some(at),
-        Err(_) => None,
+    match write_changes(&rows, Columns::all(), line) {
+        Ok(()) => Ok(()),
+        Err(why) => Err(why),
     }
 }

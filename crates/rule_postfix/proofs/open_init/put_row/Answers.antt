@@ -7,10 +7,10 @@ use Rattle.rule_postfix.proofs.open_init.put_row.Goals as goal
 
 pub returns-in-Ok : goal.returns-in-Ok
 returns-in-Ok c =
-    IfOk-weaker c.add_end.result _ _ (λ _ more front o so.
+    IfOk-weaker c.add_to.result _ _ (λ _ more front o so.
     change_spelled c.args.change.now.fde.now front c.args.text.now.items c.args.change.now.base c.args.change.now.address c.args.change.now.before.now c.args.change.now.after.now c.args.open.now _ o c.in-Ok.ensures.kept refl
     (more ∙ ap (λ l. c.args.open.now.body.items ++ l) c.in-Ok.ensures.written) so)
-    c.add_end.ensures
+    c.add_to.ensures
 
 pub returns-in-Err-Unspecified : goal.returns-in-Err-Unspecified
 returns-in-Err-Unspecified c =
