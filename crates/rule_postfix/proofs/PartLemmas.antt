@@ -10,7 +10,7 @@ use Rattle.frame_rows.specs.declared.row.CfaRule.{CfaRule}
 use Rattle.frame_rows.specs.declared.row.CfaRule.TheVariants as cfa
 use Rattle.expr_steps.specs.declared.place.Place.{Place}
 use Rattle.sym_edges.specs.Abi.{is_kept}
-use Rattle.rule_postfix.specs.internal.Backward.{is_expression, is_plain_part}
+use Rattle.rule_postfix.specs.internal.Backward.{is_base}
 use Rattle.sym_rules.specs.declared.rules.Target.{Target}
 use Rattle.rule_postfix.specs.declared.parts.RowPart.{RowPart}
 use Rattle.rule_postfix.specs.declared.parts.RowPart.TheVariants.{Unruled, Base, Column}
@@ -54,22 +54,17 @@ no_other fde t p = ap (λ b. cond b None (spelled fde t p)) (part_same p)
 pub same_rules : (fde : FdeFields) (t : Target) (column : ℕ) (before after : Rule) → before ≡ after → None ≡ if_other fde t (column_part column before) (column_part column after)
 same_rules fde t column before after e = sym (ap (λ r. if_other fde t (column_part column before) (column_part column r)) (sym e) ∙ no_other fde t (column_part column before))
 
--- a column without an expression has a part without one
-plain_own : (kept own : Bool) (s : ℕ) → is_plain_part (by_group kept (cond own rule.Same (rule.Register s))) ≡ true
-plain_own true true s = refl
-plain_own false true s = refl
-plain_own kept false s = refl
+-- a column has no part of the CFA
+no_base_by : (kept : Bool) (r : Rule) → is_base (by_group kept r) ≡ false
+no_base_by kept rule.Rest = refl
+no_base_by kept rule.Undefined = refl
+no_base_by true rule.Same = refl
+no_base_by false rule.Same = refl
+no_base_by kept (rule.Offset n) = refl
+no_base_by kept (rule.ValOffset n) = refl
+no_base_by kept (rule.Register s) = refl
+no_base_by kept (rule.Expr fetch place) = refl
 
-plain_by : (kept : Bool) (column : ℕ) (r : Rule) → is_expression r ≡ false → is_plain_part (by_group kept (own_as_same column r)) ≡ true
-plain_by kept column rule.Rest plain = refl
-plain_by kept column rule.Undefined plain = refl
-plain_by true column rule.Same plain = refl
-plain_by false column rule.Same plain = refl
-plain_by kept column (rule.Offset n) plain = refl
-plain_by kept column (rule.ValOffset n) plain = refl
-plain_by kept column (rule.Register s) plain = plain_own kept (s == column) s
-plain_by kept column (rule.Expr fetch place) plain = cc
-
-pub plain_column : (column : ℕ) (r : Rule) → is_expression r ≡ false → is_plain_part (column_part column r) ≡ true
+pub no_base : (column : ℕ) (r : Rule) → is_base (column_part column r) ≡ false
 unfolding column_part
-plain_column column r plain = plain_by (is_kept column) column r plain
+no_base column r = no_base_by (is_kept column) (own_as_same column r)

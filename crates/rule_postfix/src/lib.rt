@@ -14,8 +14,8 @@
 //!
 //! The instructions of a CIE are carried out once for all of its entries: `cie_states` has the states that they leave.
 //!
-//! Records are spelled backward, into a line (`backward_line`) that has room for all rules (`rules`). The words of a DWARF expression, which `expr_postfix`
-//! gives, may be longer, so the rules of a record with one are made in memory and spelled forward, as records that were read are (`long_rules`).
+//! Records are spelled backward, into a line (`backward_line`) that has room for all rules (`rules`). The words of a DWARF expression, which
+//! `expr_postfix` gives, may be longer, so the rules of a record with one are added one by one (`long_rules`).
 //!
 //! Entries are translated in shares, side by side, each share as if no range were taken before it; one of whose ranges is taken is translated anew, in turn.
 //!

@@ -58,7 +58,7 @@ fn begin(
     open.body.clear();
     match write_row_rules(fde, row, &mut open.line) {
         Ok(()) => open.line.add_to(&mut open.body),
-        Err(_) => add_row_rules(alloc, fde, &mut open.body, row),
+        Err(_) => add_row_rules(alloc, &mut open.body, &mut open.line, fde, row),
     }
 }
 
@@ -121,7 +121,7 @@ fn put_long_row(
         after: change.after,
     };
     let address = change.address - change.base;
-    add_change_record(alloc, &mut open.body, address, &rows)
+    add_change_record(alloc, &mut open.body, &mut open.line, address, &rows)
 }
 
 /// A row of an entry after another: where a column becomes unspecified, another INIT begins, else the changes are spelled. The two rows

@@ -1,7 +1,6 @@
 //! What a row says of each target, in one form.
 ghost use Rattle.std.specs.Prelude.{◌≡◌, ◌<◌, true};
 ghost use Rattle.sym_edges.specs.Abi.{is_kept};
-ghost use Rattle.rule_postfix.specs.internal.Backward.{is_expression};
 ghost use Rattle.rule_postfix.specs.RowParts.{own_as_same, by_group, column_part, cfa_part, part_of, is_unruled, rule_at, becomes_unspecified, same_bool, same_place, same_rule, same_cfa, same_part, is_unspecified};
 
 use expr_steps::Place;
@@ -69,16 +68,6 @@ pub fn column_part(column: u8, given: Rule) -> RowPart
     ensures { result ≡ column_part column given }
 {
     by_group(is_kept(column), own_as_same(column, given))
-}
-
-/// The part of the CFA.
-pub fn cfa_part(cfa: Option<CfaRule>) -> RowPart
-    ensures { result ≡ cfa_part cfa }
-{
-    match cfa {
-        None => RowPart::Unruled,
-        Some(cfa) => RowPart::Base(cfa),
-    }
 }
 
 pub fn is_unruled(part: RowPart) -> bool
@@ -194,15 +183,6 @@ pub fn stays(before: &Row, after: &Row, column: u8) -> bool
         &before.rules[column as usize],
         &after.rules[column as usize],
     )
-}
-
-pub fn is_expression(given: Rule) -> bool
-    ensures { result ≡ is_expression given }
-{
-    match given {
-        Rule::Expr { .. } => true,
-        _ => false,
-    }
 }
 
 /// Whether the column becomes unspecified.

@@ -1,6 +1,6 @@
 //! The rules of a record: those that a row has, and those that differ between two rows. They are written from the last to the
 //! first into the line of the record.
-ghost use Rattle.std.specs.Prelude.{◌≡◌, ◌+◌, ◌≤◌, ◌∷◌, [], ◌++◌, true, false, None, Some, length, codes, MatchOption, MatchResult, OnOk, OnErr, Err};
+ghost use Rattle.std.specs.Prelude.{◌≡◌, ◌+◌, ◌≤◌, ◌∷◌, [], ◌++◌, true, false, None, Some, length, codes, MatchOption, MatchResult, OnOk};
 ghost use Rattle.std.specs.List.{flat_map};
 ghost use Rattle.sym_rules.specs.Rules.{spelled_token, spelled_rules, target_word};
 ghost use Rattle.sym_rules.specs.declared.rules.Target.TheVariants.{Cfa, Ra};
@@ -9,15 +9,14 @@ ghost use Rattle.frame_rows.specs.Columns.{StayOutside};
 ghost use Rattle.frame_rows.specs.Rows.{empty_row};
 ghost use Rattle.rule_postfix.specs.RowParts.{cfa_part, column_part, rule_at};
 ghost use Rattle.rule_postfix.specs.RowRules.{own_name, unruled_tokens, rule_spelled, spelled, rules_of, registers, if_other, if_changed, row_rules, changed_rules, some_unspecified_below, some_becomes_unspecified};
-ghost use Rattle.rule_postfix.specs.internal.Backward.{column_of, target_of, rule_text, is_expression, is_plain_part, IfLost};
-ghost use Rattle.rule_postfix.specs.declared.rules.Unwritten.TheVariants.{Expression};
+ghost use Rattle.rule_postfix.specs.internal.Backward.{column_of, target_of, rule_text, expr_spelled, is_base, IfLost};
 
 use crate::backward_line::BackwardLine;
 use crate::column_target::ColumnTarget;
 use crate::parts::{
-    RowPart, becomes_unspecified, column_part, is_expression, is_kept, keeps_cfa, rule_at,
-    same_part, stays,
+    RowPart, becomes_unspecified, column_part, is_kept, keeps_cfa, rule_at, same_part, stays,
 };
+use expr_steps::Place;
 use frame_entries::Fde;
 use frame_rows::{CfaRule, Columns, Row, Rule};
 
@@ -140,13 +139,28 @@ fn write_unruled(target: ColumnTarget, line: &mut BackwardLine<LINE>)
     }
 }
 
-/// A rule of a column that is no expression, where it has a spelling.
+/// An expression of an entry that gives a rule's value: whether the CFA is on the stack before it, and whether the value is the
+/// word at what it leaves. Its words may have no room in a line.
+#[derive(Clone, Copy)]
+pub struct ExprRule {
+    pub start: bool,
+    pub fetch: bool,
+    pub place: Place,
+}
+
+/// A rule of a column, where it has a spelling; or the expression that it is.
 #[tactic(auto, using(crate::proofs::TokenLemmas::rule_written, crate::proofs::TokenLemmas::no_rule))]
-fn write_rule(fde: &Fde<'_>, target: ColumnTarget, given: Rule, line: &mut BackwardLine<LINE>)
-    requires plain { is_expression given ≡ false }
+fn write_rule(
+    fde: &Fde<'_>,
+    target: ColumnTarget,
+    given: Rule,
+    line: &mut BackwardLine<LINE>,
+) -> Result<(), ExprRule>
     requires room { length line.old + 40 ≤ 768 }
-    ensures short { length line.new ≤ length line.old + 40 }
-    ensures written { line.new ≡ rule_text (target_of target) (rule_spelled fde.now (target_of target) given) ++ line.old }
+    ensures short { OnOk result (length line.new ≤ length line.old + 40) }
+    ensures written { MatchResult result
+        (λ _. line.new ≡ rule_text (target_of target) (rule_spelled fde.now (target_of target) given) ++ line.old)
+        (λ rule. rule_spelled fde.now (target_of target) given ≡ expr_spelled fde.now rule) }
 {
     match given {
         Rule::Rest | Rule::Undefined => {}
@@ -163,39 +177,61 @@ fn write_rule(fde: &Fde<'_>, target: ColumnTarget, given: Rule, line: &mut Backw
             write_value(register, line);
             write_target(target, line);
         }
-        Rule::Expr { .. } => unreachable!(),
+        Rule::Expr { fetch, place } => {
+            return Err(ExprRule {
+                start: true,
+                fetch,
+                place,
+            });
+        }
     }
+    Ok(())
 }
 
-/// A part of a column that is no expression, where it has a spelling.
+/// A part of a column, where it has a spelling; or the expression that it is.
 #[tactic(auto, unfolding(crate::specs::RowRules::spelled))]
-fn write_part(fde: &Fde<'_>, target: ColumnTarget, part: RowPart, line: &mut BackwardLine<LINE>)
-    requires plain { is_plain_part part ≡ true }
+fn write_part(
+    fde: &Fde<'_>,
+    target: ColumnTarget,
+    part: RowPart,
+    line: &mut BackwardLine<LINE>,
+) -> Result<(), ExprRule>
+    requires column { is_base part ≡ false }
     requires room { length line.old + 40 ≤ 768 }
-    ensures short { length line.new ≤ length line.old + 40 }
-    ensures written { line.new ≡ rule_text (target_of target) (spelled fde.now (target_of target) part) ++ line.old }
+    ensures short { OnOk result (length line.new ≤ length line.old + 40) }
+    ensures written { MatchResult result
+        (λ _. line.new ≡ rule_text (target_of target) (spelled fde.now (target_of target) part) ++ line.old)
+        (λ rule. spelled fde.now (target_of target) part ≡ expr_spelled fde.now rule) }
 {
     match part {
-        RowPart::Unruled => write_unruled(target, line),
+        RowPart::Unruled => {
+            write_unruled(target, line);
+            Ok(())
+        }
         RowPart::Base(_) => unreachable!(),
         RowPart::Column(given) => write_rule(fde, target, given, line),
     }
 }
 
-/// The rule of a column, where two rows differ in it, and the second has no expression there.
-#[tactic(auto, using(crate::proofs::TokenLemmas::no_rule, crate::proofs::PartLemmas::plain_column))]
-fn write_column(rows: &Rows<'_, '_, '_>, target: ColumnTarget, line: &mut BackwardLine<LINE>)
-    requires plain { is_expression (rule_at rows.now.after.now (column_of target)) ≡ false }
+/// The rule of a column, where two rows differ in it; or the expression that it is in the second.
+#[tactic(auto, using(crate::proofs::TokenLemmas::no_rule, crate::proofs::PartLemmas::no_base))]
+pub fn write_column(
+    rows: &Rows<'_, '_, '_>,
+    target: ColumnTarget,
+    line: &mut BackwardLine<LINE>,
+) -> Result<(), ExprRule>
     requires room { length line.old + 40 ≤ 768 }
-    ensures short { length line.new ≤ length line.old + 40 }
-    ensures written { line.new ≡ rule_text (target_of target) (if_other rows.now.fde.now (target_of target) (column_part (column_of target) (rule_at rows.now.before.now (column_of target))) (column_part (column_of target) (rule_at rows.now.after.now (column_of target)))) ++ line.old }
+    ensures short { OnOk result (length line.new ≤ length line.old + 40) }
+    ensures written { MatchResult result
+        (λ _. line.new ≡ rule_text (target_of target) (if_other rows.now.fde.now (target_of target) (column_part (column_of target) (rule_at rows.now.before.now (column_of target))) (column_part (column_of target) (rule_at rows.now.after.now (column_of target)))) ++ line.old)
+        (λ rule. if_other rows.now.fde.now (target_of target) (column_part (column_of target) (rule_at rows.now.before.now (column_of target))) (column_part (column_of target) (rule_at rows.now.after.now (column_of target))) ≡ expr_spelled rows.now.fde.now rule) }
 {
     let column = target.column();
     let part = column_part(column, rule_at(rows.after, column));
     if same_part(column_part(column, rule_at(rows.before, column)), part) {
-        return;
+        return Ok(());
     }
-    write_part(rows.fde, target, part, line);
+    write_part(rows.fde, target, part, line)
 }
 
 /// Why the changes between two rows are not written into a line.
@@ -203,17 +239,18 @@ fn write_column(rows: &Rows<'_, '_, '_>, target: ColumnTarget, line: &mut Backwa
 pub enum Unwritten {
     /// A column becomes unspecified, of which no line can say so.
     Unspecified,
-    /// A rule is an expression, whose words may not have room there.
+    /// A rule is an expression, whose words may have no room there.
     Expression,
 }
 
-/// The rule of the CFA, where two rows differ in it.
-#[tactic(auto, using(crate::proofs::TokenLemmas::cfa_written, crate::proofs::TokenLemmas::no_rule), unfolding(crate::specs::RowRules::spelled))]
-fn write_cfa(rows: &Rows<'_, '_, '_>, line: &mut BackwardLine<LINE>) -> Result<(), Unwritten>
+/// The rule of the CFA, where two rows differ in it; or the expression that it is in the second.
+#[tactic(auto, using(crate::proofs::TokenLemmas::cfa_written, crate::proofs::TokenLemmas::no_rule), unfolding(crate::specs::RowRules::spelled, expr_postfix::specs::ExprTokens::rule_tokens))]
+pub fn write_cfa(rows: &Rows<'_, '_, '_>, line: &mut BackwardLine<LINE>) -> Result<(), ExprRule>
     requires room { length line.old + 40 ≤ 768 }
-    ensures why { OnErr result (result ≡ Err Expression) }
     ensures short { OnOk result (length line.new ≤ length line.old + 40) }
-    ensures written { OnOk result (line.new ≡ rule_text Cfa (if_other rows.now.fde.now Cfa (cfa_part rows.now.before.now.cfa) (cfa_part rows.now.after.now.cfa)) ++ line.old) }
+    ensures written { MatchResult result
+        (λ _. line.new ≡ rule_text Cfa (if_other rows.now.fde.now Cfa (cfa_part rows.now.before.now.cfa) (cfa_part rows.now.after.now.cfa)) ++ line.old)
+        (λ rule. if_other rows.now.fde.now Cfa (cfa_part rows.now.before.now.cfa) (cfa_part rows.now.after.now.cfa) ≡ expr_spelled rows.now.fde.now rule) }
 {
     if keeps_cfa(rows.before, rows.after) {
         return Ok(());
@@ -225,7 +262,11 @@ fn write_cfa(rows: &Rows<'_, '_, '_>, line: &mut BackwardLine<LINE>) -> Result<(
             line.put_bytes(b" .cfa:");
             Ok(())
         }
-        Some(CfaRule::Expr { .. }) => Err(Unwritten::Expression),
+        Some(CfaRule::Expr { place }) => Err(ExprRule {
+            start: false,
+            fetch: false,
+            place: *place,
+        }),
     }
 }
 
@@ -250,10 +291,10 @@ fn write_registers(
             if becomes_unspecified(rows.before, rows.after, number) {
                 return Err(Unwritten::Unspecified);
             }
-            if is_expression(rule_at(rows.after, number)) {
-                return Err(Unwritten::Expression);
+            match write_column(rows, ColumnTarget::Reg(number), line) {
+                Ok(()) => {}
+                Err(_) => return Err(Unwritten::Expression),
             }
-            write_column(rows, ColumnTarget::Reg(number), line);
         }
     }
     Ok(())
@@ -274,11 +315,10 @@ fn write_ra(rows: &Rows<'_, '_, '_>, line: &mut BackwardLine<LINE>) -> Result<()
     if becomes_unspecified(rows.before, rows.after, 16) {
         return Err(Unwritten::Unspecified);
     }
-    if is_expression(rule_at(rows.after, 16)) {
-        return Err(Unwritten::Expression);
+    match write_column(rows, ColumnTarget::Ra, line) {
+        Ok(()) => Ok(()),
+        Err(_) => Err(Unwritten::Expression),
     }
-    write_column(rows, ColumnTarget::Ra, line);
-    Ok(())
 }
 
 /// The rules of the targets in which two rows of an entry differ, where no column becomes unspecified and none of these rules is an

@@ -1,10 +1,11 @@
 -- The rules of a record, one after another, as they are written from the last to the first.
-use Rattle.std.specs.Prelude.{◌≡◌, ℕ, ◌-◌, Bool, true, false, not, List, map, Option}
+use Rattle.std.specs.Prelude.{◌≡◌, ℕ, ◌-◌, Bool, true, false, List, map, Option}
 use Rattle.std.specs.List.{list_any, range_with_len}
 use Rattle.std.specs.Option.{option_to_list}
-use Rattle.frame_rows.specs.declared.row.Rule.{Rule}
-use Rattle.frame_rows.specs.declared.row.Rule.TheVariants as rule
+use Rattle.frame_entries.specs.FdeFields.{FdeFields}
 use Rattle.frame_rows.specs.declared.row.Row.{Row}
+use Rattle.frame_rows.specs.Rows.{expr_bytes}
+use Rattle.expr_postfix.specs.ExprTokens.{rule_tokens}
 use Rattle.sym_rules.specs.declared.rules.Target.{Target}
 use Rattle.sym_rules.specs.declared.rules.Target.TheVariants as target
 use Rattle.sym_rules.specs.declared.rules.Token.{Token}
@@ -15,6 +16,7 @@ use Rattle.rule_postfix.specs.RowParts.{becomes_unspecified}
 use Rattle.rule_postfix.specs.RowRules.{rule_of, some_becomes_unspecified}
 use Rattle.rule_postfix.specs.declared.parts.RowPart.{RowPart}
 use Rattle.rule_postfix.specs.declared.parts.RowPart.TheVariants.{Unruled, Base, Column}
+use Rattle.rule_postfix.specs.declared.rules.ExprRule.{ExprRule}
 use Rattle.rule_postfix.specs.declared.rules.Unwritten.{Unwritten}
 use Rattle.rule_postfix.specs.declared.rules.Unwritten.TheVariants.{Unspecified, Expression}
 
@@ -27,21 +29,15 @@ abbrev pub target_of : ColumnTarget → Target
 target_of Ra = target.Ra
 target_of (Reg number) = target.Reg number
 
--- a rule whose words may not have room in a line
-abbrev pub is_expression : Rule → Bool
-is_expression rule.Rest = false
-is_expression rule.Undefined = false
-is_expression rule.Same = false
-is_expression (rule.Offset n) = false
-is_expression (rule.ValOffset n) = false
-is_expression (rule.Register register) = false
-is_expression (rule.Expr fetch place) = true
+-- the words of an expression that is a rule
+abbrev pub expr_spelled : FdeFields → ExprRule → Option (List Token)
+expr_spelled e rule = rule_tokens rule.start rule.fetch (expr_bytes e rule.place)
 
--- a part of a column that has no expression
-abbrev pub is_plain_part : RowPart → Bool
-is_plain_part Unruled = true
-is_plain_part (Base cfa) = false
-is_plain_part (Column given) = not (is_expression given)
+-- a part of the CFA, which no column has
+abbrev pub is_base : RowPart → Bool
+is_base Unruled = false
+is_base (Base cfa) = true
+is_base (Column given) = false
 
 -- where changes are not written for a column that becomes unspecified, there is one
 abbrev pub IfLost : Row → Row → Unwritten → Type 0
