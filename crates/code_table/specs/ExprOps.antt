@@ -1,5 +1,5 @@
--- The opcodes of DWARF expressions that are read, with their operands (DWARF 5, 2.5 and table 7.9). A constant of so many bytes is laid out
--- alike with a sign and without.
+-- The opcodes of DWARF expressions that are read, with their operands (DWARF 5, 2.5 and table 7.9). A constant of fixed size has the same layout with
+-- a sign as without one.
 use Rattle.std.specs.Prelude.{ℕ, List, [], ◌∷◌}
 use Rattle.code_table.specs.declared.kind.Kind.{Kind}
 use Rattle.code_table.specs.declared.kind.Kind.TheVariants.{Nothing, U8, U16, U32, U64, Uleb, Sleb}

@@ -1,5 +1,4 @@
--- The forms of attribute values (DWARF 5, 7.5.6 and table 7.6, and two of the GNU tools), each with the layout of its
--- operand and what that is.
+-- The forms of attribute values (DWARF 5, 7.5.6 and table 7.6, and two of the GNU tools), each with the layout and the class of its operand.
 use Rattle.std.specs.Prelude.{ℕ, ◌==◌, Bool, if◌then◌else◌, List, [], ◌∷◌, map, find, Option}
 use Rattle.code_table.specs.declared.kind.Kind.{Kind}
 use Rattle.code_table.specs.declared.kind.Kind.TheVariants.{Nothing, U8, U16, U24, U32, U64, Bytes16, Uleb, Sleb, ZeroText, Block1, Block2, Block4, BlockUleb}
@@ -8,7 +7,7 @@ use Rattle.code_table.specs.declared.forms.FormClass.{FormClass}
 use Rattle.code_table.specs.declared.forms.FormClass.TheVariants as is
 use Rattle.code_table.specs.declared.forms.FormRow.{FormRow}
 
--- one row: a form with the layout of its operand and what that is
+-- one row: a form with the layout and the class of its operand
 abbrev pub form : ℕ → Kind → FormClass → FormRow
 form code layout class = record { code = code; layout = layout; class = class }
 
@@ -16,7 +15,7 @@ form code layout class = record { code = code; layout = layout; class = class }
 abbrev pub place : Bool → Kind
 place wide = if wide then U64 else U32
 
--- the table, in units of the 64-bit format where `wide`
+-- the table; `wide` means in units of the 64-bit format
 unfoldable pub forms : Bool → List FormRow
 forms wide =
     form 0x01 U64 is.Address  -- DW_FORM_addr
@@ -66,7 +65,7 @@ forms wide =
     ∷ form 0x1f21 (place wide) is.SupTextPlace  -- DW_FORM_GNU_strp_alt
     ∷ []
 
--- the row of a form, where there is one
+-- the row of a form, if there is one
 unfoldable pub form_row : ℕ → List FormRow → Option FormRow
 form_row code rows = find (λ row. row.code == code) rows
 

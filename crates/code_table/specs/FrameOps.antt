@@ -1,5 +1,4 @@
--- The call frame instructions whose operands stand after the opcode (DWARF 5, table 7.29, and
--- DW_CFA_GNU_args_size of the GNU tools).
+-- The call frame instructions whose operands come after the opcode (DWARF 5, table 7.29, and DW_CFA_GNU_args_size of the GNU tools).
 use Rattle.std.specs.Prelude.{ℕ, ◌==◌, not, List, [], ◌∷◌, filter}
 use Rattle.code_table.specs.declared.kind.Kind.{Kind}
 use Rattle.code_table.specs.declared.kind.Kind.TheVariants.{Nothing, U8, U16, U32, Uleb, Sleb, BlockUleb}
@@ -9,7 +8,7 @@ use Rattle.code_table.specs.declared.code_row.CodeRow.{CodeRow}
 abbrev pub op : ℕ → Kind → Kind → CodeRow
 op code first second = record { code = code; shape = record { first = first; second = second } }
 
--- the operand of DW_CFA_set_loc is a pointer, whose layout the augmentation gives, so its row has none
+-- the operand of DW_CFA_set_loc is a pointer, whose layout the augmentation gives, so the row of this opcode has no operand
 unfoldable pub frame_opcodes : List CodeRow
 frame_opcodes =
     op 0x00 Nothing Nothing  -- DW_CFA_nop
@@ -38,6 +37,6 @@ frame_opcodes =
     ∷ op 0x2e Uleb Nothing  -- DW_CFA_GNU_args_size
     ∷ []
 
--- those but DW_CFA_set_loc
+-- the opcodes except DW_CFA_set_loc
 unfoldable pub plain_opcodes : List CodeRow
 plain_opcodes = filter (λ row. not (row.code == 0x01)) frame_opcodes

@@ -19,7 +19,7 @@ number_in reading = reading >>= λ number. Ok (Num number.0, number.1)
 unfoldable pub run_at : ℕ → Ahead → Result (Operand × Ahead) CursorFault
 run_at n c = take_at n c >>= λ run. Ok (Run c.at (length run.0), run.1)
 
--- a block: as many bytes as the number in front of them says
+-- a block: a number, and as many bytes as this number says
 abbrev pub block_in : Result (ℕ × Ahead) CursorFault → Result (Operand × Ahead) CursorFault
 block_in reading = reading >>= λ count. run_at count.0 count.1
 
@@ -40,7 +40,7 @@ kind_at Block2 c = block_in (fixed_at 2 c)
 kind_at Block4 c = block_in (fixed_at 4 c)
 kind_at BlockUleb c = block_in (uleb_at c)
 
--- the two operands of a shape: the first refusal counts
+-- the two operands of a shape; the first one that is refused gives the fault
 unfoldable pub shape_at : Shape → Ahead → Result (Operands × Ahead) CursorFault
 shape_at shape c =
     kind_at shape.first c >>= λ first.

@@ -9,6 +9,6 @@ abbrev pub left : {A E : Type 0} → Result (A × Ahead) E → Option Ahead
 left (Ok x) = Some x.1
 left (Err fault) = None
 
--- what is read after the opcode of a row takes the operands that the row has
+-- after the opcode of a row, the reading passes the same bytes as the operands of the row, and is refused exactly if they are
 abbrev pub TakesOperands : {A E : Type 0} → (ℕ → Ahead → Result (A × Ahead) E) → CodeRow → Type 0
 TakesOperands after_opcode row = (c : Ahead) → left (after_opcode row.code c) ≡ left (shape_at row.shape c)

@@ -176,8 +176,8 @@ macro_rules! rows {
     };
 }
 
-/// Constants, registers with an offset, and the operations on them that frame entries have; each has one operand at most. A layout
-/// says how many bytes a constant has, and not whether its number has a sign.
+/// Constants, registers with an offset, and the operations on them that frame entries have. Each has at most one operand. A layout says how many
+/// bytes a constant has, but not whether it has a sign.
 pub const EXPR_OPS: Table<82> = Table {
     rows: rows! {
         DW_OP_deref: Nothing;

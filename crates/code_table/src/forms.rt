@@ -103,7 +103,7 @@ pub enum FormClass {
     /// An address.
     Address,
 
-    /// A number in `.debug_addr`.
+    /// An index into `.debug_addr`.
     AddressIndex,
 
     /// A run of bytes, or an expression.
@@ -115,10 +115,10 @@ pub enum FormClass {
     /// A number with a sign.
     Signed,
 
-    /// The constant that stands in the abbreviation.
+    /// The constant in the abbreviation.
     Implicit,
 
-    /// Yes, where the number is not 0.
+    /// Yes, if the number is not 0.
     Flag,
 
     /// Yes.
@@ -133,10 +133,10 @@ pub enum FormClass {
     /// A place in `.debug_line_str`.
     LineTextPlace,
 
-    /// A place in the `.debug_str` of another file, which several files share (DWARF 5, 7.3.6).
+    /// A place in the `.debug_str` of the supplementary file (DWARF 5, 7.3.6).
     SupTextPlace,
 
-    /// A number in `.debug_str_offsets`.
+    /// An index into `.debug_str_offsets`.
     TextIndex,
 
     /// A place counted from the start of the unit.
@@ -151,17 +151,17 @@ pub enum FormClass {
     /// A place in another section.
     SectionPlace,
 
-    /// A number of a range list.
+    /// The index of a range list.
     ListIndex,
 
-    /// The form, whose value follows.
+    /// A form, whose value follows.
     Indirect,
 
-    /// What is passed over: a location list, an entry of another file, or a number of 16 bytes.
+    /// A value that is skipped: a location list, a type by its signature, or a number of 16 bytes.
     Other,
 }
 
-/// A form with the layout of its operand and what that is.
+/// A form with the layout and the class of its operand.
 #[derive(Clone, Copy)]
 pub struct FormRow {
     pub code: u64,
@@ -169,7 +169,7 @@ pub struct FormRow {
     pub class: FormClass,
 }
 
-/// The rows of the table, made into what `$make` writes. Places in sections have the layout `$place`.
+/// The rows of the table, passed to the macro `$make`. Places in sections have the layout `$place`.
 macro_rules! forms {
     ($make:ident, $given:expr, $place:expr) => {
         $make! { $given;
@@ -255,7 +255,7 @@ fn place(wide: bool) -> Kind
     if wide { Kind::U64 } else { Kind::U32 }
 }
 
-/// The row of a form: `wide` in a unit of the 64-bit format.
+/// The row of a form; `wide` means in a unit of the 64-bit format.
 #[inline]
 #[tactic(auto, unfolding(crate::specs::Forms::forms, crate::specs::Forms::form_row))]
 pub fn find_form(code: u64, wide: bool) -> Option<FormRow>

@@ -59,8 +59,8 @@ pub const DW_CFA_val_expression: u64 = 0x16;
 
 pub const DW_CFA_GNU_args_size: u64 = 0x2e;
 
-/// The rows of the table, made into what `$make` writes. The operand of `DW_CFA_set_loc` is a pointer,
-/// whose layout the augmentation gives: its row has none.
+/// The rows of the table, passed to the macro `$make`. The operand of `DW_CFA_set_loc` is a pointer, whose layout the augmentation gives, so its row
+/// has no operand.
 macro_rules! frame_ops {
     ($make:ident) => {
         $make! {
@@ -106,7 +106,7 @@ macro_rules! rows {
 
 const FRAME_OP_COUNT: usize = frame_ops!(count);
 
-/// The instructions whose operands stand after the opcode.
+/// The instructions whose operands come after the opcode.
 pub const FRAME_OPS: Table<FRAME_OP_COUNT> = Table {
     rows: frame_ops!(rows),
 };

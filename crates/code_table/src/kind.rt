@@ -25,16 +25,16 @@ pub enum Kind {
     /// A text up to its zero byte.
     ZeroText,
 
-    /// A length of one byte, and so many bytes.
+    /// A length of one byte, and as many bytes as it says.
     Block1,
 
-    /// A length of two bytes, and so many bytes.
+    /// A length of two bytes, and as many bytes as it says.
     Block2,
 
-    /// A length of four bytes, and so many bytes.
+    /// A length of four bytes, and as many bytes as it says.
     Block4,
 
-    /// A length as an unsigned LEB128, and so many bytes.
+    /// A length as an unsigned LEB128, and as many bytes as it says.
     BlockUleb,
 }
 
@@ -52,7 +52,7 @@ pub enum Operand {
     Num(u64),
     Signed(i64),
 
-    /// A text without its zero byte, or the bytes of a block: where they begin, and how many.
+    /// A text without its zero byte, or the bytes of a block: the place of the first byte, and how many there are.
     Run { start: usize, len: usize },
 }
 

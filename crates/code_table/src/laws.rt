@@ -1,4 +1,4 @@
-//! Laws, for proofs above. Each function does nothing: its contract is the law.
+//! Laws, for proofs of other crates. Each function does nothing: its contract is the law.
 ghost use Rattle.std.specs.Prelude.{◌≡◌, false, true};
 ghost use Rattle.leb_cursor.specs.Ahead.{Ahead};
 ghost use Rattle.leb_cursor.specs.Passes.{Passes};

@@ -1,14 +1,11 @@
-//! Tables of codes with the layouts of their operands, and the reading of operands by layout: the
-//! opcodes of call frame instructions (DWARF 5, 6.4.2 and table 7.29), those of DWARF expressions that
-//! frame entries have (2.5 and table 7.9), and the forms of attribute values (7.5.6 and table 7.6). Beside them stand the names of the tags and attributes of entries (tables 7.3 and 7.5).
+//! Tables of codes with the layouts of their operands, and the reading of operands by their layout: the opcodes of call frame instructions (DWARF 5,
+//! 6.4.2 and table 7.29), the opcodes of DWARF expressions that frame entries have (2.5 and table 7.9), and the forms of attribute values (7.5.6 and
+//! table 7.6). The crate also has the names of the tags and attributes of entries (tables 7.3 and 7.5).
 //!
-//! A layout is a [`Kind`]; a code has two, its [`Shape`]. [`Table::find`] gives the shape of a code
-//! exactly where the table has it, and [`read_shape`] reads its operands from a cursor: what it
-//! answers and what is left afterwards are what `specs/Layouts.antt` gives for what was left before,
-//! each refusal with the place of the number, text or run of bytes that fails, and a refused call
-//! leaves the cursor as it was. The rows of [`FRAME_OPS`] are the standard's, which
-//! `specs/FrameOps.antt` writes out (`laws` says so).
-//! No call takes memory.
+//! A layout is a [`Kind`]; a code has two, its [`Shape`]. [`Table::find`] gives the shape of a code exactly if the table has the code. [`read_shape`]
+//! reads the operands of a shape from a cursor. Its result, and what is left afterwards, are what `specs/Layouts.antt` gives for what was left
+//! before. A fault has the place of the number, text or run of bytes that cannot be read, and a refused call leaves the cursor as it was. The rows of
+//! [`FRAME_OPS`] are the standard's, which `specs/FrameOps.antt` lists (`laws` says so). No call allocates memory.
 #![tactic(auto)]
 
 mod attributes;

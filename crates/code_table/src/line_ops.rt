@@ -36,7 +36,7 @@ macro_rules! rows {
     };
 }
 
-/// The opcodes whose operands the standard lays down; each has one at most.
+/// The opcodes whose operands the standard defines; each has at most one.
 pub const LINE_OPS: Table<12> = Table {
     rows: rows! {
         DW_LNS_copy: Nothing;

@@ -36,8 +36,8 @@ fn read_text(cursor: &mut Cursor<'_>) -> Result<Operand, CursorFault>
     })
 }
 
-/// A match over all layouts: those of a number, each with the cursor's call for it; those of a block,
-/// each with the call for its length; and the others.
+/// A match over all layouts: those of a number, each with the cursor's call for it; those of a block, each with the call for its length; and the
+/// others.
 macro_rules! read_by_kind {
     ($cursor:ident, $kind:ident;
         numbers { $($number:ident: $read_number:ident),* }
@@ -58,8 +58,8 @@ macro_rules! read_by_kind {
     };
 }
 
-/// Reads an operand. A refused call leaves the cursor where it was; of a block whose bytes end too early
-/// the place of the refusal is after its length.
+/// Reads an operand. A refused call leaves the cursor where it was. If the bytes of a block end too early, the place of the fault is after the length
+/// of the block.
 #[inline]
 #[tactic(auto, unfolding(crate::specs::Layouts::kind_at))]
 pub fn read_kind(cursor: &mut Cursor<'_>, kind: Kind) -> Result<Operand, CursorFault>
@@ -78,9 +78,8 @@ pub fn read_kind(cursor: &mut Cursor<'_>, kind: Kind) -> Result<Operand, CursorF
     )
 }
 
-/// Reads the operands of `shape`, the first and then the second. A refusal has the place of the
-/// number, text or run of bytes that fails: of a block whose bytes end too early the place after
-/// its length.
+/// Reads the operands of `shape`, the first and then the second. A fault has the place of the number, text or run of bytes that cannot be read. If
+/// the bytes of a block end too early, this place is after the length of the block.
 #[inline]
 #[tactic(auto, unfolding(crate::specs::Layouts::shape_at))]
 pub fn read_shape(cursor: &mut Cursor<'_>, shape: Shape) -> Result<Operands, CursorFault>

@@ -19,7 +19,7 @@ fn row_of(rows: &[CodeRow], code: u64) -> Option<&CodeRow>
 }
 
 impl<const N: usize> Table<N> {
-    /// The layout of `code`, where the table has it. It is looked for row by row.
+    /// The layout of `code`, if the table has it. It is looked for row by row.
     #[tactic(auto, unfolding(crate::specs::Rows::shape_of))]
     pub fn find(&self, code: u64) -> Option<Shape>
         ensures { result ≡ shape_of code self.now.rows }

@@ -1,4 +1,4 @@
-//! The tags of entries that matter (DWARF 5, table 7.3), by the standard's names.
+//! The tags of entries that are read (DWARF 5, table 7.3), by the standard's names.
 
 pub const DW_TAG_class_type: u64 = 0x02;
 

@@ -11,23 +11,23 @@ use Rattle.leb_cursor.specs.Lists.{list_at}
 use Rattle.expr_steps.specs.declared.operation.Operation.{Operation}
 use Rattle.expr_steps.specs.declared.operation.Operation.TheVariants.{Constant, Breg, Deref, And, Minus, Mul, Plus, PlusUconst, Shl, Ge}
 
--- an opcode or an operand that cannot be read: the expression ends too early, or a LEB128 is too long
+-- the fault if an opcode or an operand cannot be read: the expression ends too early, or a LEB128 is too long
 abbrev pub or_unread : {A : Type 0} → Result A CursorFault → Result A Reason
 or_unread (Ok x) = Ok x
 or_unread (Err fault) = Err reason.Expression
 
--- an operation without an operand, and with one
+-- an operation without an operand, and an operation with one
 abbrev pub alone : Operation → Ahead → Result (Operation × Ahead) Reason
 alone operation c = Ok (operation, c)
 
 abbrev pub one : {A : Type 0} → (Ahead → Result (A × Ahead) CursorFault) → (A → Operation) → Ahead → Result (Operation × Ahead) Reason
 one operand make c = or_unread (operand c) >>= λ x. Ok (make x.0, x.1)
 
--- a constant of so many bits with a sign: its value modulo 2^64
+-- a constant with a sign, of a given width: its value modulo 2^64
 abbrev pub signed : Width → ℕ → Operation
 signed w n = Constant (cast_unsigned w64 (cast_signed w n))
 
--- after an opcode: its operand, and what it means (DWARF 5, table 7.9); other opcodes are not read
+-- the operation after its opcode was read, with its operand (DWARF 5, table 7.9); other opcodes are refused
 unfoldable pub behind_opcode : ℕ → Ahead → Result (Operation × Ahead) Reason
 behind_opcode opcode c =
     if opcode == 0x06 then alone Deref c else  -- DW_OP_deref
@@ -56,11 +56,11 @@ behind_opcode opcode c =
 unfoldable pub operation_at : Ahead → Result (Operation × Ahead) Reason
 operation_at c = or_unread (fixed_at 1 c) >>= λ opcode. behind_opcode opcode.0 opcode.1
 
--- the next operation, or none where no byte is left
+-- the next operation, or none if no byte is left
 unfoldable pub next_operation : Ahead → Result (Option Operation × Ahead) Reason
 next_operation c = if length c.bytes == 0 then Ok (None, c) else (operation_at c >>= λ x. Ok (Some x.0, x.1))
 
--- the operations ahead, where each of them can be read
+-- the operations ahead, if each of them can be read
 abbrev pub listed : Result (List Operation × Ahead) Reason → Option (List Operation)
 listed (Ok x) = Some x.0
 listed (Err why) = None

@@ -1,6 +1,6 @@
--- The steps of an expression that rule text can say: an operation each, or a constant with the operation directly behind it. `and` keeps low
--- bits, so it is the rest of a division by a power of two; `shl` is a multiplication with one; and `ge`, of a value that an `and` just left
--- below a power of two, is a division by it.
+-- The steps of an expression that rule text can express. Each is one operation, or a constant with the operation directly after it. `and` keeps low
+-- bits, so it is the remainder of a division by a power of two. `shl` is a multiplication by a power of two. `ge` takes a value that an `and` just
+-- left below a power of two, so it is a division by this power.
 use Rattle.std.specs.Prelude.{ℕ, zero, suc, ◌-◌, ◌^◌, ◌==◌, nat_le, if◌then◌else◌, List, [], ◌∷◌, Option, None, Some}
 use Rattle.std.specs.Option.{option_and_then}
 use Rattle.leb_cursor.specs.Ahead.{Ahead}
@@ -10,31 +10,31 @@ use Rattle.expr_steps.specs.declared.step.Step.{Step}
 use Rattle.expr_steps.specs.declared.step.Step.TheVariants as step
 use Rattle.expr_steps.specs.Operations.{operations, operations_at}
 
--- a step in front of those behind it
+-- a step, and then the later steps
 abbrev pub in_front : Step → Option (List Step) → Option (List Step)
 in_front s None = None
 in_front s (Some steps) = Some (s ∷ steps)
 
--- the power of two below 2^n that is one more than a constant, where there is one
+-- the power of two below 2^n that is one more than a constant, if there is one
 unfoldable pub mask_size : ℕ → ℕ → Option ℕ
 mask_size zero c = None
 mask_size (suc n) c = if c == 2 ^ n - 1 then Some (2 ^ n) else mask_size n c
 
--- a constant and `and`: the constant is 2^k - 1, for a k from 0 to 62
+-- a constant and `and`: the constant must be 2^k - 1, for a k from 0 to 62
 abbrev pub with_and : Option ℕ → (Option ℕ → Option (List Step)) → Option (List Step)
 with_and None later = None
 with_and (Some size) later = in_front (step.Remainder size) (later (Some size))
 
--- a constant and `shl`: it is at most 62
+-- a constant and `shl`: the constant must be at most 62
 abbrev pub with_shl : ℕ → Option (List Step) → Option (List Step)
 with_shl c later = if nat_le c 62 then in_front (step.Product (2 ^ c)) later else None
 
--- a constant and `ge`, directly behind an `and`: it is at most that one's power of two
+-- a constant and `ge`, directly after an `and`: the constant must be at most the power of two of this `and`
 abbrev pub with_ge : ℕ → Option ℕ → Option (List Step) → Option (List Step)
 with_ge c None later = None
 with_ge c (Some size) later = if nat_le c size then in_front (step.Reaches (size - c) size) later else None
 
--- the step of an operation alone; a register is one of the sixteen, or rip as 16
+-- the step of an operation alone; its register must be one of the sixteen, or rip as 16
 abbrev pub step_alone : Operation → Option Step
 step_alone (Constant value) = Some (step.Constant value)
 step_alone (Breg register offset) = if nat_le register 16 then Some (step.Register register offset) else None
@@ -51,7 +51,7 @@ abbrev pub with_alone : Option Step → Option (List Step) → Option (List Step
 with_alone None later = None
 with_alone (Some s) later = in_front s later
 
--- the steps of operations, where the step in front of them kept the bits below that power of two; none where an operation is in no step
+-- the steps of operations, or none if an operation is in no step; `kept` is the power of two below which the step before them kept the bits
 unfoldable pub steps_of : List Operation → Option ℕ → Option (List Step)
 steps_of [] kept = Some []
 steps_of (Constant c ∷ And ∷ later) kept = with_and (mask_size 63 c) (steps_of later)

@@ -84,7 +84,7 @@ fn read_behind(cursor: &mut Cursor<'_>, opcode: u64) -> Result<Operation, Reason
 }
 
 impl Operation {
-    /// Reads the next operation. One that cannot be read is refused as `Expression`.
+    /// Reads the next operation. If it cannot be read, it is refused as `Expression`.
     #[tactic(auto, unfolding(crate::specs::Operations::operation_at))]
     pub fn read(cursor: &mut Cursor<'_>) -> Result<Operation, Reason>
         ensures { gave result cursor.new ≡ operation_at cursor.old }
@@ -95,7 +95,7 @@ impl Operation {
         }
     }
 
-    /// Reads the next operation, where there is a byte left.
+    /// Reads the next operation, if there is a byte left.
     #[tactic(auto, unfolding(crate::specs::Operations::next_operation))]
     pub(crate) fn next(cursor: &mut Cursor<'_>) -> Result<Option<Operation>, Reason>
         ensures { gave result cursor.new ≡ next_operation cursor.old }

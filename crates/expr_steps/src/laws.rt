@@ -1,4 +1,4 @@
-//! Laws of the definitions, for proofs above. Each function does nothing: its contract is the law.
+//! Laws of the definitions, for proofs of other crates. Each function does nothing: its contract is the law.
 ghost use Rattle.std.specs.Prelude.{◌≡◌, ℕ, true, List, Some};
 ghost use Rattle.std.specs.List.{All, list_all};
 ghost use Rattle.leb_cursor.specs.Ahead.{Ahead};
@@ -10,7 +10,7 @@ ghost use Rattle.expr_steps.specs.Operations.{behind_opcode, next_operation};
 ghost use Rattle.expr_steps.specs.Steps.{steps};
 ghost use Rattle.expr_steps.specs.Standing.{has_bounds};
 
-/// The operations ahead are none where no byte is left, else the next one with those after it.
+/// There are no operations ahead if no byte is left; otherwise they are the next one and those after it.
 #[tactic(auto, using(crate::proofs::FollowLemmas::operations_are))]
 pub fn operations_follow()
     ensures { (c : Ahead) → list_at next_operation c ≡ list_cases next_operation c }
@@ -22,7 +22,7 @@ pub fn operands_are_those_of_the_table()
     ensures { All (TakesOperands behind_opcode) expr_opcodes }
 {}
 
-/// The registers of an expression's steps are the sixteen and rip, and their offsets are numbers of 64 bits.
+/// The registers of an expression's steps are the sixteen and rip, and their offsets are signed numbers of 64 bits.
 #[tactic(auto, using(crate::proofs::BoundLemmas::steps_bounded))]
 pub fn steps_have_bounds()
     ensures { (bytes : List ℕ) (given : List Step) → steps bytes ≡ Some given → list_all has_bounds given ≡ true }

@@ -1,13 +1,13 @@
-//! The operations of DWARF expressions (DWARF 5, 2.5), and which expressions of frame entries the rules of a symbol file can say.
+//! The operations of DWARF expressions (DWARF 5, 2.5), and which expressions of frame entries the rules of a symbol file can express.
 //!
-//! [`Operation::read`] reads an operation: the constants, the registers with an offset, and the few operations on them that the frame
-//! entries of linkers and libraries have. A [`StepReader`] gives the steps that they make: a constant that is directly followed by `and`,
-//! `shl` or `ge` is one step with it. [`find_standing`] says whether an expression is made of steps that each find their values, leave one value
-//! and take at most 1,024 words, and whether it needs the canonical frame address (CFA) below its own values.
+//! [`Operation::read`] reads an operation: the constants, the registers with an offset, and the few operations on them that the frame entries of
+//! linkers and libraries have. A [`StepReader`] gives the steps that they make: a constant and an `and`, `shl` or `ge` directly after it are one
+//! step. [`find_standing`] says whether rules can express an expression: it is made of steps, each step finds its values, one value is left, and the
+//! steps take at most 1,024 words. It also says whether the expression needs the canonical frame address (CFA) below its own values.
 //! `specs/Operations.antt`, `specs/Steps.antt` and `specs/Standing.antt` have the definitions, in this order.
 //!
-//! Nothing here names a rule of text: what the words are, and what an expression's value is, stands above. A [`Place`] says where an
-//! expression's bytes stand. No call takes memory.
+//! Other crates define which words a step has in rule text, and which value an expression has. A [`Place`] says where the bytes of an expression are.
+//! No call allocates memory.
 #![tactic(auto)]
 
 // Operations, and reading them.
@@ -18,11 +18,11 @@ mod operation;
 mod step;
 mod step_reader;
 
-// Which expressions rule text can say, and where they stand.
+// Which expressions rule text can express, and where they are.
 mod place;
 mod standing;
 
-// For proofs above.
+// For proofs of other crates.
 pub mod laws;
 
 pub use crate::operation::Operation;

@@ -1,8 +1,8 @@
-//! Where the bytes of an expression stand.
+//! Where the bytes of an expression are.
 ghost use Rattle.std.specs.Prelude.{◌≡◌};
 ghost use Rattle.expr_steps.specs.Places.{place_of, bytes_at};
 
-/// A run of bytes of an entry's own instructions, or of those of its CIE: where it begins and how long it is. It is held in twelve bytes.
+/// A run of bytes in an entry's own instructions, or in those of its CIE: where it begins and how long it is. It is stored in twelve bytes.
 #[derive(Clone, Copy, PartialEq, Eq, Debug)]
 pub struct Place {
     pub own: bool,
@@ -11,7 +11,7 @@ pub struct Place {
 }
 
 impl Place {
-    /// The place with that start and length, where both are below 2^32.
+    /// The place with this start and length, if both are below 2^32.
     #[tactic(auto, unfolding(crate::specs::Places::place_of))]
     pub fn of(own: bool, start: usize, len: usize) -> Option<Place>
         ensures { result ≡ place_of own start len }
@@ -26,7 +26,8 @@ impl Place {
         })
     }
 
-    /// The bytes at the place, of the CIE's instructions `first` or the entry's `own`; those that are there, where it leaves them.
+    /// The bytes at the place, in the CIE's instructions `first` or in the entry's `own`; if the place reaches beyond their end, only those that are
+    /// there.
     #[tactic(auto, unfolding(crate::specs::Places::bytes_at))]
     pub fn bytes<'a>(self, first: &'a [u8], own: &'a [u8]) -> &'a [u8]
         ensures { result.now ≡ bytes_at self first.now own.now }

@@ -1,10 +1,10 @@
-//! Which expressions rule text can say.
+//! Which expressions rule text can express.
 ghost use Rattle.std.specs.Prelude.{◌≡◌};
 ghost use Rattle.expr_steps.specs.Standing.{is_one, standing, standing_by};
 
 use crate::step_reader::StepReader;
 
-/// How an expression that rule text can say stands to the CFA.
+/// How an expression that rule text can express uses the CFA.
 #[derive(Clone, Copy, PartialEq, Eq, Debug)]
 pub enum Standing {
     /// It needs no value below its own.
@@ -13,7 +13,7 @@ pub enum Standing {
     OverCfa,
 }
 
-/// The most words that a rule of an expression may have.
+/// The most words that the rule of an expression may have.
 const MAX_WORDS: u32 = 1024;
 
 fn is_one(depth: Option<u32>) -> bool
@@ -38,10 +38,10 @@ fn standing_by(start: bool, count: u32, free: Option<u32>, over: Option<u32>) ->
     None
 }
 
-/// How an expression stands, and none exactly where rule text cannot say it: where a byte is no part of an operation that is read, an
-/// operation is in no step, a step does not find its values, another number of values than one is left, or there are more than 1,024
-/// words. `start` says that the CFA may be on the stack: it is for `DW_CFA_expression` and `DW_CFA_val_expression`, and not for
-/// `DW_CFA_def_cfa_expression`. Takes no memory.
+/// The standing of an expression, or none exactly if rule text cannot express it. It cannot if a byte belongs to no operation that is read, an
+/// operation is in no step, a step does not find its values, the number of values that are left is not one, or there are more than 1,024 words.
+/// `start` says that the CFA may be on the stack. This is so for `DW_CFA_expression` and `DW_CFA_val_expression`, but not for
+/// `DW_CFA_def_cfa_expression`. Allocates no memory.
 #[tactic(auto, using(crate::proofs::StandingLemmas::stands_all, crate::proofs::StandingLemmas::stands_more, crate::proofs::StandingLemmas::stands_long, crate::proofs::StandingLemmas::stands_not, crate::proofs::StandingLemmas::deeper, crate::proofs::StandingLemmas::some_words, crate::proofs::StandingLemmas::standing_is))]
 pub fn find_standing(expr: &[u8], start: bool) -> Option<Standing>
     ensures { result ≡ standing start expr.now }

@@ -1,26 +1,26 @@
-//! The steps of an expression: what rule text can say.
+//! The steps of an expression: what rule text can express.
 ghost use Rattle.std.specs.Prelude.{◌≡◌};
 ghost use Rattle.std.specs.Option.{option_and_then};
 ghost use Rattle.expr_steps.specs.Standing.{takes, words, after_step};
 ghost use Rattle.expr_steps.specs.internal.Reading.{IsAtMost};
 
-/// A step. It takes values from the stack and leaves one. A constant that is directly followed by `DW_OP_and`, `DW_OP_shl` or `DW_OP_ge`
-/// is one step with it; all other operations are steps of their own.
+/// A step. It takes values from the stack and leaves one. A constant and a `DW_OP_and`, `DW_OP_shl` or `DW_OP_ge` directly after it are one step.
+/// Every other operation is a step of its own.
 #[derive(Clone, Copy, PartialEq, Eq, Debug)]
 pub enum Step {
     Constant { value: u64 },
-    /// A register, of which 16 is rip, and its offset.
+    /// A register, where 16 is rip, and its offset.
     Register { register: u8, offset: i64 },
     Fetch,
     Add,
     Subtract,
     Multiply,
     AddConstant { addend: u64 },
-    /// The low bits alone: what is left of a division by a power of two.
+    /// Only the low bits: the remainder of a division by a power of two.
     Remainder { size: u64 },
-    /// A shift to the left: a multiplication with a power of two.
+    /// A shift to the left: a multiplication by a power of two.
     Product { factor: u64 },
-    /// Whether a value that is below `size` reaches `size` once `lift` is added: 1 or 0.
+    /// Whether a value below `size` reaches `size` after `lift` is added: 1 or 0.
     Reaches { lift: u64, size: u64 },
 }
 
@@ -40,7 +40,7 @@ impl Step {
         }
     }
 
-    /// How many words of rule text say it.
+    /// How many words of rule text express it.
     pub fn words(self) -> u32
         ensures { result ≡ words self }
     {
@@ -52,7 +52,7 @@ impl Step {
         }
     }
 
-    /// How many values are on the stack after it, where it finds what it takes.
+    /// How many values are on the stack after it, if it finds the values that it takes.
     pub(crate) fn after(self, depth: Option<u32>) -> Option<u32>
         requires room { IsAtMost 1025 depth }
         ensures { result ≡ option_and_then (after_step self) depth }

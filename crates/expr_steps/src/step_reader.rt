@@ -1,4 +1,4 @@
-//! Reading the steps of an expression, one after the other.
+//! Reading the steps of an expression, one after another.
 ghost use Rattle.std.specs.Prelude.{◌≡◌, ℕ, ◌<◌, ◌^◌, [], Option, Some, None, MatchResult, MatchOption};
 ghost use Rattle.expr_steps.specs.declared.operation.Operation.TheVariants.{Constant, And, Shl, Ge};
 ghost use Rattle.expr_steps.specs.Steps.{in_front, mask_size, step_alone, steps_at, steps};
@@ -10,11 +10,11 @@ use leb_cursor::Cursor;
 use std::marker::Model;
 use sym_edges::Reason;
 
-/// Reads the steps of an expression. Contracts see the steps that are left, or none where what is left is not made of steps.
+/// Reads the steps of an expression. Contracts see the steps that are left, or none if what is left is not made of steps.
 #[derive(Drop)]
 pub struct StepReader<'a> {
     cursor: Cursor<'a>,
-    /// The power of two below which the step before kept the bits.
+    /// The power of two below which the previous step kept the bits.
     kept: Option<u64>,
 }
 
@@ -149,7 +149,7 @@ fn compared(kept: Option<u64>, value: u64) -> Result<Found, Reason>
     }))
 }
 
-/// The step of a constant and the operation behind it, and none where the constant is a step alone.
+/// The step of a constant and the operation after it, or none if the constant alone is a step.
 #[tactic(auto, using(crate::proofs::StepLemmas::constant_alone))]
 fn pair_of(kept: Option<u64>, value: u64, operation: Operation) -> Result<Option<Found>, Reason>
     ensures { MatchResult result
@@ -170,7 +170,7 @@ fn pair_of(kept: Option<u64>, value: u64, operation: Operation) -> Result<Option
     }
 }
 
-/// The step of a constant, with the operation behind it where that takes it.
+/// The step of a constant, together with the operation after it if both are one step.
 #[tactic(auto, using(crate::proofs::StepLemmas::paired, crate::proofs::StepLemmas::left_alone, crate::proofs::StepLemmas::no_step, crate::proofs::StepLemmas::last_constant, crate::proofs::StepLemmas::unread_behind))]
 fn read_behind_constant<'a>(
     cursor: &mut Cursor<'a>,
@@ -192,7 +192,7 @@ fn read_behind_constant<'a>(
     Ok(pair)
 }
 
-/// The step of an operation, with the one behind it where that is a part of the step.
+/// The step of an operation, together with the operation after it if both are one step.
 #[tactic(auto, using(crate::proofs::StepLemmas::constant_is, crate::proofs::StepLemmas::steps_alone, crate::proofs::StepLemmas::none_alone))]
 fn read_behind(
     cursor: &mut Cursor<'_>,
@@ -224,7 +224,8 @@ impl<'a> StepReader<'a> {
         }
     }
 
-    /// The next step, and none where no byte is left. Where a byte is no part of a step, now or later, it is refused at the latest there.
+    /// The next step, or none if no byte is left. If what is left is not made of steps, a call is refused, at the latest at the byte that belongs to
+    /// no step.
     #[tactic(auto, using(crate::proofs::StepLemmas::next_ends, crate::proofs::StepLemmas::next_steps, crate::proofs::StepLemmas::next_unread))]
     pub fn next(&mut self) -> Result<Option<Step>, Reason>
         ensures { MatchResult result

@@ -9,28 +9,28 @@ use Rattle.leb_cursor.specs.declared.fault.CursorFault.TheVariants.{Ends, LebLon
 use Rattle.leb_cursor.specs.Ahead.{Ahead, passed}
 use Rattle.leb_cursor.specs.Texts.{front_text}
 
--- a number of so many bytes, the lowest first: the sum of byte i times 256 to the i
+-- the number in the first `width` bytes, the lowest byte first: the sum of byte i times 256^i
 unfoldable pub fixed_sum : ℕ → List ℕ → ℕ
 fixed_sum width bytes = sum (map (λ i. slice_index bytes i * 256 ^ i) (range_with_len 0 width))
 
--- a number of fixed width, where all its bytes are there
+-- a number of fixed width; a fault if not all of its bytes are there
 unfoldable pub fixed_at : ℕ → Ahead → Result (ℕ × Ahead) CursorFault
 fixed_at width c =
     if nat_lt (length c.bytes) width then Err (Ends c.at) else Ok (fixed_sum width c.bytes, passed width c)
 
--- how many bytes a LEB128 has (DWARF 5, 7.6): up to the first without bit 7, and ten at most
+-- the length of a LEB128 in bytes (DWARF 5, 7.6): up to the first byte without bit 7, which must be one of the first ten
 unfoldable pub leb_length : List ℕ → Option ℕ
 leb_length bytes = option_map (λ k. k + 1) (position (λ byte. nat_lt byte 128) (take 10 bytes))
 
--- the low seven bits of the first so many bytes as one number: the sum of group i times 128 to the i
+-- the low seven bits of each of the first `count` bytes as one number: the sum of group i times 128^i
 unfoldable pub leb_sum : ℕ → List ℕ → ℕ
 leb_sum count bytes = sum (map (λ i. slice_index bytes i % 128 * 128 ^ i) (range_with_len 0 count))
 
--- no byte without bit 7 among the first ten: the bytes end too early, or the number is too long
+-- the fault if none of the first ten bytes lacks bit 7: the bytes end too early, or the number is too long
 unfoldable pub leb_open : Ahead → CursorFault
 leb_open c = if nat_lt (length c.bytes) 10 then Ends c.at else LebLong c.at
 
--- an unsigned LEB128 of so many bytes: the sum of its groups, below 2^64
+-- an unsigned LEB128, given its length: the sum of its groups, which must be below 2^64
 abbrev pub uleb_by : Ahead → Option ℕ → Result (ℕ × Ahead) CursorFault
 uleb_by c None = Err (leb_open c)
 uleb_by c (Some count) =
@@ -40,12 +40,12 @@ uleb_by c (Some count) =
 unfoldable pub uleb_at : Ahead → Result (ℕ × Ahead) CursorFault
 uleb_at c = uleb_by c (leb_length c.bytes)
 
--- the groups as a signed number: the sum, less 128 to the count where the last byte has bit 6
+-- the groups as a signed number: their sum, less 128^count if the last byte has bit 6
 unfoldable pub sleb_sum : ℕ → List ℕ → ℤ
 sleb_sum count bytes =
     pos (leb_sum count bytes) -ℤ pos (if nat_lt (slice_index bytes (count - 1)) 64 then 0 else 128 ^ count)
 
--- a signed LEB128 of so many bytes, within an i64
+-- a signed LEB128, given its length; it must fit into an i64
 abbrev pub sleb_by : Ahead → Option ℕ → Result (ℤ × Ahead) CursorFault
 sleb_by c None = Err (leb_open c)
 sleb_by c (Some count) =
@@ -63,11 +63,11 @@ text_by c (Some text) = Ok (text, passed (length text + 1) c)
 unfoldable pub text_at : Ahead → Result (List ℕ × Ahead) CursorFault
 text_at c = text_by c (front_text c.bytes)
 
--- the next n bytes, where they are there
+-- the next n bytes; a fault if there are fewer
 unfoldable pub take_at : ℕ → Ahead → Result (List ℕ × Ahead) CursorFault
 take_at n c = if nat_lt (length c.bytes) n then Err (Ends c.at) else Ok (take n c.bytes, passed n c)
 
--- the next n bytes as a run of their own, at the places that they have
+-- the next n bytes as a separate run, with the places that they have here
 unfoldable pub part_at : ℕ → Ahead → Result (Ahead × Ahead) CursorFault
 part_at n c =
     if nat_lt (length c.bytes) n then Err (Ends c.at) else Ok (record { bytes = take n c.bytes; at = c.at }, passed n c)

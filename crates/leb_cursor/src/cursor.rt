@@ -9,8 +9,7 @@ use crate::leb::{signed_byte, sleb_front, uleb_front};
 use memchr::memchr;
 use std::marker::Model;
 
-/// A place in a run of bytes, up to an end. A contract sees what is ahead: the bytes that are left,
-/// and the place of the first of them.
+/// A place in a run of bytes, up to an end. A contract sees what is ahead: the bytes that are left, and the place of the first of them.
 #[derive(Drop)]
 pub struct Cursor<'a> {
     bytes: &'a [u8],
@@ -29,7 +28,7 @@ impl<'a> Model for Cursor<'a> {
 }
 
 impl<'a> Cursor<'a> {
-    /// A cursor at `at`, for the bytes before `end`. Places are those of `bytes`.
+    /// A cursor at the place `at`, over the bytes before the place `end`. Places are counted in `bytes`.
     #[inline]
     pub fn new(bytes: &'a [u8], at: usize, end: usize) -> Cursor<'a>
         requires ordered { at ≤ end }
@@ -202,7 +201,7 @@ impl<'a> Cursor<'a> {
         Ok(front.0)
     }
 
-    /// Reads the bytes before the next zero byte, and passes the zero.
+    /// Reads the bytes before the next zero byte, and passes the zero byte.
     #[inline]
     #[tactic(auto, using(crate::proofs::TextLemmas::text_moved, crate::proofs::TextLemmas::text_open))]
     pub fn text(&mut self) -> Result<&'a [u8], CursorFault>
@@ -235,7 +234,7 @@ impl<'a> Cursor<'a> {
         Ok(&rest[..count])
     }
 
-    /// A cursor over the next `n` bytes, with the places that they have here; this one passes them.
+    /// A cursor over the next `n` bytes, at the places that they have here. This cursor passes them.
     #[inline]
     #[tactic(auto, using(crate::proofs::AheadLemmas::part_moved), unfolding(crate::specs::Readings::part_at))]
     pub fn part(&mut self, n: u64) -> Result<Cursor<'a>, CursorFault>

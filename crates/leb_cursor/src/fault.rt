@@ -6,7 +6,7 @@ pub enum CursorFault {
     /// The bytes end too early.
     Ends { at: usize },
 
-    /// A LEB128 has more than ten bytes, or its value leaves its type.
+    /// A LEB128 has more than ten bytes, or its value does not fit into its type.
     LebLong { at: usize },
 
     /// No zero byte ends the text.

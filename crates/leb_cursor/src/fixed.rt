@@ -2,7 +2,7 @@
 ghost use Rattle.std.specs.Prelude.{◌≡◌, ◌≤◌, length};
 ghost use Rattle.leb_cursor.specs.Readings.{fixed_sum};
 
-/// The number of two bytes at the front.
+/// The number in the first two bytes.
 #[inline]
 #[tactic(auto, unfolding(crate::specs::Readings::fixed_sum))]
 pub fn front_u16(bytes: &[u8]) -> u16
@@ -12,7 +12,7 @@ pub fn front_u16(bytes: &[u8]) -> u16
     u16::from_le_bytes([bytes[0], bytes[1]])
 }
 
-/// The number of three bytes at the front.
+/// The number in the first three bytes.
 #[inline]
 #[tactic(auto, unfolding(crate::specs::Readings::fixed_sum))]
 pub fn front_u24(bytes: &[u8]) -> u32
@@ -22,7 +22,7 @@ pub fn front_u24(bytes: &[u8]) -> u32
     u32::from_le_bytes([bytes[0], bytes[1], bytes[2], 0])
 }
 
-/// The number of four bytes at the front.
+/// The number in the first four bytes.
 #[inline]
 #[tactic(auto, unfolding(crate::specs::Readings::fixed_sum))]
 pub fn front_u32(bytes: &[u8]) -> u32
@@ -32,7 +32,7 @@ pub fn front_u32(bytes: &[u8]) -> u32
     u32::from_le_bytes([bytes[0], bytes[1], bytes[2], bytes[3]])
 }
 
-/// The number of eight bytes at the front.
+/// The number in the first eight bytes.
 #[inline]
 #[tactic(auto, unfolding(crate::specs::Readings::fixed_sum))]
 pub fn front_u64(bytes: &[u8]) -> u64

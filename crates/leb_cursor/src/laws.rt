@@ -1,11 +1,11 @@
-//! Laws of the readings, for proofs above. Each function does nothing: its contract is the law.
+//! Laws of the readings, for proofs of other crates. Each function does nothing: its contract is the law.
 ghost use Rattle.std.specs.Prelude.{◌≡◌, ℕ, List};
 ghost use Rattle.std.specs.Int.{w8, w16, w32, w64, from_le_bytes};
 ghost use Rattle.leb_cursor.specs.Ahead.{Ahead};
 ghost use Rattle.leb_cursor.specs.Readings.{fixed_sum, fixed_at, uleb_at, sleb_at, text_at, take_at, part_at};
 ghost use Rattle.leb_cursor.specs.Passes.{Passes};
 
-/// A number of one, two, four or eight bytes is the one that std's `from_le_bytes` reads.
+/// A number of one, two, four or eight bytes is the number that std's `from_le_bytes` reads.
 #[tactic(auto, unfolding(crate::specs::Readings::fixed_sum))]
 pub fn fixed_is_word()
     ensures one { (bytes : List ℕ) → fixed_sum 1 bytes ≡ from_le_bytes w8 bytes }
@@ -14,8 +14,8 @@ pub fn fixed_is_word()
     ensures eight { (bytes : List ℕ) → fixed_sum 8 bytes ≡ from_le_bytes w64 bytes }
 {}
 
-/// Each reading passes the bytes that it reads, and none after the end: a LEB128 and a text at
-/// least one. So a list that is read up to the end has no more members than bytes.
+/// Each reading passes the bytes that it reads, and never goes past the end. A LEB128 and a text pass at least one byte. So a list that is read up to
+/// the end has no more members than bytes.
 #[tactic(auto, using(crate::proofs::PassLemmas::fixed_passes, crate::proofs::PassLemmas::uleb_passes, crate::proofs::PassLemmas::sleb_passes, crate::proofs::PassLemmas::text_passes, crate::proofs::PassLemmas::take_passes, crate::proofs::PassLemmas::part_passes))]
 pub fn readings_pass()
     ensures fixed { (width : ℕ) (c : Ahead) → Passes width c (fixed_at width c) }

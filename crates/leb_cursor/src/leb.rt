@@ -1,5 +1,4 @@
-//! LEB128 numbers: seven bits a byte, the lowest first; bit 7 says that another byte follows
-//! (DWARF 5, 7.6).
+//! LEB128 numbers: each byte has seven bits, the lowest first, and its bit 7 says that another byte follows (DWARF 5, 7.6).
 ghost use Rattle.std.specs.Prelude.{◌≡◌, ◌^◌, ◌<◌, ◌≤◌, length, pos, ◌-ℤ◌, IfOk, nat_lt, slice_index, if◌then◌else◌};
 ghost use Rattle.leb_cursor.specs.Readings.{uleb_at, sleb_at};
 ghost use Rattle.leb_cursor.specs.internal.Steps.{read_front};
@@ -9,10 +8,10 @@ use crate::fault::CursorFault;
 
 /// The groups of a number's first nine bytes.
 enum Groups {
-    /// One of them ends the number: the sum up to it, and their count.
+    /// One of them ends the number: the sum of the groups up to it, and their count.
     Ended { sum: u64, count: usize },
 
-    /// Each of them has bit 7, or each of all bytes where there are fewer.
+    /// Each of them has bit 7; if there are fewer than nine bytes, each of those has.
     Going { sum: u64 },
 }
 
@@ -36,7 +35,7 @@ fn read_groups(bytes: &[u8]) -> Groups
     Groups::Going { sum }
 }
 
-/// The tenth byte, where so many are there.
+/// The tenth byte, if there is one.
 #[inline]
 fn tenth(bytes: &[u8], at: usize) -> Result<u8, CursorFault>
     ensures { result ≡ (if nat_lt (length bytes.now) 10
@@ -49,7 +48,7 @@ fn tenth(bytes: &[u8], at: usize) -> Result<u8, CursorFault>
     Ok(bytes[9])
 }
 
-/// The unsigned LEB128 at the front of `bytes`, which begin at the place `at`, and its length.
+/// The unsigned LEB128 at the start of `bytes`, and its length. `bytes` begin at the place `at`.
 #[inline]
 #[tactic(auto, using(crate::proofs::UlebLemmas::uleb_ended, crate::proofs::UlebLemmas::uleb_short, crate::proofs::UlebLemmas::uleb_zero, crate::proofs::UlebLemmas::uleb_one, crate::proofs::UlebLemmas::uleb_long))]
 pub fn uleb_front(bytes: &[u8], at: usize) -> Result<(u64, usize), CursorFault>
@@ -67,7 +66,7 @@ pub fn uleb_front(bytes: &[u8], at: usize) -> Result<(u64, usize), CursorFault>
     }
 }
 
-/// The signed LEB128 at the front of `bytes`, which begin at the place `at`, and its length.
+/// The signed LEB128 at the start of `bytes`, and its length. `bytes` begin at the place `at`.
 #[inline]
 #[tactic(auto, using(crate::proofs::GroupLemmas::ended_small, crate::proofs::SlebLemmas::sleb_plain, crate::proofs::SlebLemmas::sleb_lessened, crate::proofs::SlebLemmas::sleb_short, crate::proofs::SlebLemmas::sleb_zero, crate::proofs::SlebLemmas::sleb_ones, crate::proofs::SlebLemmas::sleb_long))]
 pub fn sleb_front(bytes: &[u8], at: usize) -> Result<(i64, usize), CursorFault>
@@ -91,7 +90,7 @@ pub fn sleb_front(bytes: &[u8], at: usize) -> Result<(i64, usize), CursorFault>
     }
 }
 
-/// The sum of groups of a number that is not negative.
+/// The groups' sum as a number that is not negative.
 fn plain(sum: u64) -> i64
     requires { sum < 2 ^ 63 }
     ensures { result ≡ pos sum }
@@ -99,7 +98,7 @@ fn plain(sum: u64) -> i64
     sum as i64
 }
 
-/// The sum of so many groups, less 128 to their count.
+/// The sum of `count` groups, less 128^`count`.
 #[tactic(auto, using(crate::proofs::GroupLemmas::one_weight, crate::proofs::GroupLemmas::groups_fit))]
 fn lessened(sum: u64, count: usize) -> i64
     requires few { count ≤ 9 }
@@ -110,7 +109,7 @@ fn lessened(sum: u64, count: usize) -> i64
     -(missing as i64) - 1
 }
 
-/// The number of a signed LEB128's only byte.
+/// The number of a signed LEB128 of one byte.
 #[inline]
 pub fn signed_byte(byte: u8) -> i64
     requires { byte < 128 }

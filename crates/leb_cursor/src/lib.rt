@@ -1,16 +1,12 @@
-//! A cursor over a run of bytes, which reads what DWARF's sections are made of: numbers of fixed
-//! width with the lowest byte first, LEB128 numbers (DWARF 5, 7.6), texts up to a zero byte, and
-//! runs of so many bytes, also as a cursor of their own.
+//! A cursor over a run of bytes. It reads what DWARF's sections consist of: numbers of fixed width with the lowest byte first, LEB128 numbers (DWARF
+//! 5, 7.6), texts up to a zero byte, and runs of a given number of bytes, also as a separate cursor.
 //!
-//! A contract sees a cursor as what is ahead of it: the bytes that are left, and the place of the
-//! first of them. Each call promises one equation: its answer and what is left afterwards are what
-//! `specs/Readings.antt` gives for what was left before. So a number is the sum of its bytes, or of
-//! its groups of seven bits; a refusal comes exactly where the definition has one, and names the
-//! place at which the call began; and a refused call leaves the cursor as it was. No call takes
-//! memory.
+//! A contract sees a cursor as what is ahead of it: the bytes that are left, and the place of the first of them. Each call promises one equation: its
+//! result and what is left afterwards are what `specs/Readings.antt` gives for what was left before. So a number is the sum of its bytes, or of its
+//! groups of seven bits. A call is refused exactly if the definition refuses it. The fault has the place at which the call began, and a refused call
+//! leaves the cursor as it was. No call allocates memory.
 //!
-//! The laws of [`laws`](crate::laws) say how far a reading goes, and that a number of fixed width is
-//! the one that `from_le_bytes` reads.
+//! The laws of [`laws`](crate::laws) say how far a reading goes, and that a number of fixed width is the number that `from_le_bytes` reads.
 #![tactic(auto)]
 
 mod cursor;

@@ -1,7 +1,7 @@
-//! Where something that was met before may stand.
+//! Where something that was found before may be.
 //!
-//! A slot keeps a guess: what was found for the last key that has the slot, which other keys have too. A guess is looked at before it counts, so no
-//! promise rests on it. [`PlaceGuesses`] are guesses of places in a list, by which members are added once; `specs/Placing.antt` says how.
+//! A slot has a guess: what was found for the last key with this slot. Other keys may have the same slot. A guess is compared before it is used, so
+//! no promise relies on it. [`PlaceGuesses`] are guesses of places in a list; by them members are added only once. `specs/Placing.antt` defines this.
 #![tactic(auto)]
 
 mod places;

@@ -8,13 +8,13 @@ use crate::slots::{guess_at, note_guess, slot_of};
 use std::alloc::Global;
 use sym_edges::OutOfMemory;
 
-/// In each slot a place in a list, where what has that slot may stand.
+/// For each slot, a place in a list at which a member with this slot may be.
 #[derive(Drop)]
 pub struct PlaceGuesses {
     slots: Vec<u32>,
 }
 
-/// Whether a member that is equal to this one stands at a place.
+/// Whether the member at a place is equal to this one.
 fn stands_at<T: PartialEq>(list: &[T], place: u32, one: &T) -> bool
     ensures { result ≡ true → option_map (λ m. T.eq m one.now) (slice_get list.now place) ≡ Some true }
 {
@@ -25,7 +25,7 @@ fn stands_at<T: PartialEq>(list: &[T], place: u32, one: &T) -> bool
 }
 
 impl PlaceGuesses {
-    /// So many slots.
+    /// Guesses in `count` slots.
     pub fn new(alloc: Global, count: usize) -> Result<PlaceGuesses, OutOfMemory> {
         Ok(PlaceGuesses {
             slots: vec![in alloc; 0; count]?,
@@ -37,17 +37,17 @@ impl PlaceGuesses {
         slot_of(key, self.slots.len())
     }
 
-    /// The place that a slot keeps.
+    /// The place in a slot.
     pub fn guess(&self, slot: usize) -> u32 {
         guess_at(self.slots.as_slice(), slot).unwrap_or(0)
     }
 
-    /// Lets a slot keep a place.
+    /// Puts a place into a slot.
     pub fn note(&mut self, slot: usize, place: u32) {
         note_guess(self.slots.as_mut_slice(), slot, place);
     }
 
-    /// The place in a list of what has a slot, which is added where it is not known to be there.
+    /// The place of a member in the list, given its slot. If the member is not at the place in the slot, it is added to the list.
     pub fn place_or_add<T: PartialEq + Drop>(
         &mut self,
         slot: usize,

@@ -1,12 +1,12 @@
-//! Slots that keep guesses.
+//! Slots for guesses.
 
-/// The slot of a key among so many.
+/// The slot of a key among `count` slots.
 pub fn slot_of(key: u64, count: usize) -> usize {
     let mixed = key.wrapping_mul(0x9e37_79b9_7f4a_7c15) >> 32;
     (mixed.wrapping_mul(count as u64) >> 32) as usize
 }
 
-/// What a slot keeps.
+/// The guess in a slot.
 pub fn guess_at<G: Copy>(slots: &[G], slot: usize) -> Option<G> {
     match slots.get(slot) {
         Some(guess) => Some(*guess),
@@ -14,7 +14,7 @@ pub fn guess_at<G: Copy>(slots: &[G], slot: usize) -> Option<G> {
     }
 }
 
-/// Lets a slot keep a guess.
+/// Puts a guess into a slot.
 pub fn note_guess<G: Copy + Drop>(slots: &mut [G], slot: usize, guess: G) {
     if slot < slots.len() {
         slots[slot] = guess;

@@ -8,9 +8,9 @@ use std::alloc::Global;
 use std::marker::Model;
 use sym_edges::{OutOfMemory, Span};
 
-/// A set that is made from spans in the order of their starts, which contracts see as the list so far.
+/// A set that is made from spans in the order of their starts. Contracts see it as the list so far.
 ///
-/// The last span is kept apart, since the next one may widen it. So a set of one span takes no memory while it is made.
+/// The last span is separate, since the next span may widen it. So a set of one span allocates no memory while it is made.
 #[derive(Drop)]
 pub(crate) struct SetBuilder {
     done: Vec<Span>,

@@ -9,7 +9,7 @@ use crate::set::RangeSet;
 use std::alloc::Global;
 use sym_edges::{OutOfMemory, Span};
 
-/// The addresses that the first list holds and the second does not, by one merge.
+/// The addresses that are in the first list and not in the second, by one merge.
 pub(crate) fn minus_spans(
     alloc: Global,
     left: &[Span],
@@ -29,7 +29,7 @@ pub(crate) fn minus_spans(
     built.finish()
 }
 
-/// Adds what is left of a span where the cuts are taken out, and answers the cuts that may reach beyond it.
+/// Adds what is left of a span after the cuts are taken out of it, and returns the cuts that may reach beyond it.
 fn push_cut<'a>(
     built: &mut SetBuilder,
     span: Span,
@@ -59,7 +59,7 @@ fn push_cut<'a>(
     Ok(rest)
 }
 
-/// Adds the addresses from `from` on and below `to`, if there is one.
+/// Adds the addresses from `from` up to `to`, without `to`, if there are any.
 fn push_between(built: &mut SetBuilder, from: u64, to: u64) -> Result<(), OutOfMemory>
     requires { from < to → last_start built.old ≤ from }
     ensures members { OnOk result ((a : ℕ) → holds_any built.new a ≡ (holds_any built.old a || (nat_le from a && nat_lt a to))) }

@@ -9,7 +9,7 @@ use crate::set::RangeSet;
 use std::alloc::Global;
 use sym_edges::{OutOfMemory, Span};
 
-/// The addresses that both lists hold, by one merge.
+/// The addresses that are in both lists, by one merge.
 pub(crate) fn meet_spans(
     alloc: Global,
     left: &[Span],
@@ -36,7 +36,7 @@ pub(crate) fn meet_spans(
     built.finish()
 }
 
-/// Adds the addresses that both spans hold.
+/// Adds the addresses that are in both spans.
 fn push_overlap(built: &mut SetBuilder, x: Span, y: Span) -> Result<(), OutOfMemory>
     requires { (a : ℕ) → holds x a ≡ true → holds y a ≡ true → last_start built.old ≤ a }
     ensures members { OnOk result ((a : ℕ) → holds_any built.new a ≡ (holds_any built.old a || (holds x a && holds y a))) }

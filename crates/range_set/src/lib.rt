@@ -1,18 +1,17 @@
 //! Sets of addresses.
 //!
-//! A [`RangeSet`] is a list of spans that are sorted and disjoint and do not touch, and contracts see it as that list.
-//! [`of_ranges`] makes the set of all addresses that some span of a slice holds, [`of_owned`] that of spans in a `Vec`; `join`, `meet` and `minus` hold what one of
-//! two sets holds, what both hold, and what the first holds and the second does not; `has` looks one address up. Each
-//! contract says so of every address. A set of addresses has one such list only, which is what
-//! [`same_addresses_same_list`] promises, so these contracts settle each answer down to its last span.
+//! A [`RangeSet`] is a list of spans that are sorted and disjoint and do not touch. Contracts see it as this list. [`of_ranges`] makes the set of all
+//! addresses that are in some span of a slice, and [`of_owned`] the same of a `Vec`. `join` has the addresses that are in either of two sets, `meet`
+//! those in both, and `minus` those in the first and not in the second. `has` looks one address up. Each contract says this of every address. Only
+//! one such list represents a set of addresses, as [`same_addresses_same_list`] promises, so these contracts determine every span of a result.
 //!
-//! An [`Enclosing`] tells whether some one span of a slice encloses a range of addresses, which a set of addresses cannot tell,
-//! since it joins spans that touch.
+//! An [`Enclosing`] says whether one span of a slice encloses a range of addresses. A set of addresses cannot say this, since it joins spans that
+//! touch.
 //!
-//! A set of one span, by far the most frequent, and the empty one take no memory beyond the struct.
+//! A set of one span, by far the most frequent, and the empty set allocate no memory beyond the struct.
 //!
-//! To read: `set` first, then `builder`, on which the merges stand, the merges `merge`, `intersection` and `difference`, then
-//! `search` and `law`; `outermost` stands alone.
+//! To read: `set` first, then `builder`, which the merges use, the merges `merge`, `intersection` and `difference`, then `search` and `law`.
+//! `outermost` is separate.
 #![tactic(auto)]
 
 mod builder;

@@ -10,7 +10,7 @@ use crate::set::RangeSet;
 use std::alloc::Global;
 use sym_edges::{OutOfMemory, Span};
 
-/// The addresses that some span holds. Of no span and of one it takes no memory.
+/// The addresses that are in some span. For no span and for one span it allocates no memory.
 pub fn of_ranges(alloc: Global, spans: &[Span]) -> Result<RangeSet, OutOfMemory>
     ensures members { IfOk result (λ set. (a : ℕ) → holds_any set a ≡ holds_any spans.now a) }
     ensures few { length spans.now ≤ 1 → IsOk result }
@@ -31,8 +31,7 @@ pub fn of_ranges(alloc: Global, spans: &[Span]) -> Result<RangeSet, OutOfMemory>
     }
 }
 
-/// The addresses that some span holds, of spans that nobody needs any more: where they are as a set has them, they are its
-/// list.
+/// The addresses that are in some span. The `Vec` is consumed; if its spans already are as in a set, it becomes the list of the set.
 pub fn of_owned(alloc: Global, spans: Vec<Span>) -> Result<RangeSet, OutOfMemory>
     ensures { IfOk result (λ set. (a : ℕ) → holds_any set a ≡ holds_any spans.items a) }
 {
@@ -96,7 +95,7 @@ fn of_sorted(alloc: Global, spans: &[Span]) -> Result<RangeSet, OutOfMemory>
     built.finish()
 }
 
-/// The addresses that one of the lists holds, by one merge.
+/// The addresses that are in either list, by one merge.
 pub(crate) fn join_spans(
     alloc: Global,
     left: &[Span],
@@ -112,7 +111,7 @@ pub(crate) fn join_spans(
     built.finish()
 }
 
-/// Adds the spans of both lists in the order of their starts, until one list ends, and answers what is left of the other.
+/// Adds the spans of both lists in the order of their starts until one list ends, and returns what is left of the other.
 fn push_merged<'a>(
     built: &mut SetBuilder,
     left: &'a [Span],

@@ -1,4 +1,4 @@
-//! Whether some span encloses a range of addresses.
+//! Whether one span encloses a range of addresses.
 ghost use Rattle.std.specs.Prelude.{◌≡◌, ℕ, List, IfOk};
 ghost use Rattle.sym_edges.specs.Addresses.{Range};
 ghost use Rattle.range_set.specs.Building.{AreAscending};
@@ -10,8 +10,8 @@ use std::alloc::{AllocError, Global};
 use std::marker::Model;
 use sym_edges::{OutOfMemory, Span};
 
-/// The spans of a slice, without those that lie in another one, by which a look-up tells whether some span encloses a
-/// range of addresses. Spans that touch or overlap stay apart: a range across two of them is enclosed by none.
+/// The spans of a slice, without those that lie in another span. A look-up in them says whether one span encloses a range of addresses. Spans that
+/// touch or overlap are not joined: a range across two of them is enclosed by none.
 #[derive(Debug, Drop)]
 pub struct Enclosing {
     outermost: Vec<Span>,
@@ -39,8 +39,8 @@ impl Enclosing {
         Ok(Enclosing { outermost })
     }
 
-    /// Whether one of the spans has all addresses from `start` up to, and without, `end`, by a binary search: one starts
-    /// at or below `start` and ends at or above `end`. Takes no memory.
+    /// Whether one of the spans contains all addresses from `start` up to `end`, without `end`: whether one starts at or below `start` and ends at or
+    /// above `end`. It is found by a binary search. Allocates no memory.
     pub fn encloses(&self, start: u64, end: u64) -> bool
         ensures { result ≡ encloses self.now start end }
     {
@@ -48,7 +48,7 @@ impl Enclosing {
     }
 }
 
-/// The spans that end above all before them.
+/// The spans that end above the ends of all spans before them.
 fn keep_outermost(alloc: Global, spans: &[Span]) -> Result<Vec<Span>, AllocError>
     requires { AreAscending spans.now }
     ensures same { IfOk result (λ kept. (start end : ℕ) → encloses kept.items start end ≡ encloses spans.now start end) }
@@ -67,7 +67,7 @@ fn keep_outermost(alloc: Global, spans: &[Span]) -> Result<Vec<Span>, AllocError
     Ok(kept)
 }
 
-/// Whether one of the spans encloses a range, by a binary search for the last that starts at or below it.
+/// Whether one of the spans encloses a range, by a binary search for the last span that starts at or below its start.
 fn is_enclosed(spans: &[Span], start: u64, end: u64) -> bool
     requires { AreRising spans.now }
     ensures { result ≡ encloses spans.now start end }

@@ -19,7 +19,7 @@ pub struct RangeSet {
     kept: Kept,
 }
 
-/// The spans: only where there are two or more is memory taken for them.
+/// The spans; memory is allocated only for two or more of them.
 #[derive(Debug, Drop)]
 enum Kept {
     Empty,
@@ -42,14 +42,14 @@ impl Model for RangeSet {
 }
 
 impl RangeSet {
-    /// The set with no address. Takes no memory.
+    /// The set with no address. Allocates no memory.
     pub fn empty() -> RangeSet
         ensures { result ≡ [] }
     {
         RangeSet { kept: Kept::Empty }
     }
 
-    /// The addresses of one span. Takes no memory.
+    /// The addresses of one span. Allocates no memory.
     pub fn of_span(span: Span) -> RangeSet
         ensures { result ≡ span ∷ [] }
     {
@@ -68,28 +68,28 @@ impl RangeSet {
         }
     }
 
-    /// Whether the set holds the address, by a binary search. Takes no memory.
+    /// Whether the address is in the set, by a binary search. Allocates no memory.
     pub fn has(&self, a: u64) -> bool
         ensures { result ≡ holds_any self.now a }
     {
         is_held(self.spans(), a)
     }
 
-    /// The addresses that both sets hold, by one merge.
+    /// The addresses that are in both sets, by one merge.
     pub fn meet(&self, alloc: Global, other: &RangeSet) -> Result<RangeSet, OutOfMemory>
         ensures members { IfOk result (λ set. (a : ℕ) → holds_any set a ≡ (holds_any self.now a && holds_any other.now a)) }
     {
         meet_spans(alloc, self.spans(), other.spans())
     }
 
-    /// The addresses that this set holds and the other does not, by one merge.
+    /// The addresses that are in this set and not in the other, by one merge.
     pub fn minus(&self, alloc: Global, other: &RangeSet) -> Result<RangeSet, OutOfMemory>
         ensures members { IfOk result (λ set. (a : ℕ) → holds_any set a ≡ (holds_any self.now a && not (holds_any other.now a))) }
     {
         minus_spans(alloc, self.spans(), other.spans())
     }
 
-    /// The addresses that one of the sets holds, by one merge.
+    /// The addresses that are in either set, by one merge.
     pub fn join(&self, alloc: Global, other: &RangeSet) -> Result<RangeSet, OutOfMemory>
         ensures members { IfOk result (λ set. (a : ℕ) → holds_any set a ≡ (holds_any self.now a || holds_any other.now a)) }
     {

@@ -1,9 +1,9 @@
--- Ranges of addresses, and whether they have an address in common; ends are whole numbers.
+-- Ranges of addresses, and whether they have an address in common. Starts and ends are natural numbers.
 use Rattle.std.specs.Prelude.{ℕ, ◌&&◌, Bool, nat_lt, List}
 use Rattle.std.specs.List.{list_any}
 use Rattle.sym_edges.specs.Addresses.{Range}
 
--- two ranges, none of them empty, have an address in common
+-- two ranges that are not empty have an address in common
 abbrev pub overlap : Range → Range → Bool
 overlap a b = nat_lt a.start b.end && nat_lt b.start a.end
 
@@ -11,6 +11,6 @@ overlap a b = nat_lt a.start b.end && nat_lt b.start a.end
 unfoldable pub any_overlap : Range → List Range → Bool
 any_overlap range ranges = list_any (overlap range) ranges
 
--- the addresses from a start up to an end
+-- the addresses from a start up to an end, without it
 abbrev pub range_to : ℕ → ℕ → Range
 range_to start end = record { start = start; end = end }

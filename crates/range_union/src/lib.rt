@@ -1,7 +1,7 @@
-//! Addresses as ranges of which no two meet.
+//! Addresses as ranges of which no two overlap.
 //!
-//! [`RangeUnion`] takes ranges in any order, each in place of those that it meets, and says whether a range meets one of them; each
-//! is put and taken out once. `specs/Ranges.antt` has the definition.
+//! [`RangeUnion`] takes ranges in any order. A new range replaces and includes the ranges that it overlaps, so each is put and taken out once. It
+//! says whether a range overlaps one of them. `specs/Ranges.antt` has the definition.
 #![tactic(auto)]
 
 mod ranges;

@@ -1,4 +1,4 @@
-//! Addresses as ranges of which no two meet.
+//! Addresses as ranges of which no two overlap.
 ghost use Rattle.std.specs.Prelude.{◌≡◌, ℕ, ◌<◌, ◌||◌, false, [], MatchOption, OnOk, OnErr};
 ghost use Rattle.sym_edges.specs.Addresses.{Range};
 ghost use Rattle.range_union.specs.Ranges.{overlap, any_overlap, range_to};
@@ -9,7 +9,7 @@ use std::collections::BTreeMap;
 use std::marker::Model;
 use sym_edges::OutOfMemory;
 
-/// Ranges of addresses by their starts, of which no two meet. Ends are whole numbers.
+/// Ranges of addresses by their starts, of which no two overlap.
 #[derive(Drop)]
 pub struct RangeUnion {
     ends: BTreeMap<u128, u128>,
@@ -46,7 +46,7 @@ impl RangeUnion {
         }
     }
 
-    /// Whether a range that is not empty meets one of them: the last that starts below its end decides.
+    /// Whether a range that is not empty overlaps one of them. The last one that starts below the end of the range decides.
     pub fn meets(&self, start: u128, end: u128) -> bool
         requires { start < end }
         ensures { result ≡ any_overlap (range_to start end) self.now }
@@ -57,8 +57,7 @@ impl RangeUnion {
         }
     }
 
-    /// A range more, which is not empty: it takes the place of those that it meets, and grows by them. So each range is put and
-    /// taken out once.
+    /// Adds a range that is not empty. It replaces the ranges that it overlaps, and is widened by them. So each range is put and taken out once.
     pub fn put(&mut self, start: u128, end: u128) -> Result<(), OutOfMemory>
         requires { start < end }
         ensures more { OnOk result ((a b : ℕ) → a < b → any_overlap (range_to a b) self.new ≡ (any_overlap (range_to a b) self.old || overlap (range_to a b) (range_to start end))) }
@@ -67,7 +66,7 @@ impl RangeUnion {
         put_range(&mut self.ends, start, end)
     }
 
-    /// A range more, which is not empty and meets none of them.
+    /// Adds a range that is not empty and overlaps none of them.
     pub fn add(&mut self, start: u128, end: u128) -> Result<(), OutOfMemory>
         requires some { start < end }
         requires apart { any_overlap (range_to start end) self.old ≡ false }
@@ -91,7 +90,7 @@ fn add_range(ends: &mut BTreeMap<u128, u128>, start: u128, end: u128) -> Result<
     Ok(())
 }
 
-/// Takes out the last range that meets one that is not empty, where one does.
+/// Takes out the last range that overlaps a range that is not empty, if there is one.
 #[tactic(auto, using(crate::proofs::RangeLemmas::none_left, crate::proofs::RangeLemmas::past_none, crate::proofs::RangeLemmas::taken_apart, crate::proofs::RangeLemmas::taken))]
 fn take_met(ends: &mut BTreeMap<u128, u128>, start: u128, end: u128) -> Option<(u128, u128)>
     requires apart { AreApart ends.old.entries }

@@ -1,4 +1,4 @@
--- Which of several stretches an address belongs to: the first in their order.
+-- Which of several stretches an address belongs to: the first in the list that contains it.
 use Rattle.std.specs.Prelude.{◌≡◌, ℕ, ◌+◌, ◌^◌, ◌≤◌, Bool, false, not, ◌&&◌, ◌==◌, nat_le, map, List, [], ◌∷◌, Option}
 use Rattle.std.specs.List.{find, list_any}
 use Rattle.std.specs.Option.{option_map, option_map_or}
@@ -7,7 +7,7 @@ use Rattle.step_maps.specs.declared.stretch.FirstItem.{FirstItem}
 use Rattle.step_maps.specs.declared.stretch.Cover.{Cover}
 use Rattle.step_maps.specs.Runs.{Run, IsRuns, between}
 
--- whether the stretch has the address
+-- whether the stretch contains the address
 abbrev pub reaches : Stretch → ℕ → Bool
 reaches s a = nat_le s.first a && nat_le a s.last
 
@@ -16,7 +16,7 @@ abbrev pub AreStretches : List Stretch → Type 0
 AreStretches [] = Unit {0}
 AreStretches (s ∷ items) = (s.first ≤ s.last) × AreStretches items
 
--- the first stretch of the list that has the address
+-- the first stretch of the list that contains the address
 unfoldable pub first_at : List Stretch → ℕ → Option Stretch
 first_at items a = find (λ s. reaches s a) items
 
@@ -24,7 +24,7 @@ first_at items a = find (λ s. reaches s a) items
 unfoldable pub index_at : List Stretch → ℕ → Option ℕ
 index_at items a = option_map (λ s. s.index) (first_at items a)
 
--- whether a stretch of another class than the first one's has the address
+-- whether a stretch with another class than the first one contains the address, too
 unfoldable pub is_shared : List Stretch → ℕ → Bool
 is_shared items a = option_map_or (λ s. list_any (λ t. reaches t a && not (t.class == s.class)) items) (first_at items a) false
 
@@ -35,12 +35,12 @@ first_item items a = option_map (λ s. record { index = s.index; class = s.class
 abbrev pub cover_run : Cover → Run ℕ
 cover_run c = record { start = c.first; end = c.last + 1; value = c.index }
 
--- each cover tells of its first address whether that is shared
+-- each cover says whether its first address is shared
 abbrev pub AreMarked : List Stretch → List Cover → Type 0
 AreMarked items [] = Unit {0}
 AreMarked items (c ∷ covers) = (c.shared ≡ is_shared items c.first) × AreMarked items covers
 
--- the covers are the runs of the first stretch's index, and each tells of its first address whether that is shared
+-- the covers are the runs of the first stretch's index, and each cover says whether its first address is shared
 pub record AreCovers (items : List Stretch) (covers : List Cover) : Type 0 where
   pub runs : IsRuns (between 0 (2 ^ 64) (index_at items)) (map cover_run covers)
   pub marks : AreMarked items covers

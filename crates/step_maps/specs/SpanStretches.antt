@@ -8,7 +8,7 @@ abbrev pub span_stretches : ℕ → ℕ → List Range → List Stretch
 span_stretches index class [] = []
 span_stretches index class (r ∷ spans) = record { first = r.start; last = r.end - 1; index = index; class = class } ∷ span_stretches index class spans
 
--- no stretch is empty or has the last address of all
+-- no stretch is empty, and none contains the address 2^64 - 1
 abbrev pub AreFit : List Stretch → Type 0
 AreFit [] = Unit {0}
 AreFit (s ∷ items) = (s.first ≤ s.last) × (s.last + 1 < 2 ^ 64) × AreFit items

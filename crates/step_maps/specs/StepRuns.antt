@@ -3,17 +3,17 @@ use Rattle.std.specs.Prelude.{◌≢◌, ℕ, List, [], ◌∷◌, Option, None,
 use Rattle.step_maps.specs.Stepping.{Stepping}
 use Rattle.step_maps.specs.Runs.{Run}
 
--- each value is another than the one before it
+-- each value differs from the one before it
 abbrev pub Differ : {V : Type 0} → V → List V → Type 0
 Differ before [] = Unit {0}
 Differ before (v ∷ values) = (before ≢ v) × Differ v values
 
--- the interval up to an end, where it has a value, in front of those after it
+-- the interval up to an end, if it has a value, and then the later ones
 abbrev pub with_piece : {V : Type 0} → ℕ → ℕ → Option V → List (Run V) → List (Run V)
 with_piece start end None runs = runs
 with_piece start end (Some v) runs = record { start = start; end = end; value = v } ∷ runs
 
--- the intervals from each stop up to the next, and from the last up to an end, that have a value
+-- the intervals that have a value: from each stop up to the next one, and from the last stop up to an end
 abbrev pub pieces_from : {V : Type 0} → ℕ → ℕ → Option V → List ℕ → List (Option V) → List (Run V)
 pieces_from end start now [] values = with_piece start end now []
 pieces_from end start now (s ∷ stops) [] = with_piece start end now []

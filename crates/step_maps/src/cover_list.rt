@@ -10,8 +10,7 @@ use crate::stretch::{CoverList, FirstItem, Stretch};
 use std::alloc::Global;
 use sym_edges::{ListOf, OutOfMemory};
 
-/// The first item of the list at each address, in n log n turns for n stretches however they overlap, and in n where
-/// they ascend.
+/// The first item of the list at each address. This takes n log n turns for n stretches, however they overlap, and n turns if they ascend.
 #[tactic(auto, using(crate::proofs::FirstLemmas::first_where_laid))]
 pub fn first_items(
     alloc: Global,
@@ -24,8 +23,8 @@ pub fn first_items(
     Ok(steps)
 }
 
-/// Which stretch is the first in the list, for each address that one has, in n log n turns for n stretches however they
-/// overlap, and in n where they ascend.
+/// For each address in some stretch, which stretch is the first in the list that contains it. This takes n log n turns for n stretches, however they
+/// overlap, and n turns if they ascend.
 pub fn covers(alloc: Global, items: &[Stretch]) -> Result<CoverList, OutOfMemory>
     requires { AreStretches items.now }
     ensures { IfOk result (λ covers. AreCovers items.now covers) }

@@ -1,10 +1,10 @@
-//! Laws of runs: they are maximal, and a function has one list of them.
+//! Laws of runs: they are maximal, and a function has only one list of them.
 ghost use Rattle.std.specs.Prelude.{◌≡◌, ℕ, ◌<◌, List, Option, None};
 ghost use Rattle.step_maps.specs.Stepping.{Stepping, IsStepping, last_from, value_at};
 ghost use Rattle.step_maps.specs.Runs.{Run, IsRuns, AreMaximal, between};
 ghost use Rattle.step_maps.specs.StepRuns.{Differ, pieces};
 
-/// A function of addresses has one list of runs only.
+/// A function of addresses has only one list of runs.
 #[tactic(auto, using(crate::proofs::OneRuns::one_runs))]
 pub fn same_values_same_runs<V>()
     ensures { (f : ℕ → Option V) (xs ys : List (Run V)) → IsRuns f xs → IsRuns f ys → xs ≡ ys }

@@ -12,13 +12,14 @@ use crate::stretch::{FirstItem, Stretch};
 use std::alloc::Global;
 use sym_edges::OutOfMemory;
 
-/// How many stretches at most are laid down address by address of a change, and need no map for each half.
+/// At most this many stretches are laid stop by stop, without a map for each half.
 const FEW: usize = 4;
 
-/// How many stretches at most are sorted on the way, besides the whole list: more would be sorted too often.
+/// Parts of at most this many stretches are sorted, too, not only the whole list; larger parts would be sorted too often.
 const SHORT: usize = 64;
 
-/// The first item at each address: one after another where no stretches overlap, else of each half, one laid over the other.
+/// The first item at each address. If no stretches overlap, they are laid one after another; otherwise the map of one half is laid over that of the
+/// other.
 pub(crate) fn layered(
     alloc: Global,
     items: &[Stretch],
@@ -34,7 +35,7 @@ pub(crate) fn layered(
     halved(alloc, items)
 }
 
-/// The stretches one after another, in whatever order they stand, if none overlap.
+/// The stretches laid one after another, whatever their order in the list, if none overlap.
 #[tactic(auto, using(crate::proofs::SortedLemmas::stretches_moved, crate::proofs::SortedLemmas::sorted_laid))]
 fn disjoint(
     alloc: Global,
@@ -59,7 +60,7 @@ fn sorted_by_first(alloc: Global, items: &[Stretch]) -> Result<Vec<Stretch>, Out
     Ok(sorted)
 }
 
-/// As the stretches stand where they ascend, else of each half, one laid over the other.
+/// If the stretches ascend, they are laid in their order; otherwise the map of one half is laid over that of the other.
 fn halved(alloc: Global, items: &[Stretch]) -> Result<StepMap<Option<FirstItem>>, OutOfMemory>
     requires { AreStretches items.now }
     ensures { IfOk result (λ steps. (a : ℕ) → a < 2 ^ 64 → value_at None steps a ≡ laid items.now a) }
@@ -102,7 +103,7 @@ fn is_ascending(items: &[Stretch]) -> bool
     true
 }
 
-/// Stretches that ascend.
+/// Lays stretches that ascend.
 fn in_order(alloc: Global, items: &[Stretch]) -> Result<StepMap<Option<FirstItem>>, OutOfMemory>
     requires all { AreStretches items.now }
     requires up { ascends items.now ≡ true }
@@ -123,7 +124,7 @@ fn in_order(alloc: Global, items: &[Stretch]) -> Result<StepMap<Option<FirstItem
     Ok(steps)
 }
 
-/// A stretch after the last stop.
+/// Lays a stretch after the last stop.
 #[inline]
 fn lay_behind(steps: &mut StepMap<Option<FirstItem>>, item: Stretch) -> Result<(), OutOfMemory>
     requires some { item.first ≤ item.last }
@@ -144,7 +145,7 @@ fn lay_behind(steps: &mut StepMap<Option<FirstItem>>, item: Stretch) -> Result<(
     Ok(())
 }
 
-/// Few stretches: at each address where one begins or has ended, the first of all that have it.
+/// Lays few stretches: at each address where one begins or has ended, the first of all that contain it.
 fn one_by_one(alloc: Global, items: &[Stretch]) -> Result<StepMap<Option<FirstItem>>, OutOfMemory>
     ensures { IfOk result (λ steps. (a : ℕ) → a < 2 ^ 64 → value_at None steps a ≡ laid items.now a) }
 {

@@ -1,22 +1,21 @@
 //! Functions of addresses that change at a few of them.
 //!
-//! A [`StepMap`] is such a function: a rising list of stops, and beside each the value from there on. It changes in one way,
-//! `set`: from an address on the value is this one. The contract of `set` is one equation at every address, so whoever makes a
-//! function from left to right never speaks of intervals, gaps or overlaps. `at` looks an address up by halves.
+//! A [`StepMap`] is such a function: an ascending list of stops, each with the value from there on. Only `set` changes it: from an address on, the
+//! value is the given one. The contract of `set` is one equation at every address, so whoever makes a function from left to right need not consider
+//! intervals, gaps or overlaps. `at` looks an address up by a binary search.
 //!
-//! Items have numbers, and classes that several may share; a [`Stretch`] is the addresses from a first to a last one, both
-//! included, of one item. Of stretches that overlap the first in the list counts. [`first_items`] gives at each address the
-//! first item there, and whether an item of another class is there too ([`FirstItem`]); [`overlay`] lays one such map over
-//! another by one merge. Stretches that ascend are laid down as they stand, and those that only stand in another order once
-//! a copy is sorted; other lists are cut in two, and the map of the front half is laid over that of the back half. So n
-//! stretches take n log n turns however they overlap, and n where they ascend.
+//! Items have numbers, and classes that several may share. A [`Stretch`] is the addresses from a first to a last one, both included, of one item. If
+//! stretches overlap, the first in the list counts. [`first_items`] gives at each address the first item there, and whether an item of another class
+//! is there too ([`FirstItem`]). [`overlay`] lays one such map over another by one merge. Stretches that ascend are laid in their order. If they do
+//! not ascend, but do not overlap either, a sorted copy is laid. Any other list is cut in two, and the map of the front half is laid over that of the
+//! back half. So n stretches take n log n turns however they overlap, and n if they ascend.
 //!
-//! The runs of a function are the maximal intervals on which it is defined and constant. A function has one list of runs
-//! only ([`same_values_same_runs`]), each of them can't be made longer ([`runs_are_maximal`]), and a step map in which no two
-//! neighbours are equal has them between its stops ([`steps_are_runs`]). [`covers`] gives the runs of the first item's
-//! index, and with each [`Cover`] whether its first address is shared. [`push_spans`] makes the stretches of an item's ranges.
+//! The runs of a function are the maximal intervals on which it is defined and constant. A function has only one list of runs
+//! ([`same_values_same_runs`]), and none of them can be made longer ([`runs_are_maximal`]). If no two neighbours of a step map are equal, the runs
+//! lie between its stops ([`steps_are_runs`]). [`covers`] gives the runs of the first item's index, and each [`Cover`] says whether its first address
+//! is shared. [`push_spans`] makes the stretches of an item's ranges.
 //!
-//! To read: `steps` first, then `stretch` and `overlays`, then `layers`, `joins` and `cover_list`; `laws` stand alone.
+//! To read: `steps` first, then `stretch` and `overlays`, then `layers`, `joins` and `cover_list`; `laws` is separate.
 #![tactic(auto)]
 
 mod cover_list;

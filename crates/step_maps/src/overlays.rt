@@ -9,7 +9,7 @@ use crate::stretch::FirstItem;
 use std::alloc::Global;
 use sym_edges::OutOfMemory;
 
-/// What is seen at each address where one map of first items lies over another, by one merge.
+/// The first item at each address if one map of first items lies over another, by one merge.
 pub fn overlay(
     alloc: Global,
     upper: &StepMap<Option<FirstItem>>,
@@ -26,7 +26,7 @@ pub fn overlay(
     )
 }
 
-/// The upper item where there is one, which then tells of the lower one whether its class differs.
+/// The upper item if there is one, otherwise the lower one. If there are both, the result is shared if either item is, or if their classes differ.
 #[inline]
 pub(crate) fn over(top: Option<FirstItem>, below: Option<FirstItem>) -> Option<FirstItem>
     ensures { result ≡ over top below }

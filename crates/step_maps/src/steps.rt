@@ -7,7 +7,7 @@ use std::alloc::Global;
 use std::marker::Model;
 use sym_edges::OutOfMemory;
 
-/// A function of addresses that changes at its stops, which rise.
+/// A function of addresses that changes at its stops, which ascend.
 #[derive(Drop)]
 pub struct StepMap<V> {
     stops: Vec<u64>,
@@ -25,7 +25,7 @@ impl<V> Model for StepMap<V> {
 }
 
 impl<V: Copy + Drop> StepMap<V> {
-    /// No stop yet. Takes no memory.
+    /// No stop yet. Allocates no memory.
     pub fn new(alloc: Global) -> StepMap<V>
         ensures { result ≡ record { stops = []; values = [] } }
     {
@@ -35,7 +35,7 @@ impl<V: Copy + Drop> StepMap<V> {
         }
     }
 
-    /// No stop yet, and room for as many as a number.
+    /// No stop yet, and room for `count` stops.
     pub fn with_room(alloc: Global, count: usize) -> Result<StepMap<V>, OutOfMemory>
         ensures { IfOk result (λ steps. steps ≡ record { stops = []; values = [] }) }
     {
@@ -44,7 +44,7 @@ impl<V: Copy + Drop> StepMap<V> {
         Ok(StepMap { stops, values })
     }
 
-    /// From this address on the value is this one. At the last stop's address its value is replaced.
+    /// From this address on, the value is the given one. If the address is the last stop, the value of this stop is replaced.
     #[inline]
     pub fn set(&mut self, from: u64, value: V) -> Result<(), OutOfMemory>
         requires { last_from 0 self.old.stops ≤ from }
@@ -55,7 +55,7 @@ impl<V: Copy + Drop> StepMap<V> {
         push_step(&mut self.stops, &mut self.values, from, value)
     }
 
-    /// Gives back the room that no stop took.
+    /// Frees the room that no stop uses.
     pub fn shrink(&mut self)
         ensures { self.new ≡ self.old }
     {
@@ -63,14 +63,14 @@ impl<V: Copy + Drop> StepMap<V> {
         self.values.shrink_to_fit();
     }
 
-    /// The value at an address, by halves; `before` below the first stop.
+    /// The value at an address, by a binary search; it is `before` below the first stop.
     pub fn at(&self, before: V, a: u64) -> V
         ensures { result ≡ value_at before self.now a }
     {
         find_step(self.stops.as_slice(), self.values.as_slice(), before, a)
     }
 
-    /// The addresses at which the value may change, rising.
+    /// The addresses at which the value may change, ascending.
     pub fn stops(&self) -> &[u64]
         ensures same { result.now ≡ self.now.stops }
         ensures stepping { IsStepping self.now.stops self.now.values }
@@ -86,7 +86,7 @@ impl<V: Copy + Drop> StepMap<V> {
     }
 }
 
-/// Adds a stop at the end, or gives the last stop another value where it is the same address.
+/// Adds a stop at the end; if the last stop has the same address, replaces its value.
 #[inline]
 #[tactic(auto, using(crate::proofs::SteppingLemmas::held_over, crate::proofs::SteppingLemmas::held_push, crate::proofs::SteppingLemmas::rises_push, crate::proofs::SteppingLemmas::last_push, crate::proofs::SteppingLemmas::last_index))]
 fn push_step<V: Copy + Drop>(

@@ -1,4 +1,4 @@
-//! Stretches of addresses, and which of several is the first.
+//! Stretches of addresses, and which of several is the first at an address.
 use sym_edges::ListOf;
 
 /// The addresses from `first` to `last`, both included, of one numbered item, and the item's class.

@@ -1,11 +1,11 @@
--- The words by which sections, and reasons to leave a frame entry out, are printed.
+-- The printed words for sections, and for the reasons to leave a frame entry out.
 use Rattle.std.specs.Prelude.{ℕ, List, codes}
 use Rattle.sym_edges.specs.declared.part.Sect.{Sect}
 use Rattle.sym_edges.specs.declared.part.Sect.TheVariants as sect
 use Rattle.sym_edges.specs.declared.reason.Reason.{Reason}
 use Rattle.sym_edges.specs.declared.reason.Reason.TheVariants as reason
 
--- the word of a section: its name without the point in front
+-- the word for a section: its name without the leading point
 abbrev pub section_word : Sect → List ℕ
 section_word sect.Info = codes "debug_info"
 section_word sect.Abbrev = codes "debug_abbrev"
@@ -20,7 +20,7 @@ section_word sect.DebugFrame = codes "debug_frame"
 section_word sect.EhFrame = codes "eh_frame"
 section_word sect.Text = codes "text"
 
--- the word of a reason
+-- the word for a reason
 abbrev pub reason_word : Reason → List ℕ
 reason_word reason.Cie = codes "cie"
 reason_word reason.Augmentation = codes "augmentation"

@@ -1,4 +1,4 @@
-//! Faults with their place, and what a call stops at: a fault, or want of memory.
+//! Why a call stops: a fault, or out of memory.
 ghost use Rattle.std.specs.Prelude.{◌≡◌};
 ghost use Rattle.sym_edges.specs.declared.fault.OutOfMemory.{OutOfMemory};
 ghost use Rattle.sym_edges.specs.declared.fault.Stop.TheVariants.{NoMemory};

@@ -10,7 +10,8 @@ use std::alloc::Global;
 use std::fs;
 use std::rt::Files;
 
-/// The system's files. It tells neither their bytes nor what is left, and counts each error of the system; a read that a signal interrupts is tried again.
+/// The system's files. Contracts see neither their bytes nor what is left. Each error of the system is counted. A read that a signal interrupts is
+/// tried again.
 #[derive(Drop)]
 pub struct FileStore<'a, R: Files> {
     system: &'a R,

@@ -1,9 +1,8 @@
 //! The edges of the program: where bytes come in, where text goes out, and the small types that every layer shares.
 //!
-//! A `Store` gives the bytes of named files and a `Sink` takes bytes; both may fail, and both count
-//! their faults, so that a caller can tell a fault of the outside from one of its own. `read_all` gives a whole
-//! file or says why not, and `write_all` writes all bytes or leaves a front of them. `MemStore` and `MemSink`
-//! tell everything and serve tests; `FileStore` and `StreamSink` are the system's files and streams.
+//! A `Store` gives the bytes of named files, and a `Sink` takes bytes. Both may fail, and both count their faults, so a caller can tell a fault of
+//! the outside from its own. `read_all` gives a whole file or says why not. `write_all` writes all bytes, or only a prefix of them if it fails.
+//! `MemStore` and `MemSink` show contracts everything and serve tests. `FileStore` and `StreamSink` are the system's files and streams.
 #![tactic(auto)]
 
 mod fault;

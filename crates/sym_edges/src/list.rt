@@ -25,14 +25,14 @@ impl<T> Model for ListOf<T> {
 }
 
 impl<T> ListOf<T> {
-    /// Takes no memory.
+    /// Allocates no memory.
     pub fn of(items: Vec<T>) -> Self
         ensures { result ≡ items.items }
     {
         ListOf { items }
     }
 
-    /// Takes no memory.
+    /// Allocates no memory.
     pub fn into_vec(self) -> Vec<T>
         ensures { result.items ≡ self }
     {

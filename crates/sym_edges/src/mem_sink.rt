@@ -1,4 +1,4 @@
-//! A sink over memory.
+//! A sink in memory.
 ghost use Rattle.std.specs.Prelude.{◌≡◌, ℕ, ◌≤◌, ◌<◌, List, [], length, take, true, false, Some, Ok, IfOk, OnErr, MatchResult};
 ghost use Rattle.sym_edges.specs.Outside.{append_told, Rose};
 ghost use Rattle.sym_edges.specs.Memory.{write_fails, write_count, after_failed_write, after_write};
@@ -10,10 +10,10 @@ use crate::sink::Sink;
 use std::alloc::Global;
 use std::marker::Model;
 
-/// A sink over memory, which tells everything and takes no memory after it was made.
+/// A sink in memory. Contracts see all of it, and it allocates no memory after it was made.
 ///
-/// Writes are numbered from 1. A write fails exactly where its piece is not empty and either its number is in `fail`
-/// or `room` bytes are already held. One write takes at most `step` bytes.
+/// Writes are numbered from 1. A write fails exactly if its piece is not empty and either its number is in `fail` or `room` bytes are already held.
+/// One write takes at most `step` bytes.
 #[derive(Debug, Drop)]
 pub struct MemSink {
     held: Vec<u8>,

@@ -1,4 +1,4 @@
-//! A store over memory.
+//! A store in memory.
 ghost use Rattle.std.specs.Prelude.{◌≡◌, ◌==◌, ◌+◌, ℕ, ◌≤◌, ◌<◌, ◌^◌, Some, List, [], ◌∷◌, ◌++◌, true, false, length, take, drop, position, IfOk, OnOk, OnErr, MatchResult, nat_lt};
 ghost use Rattle.std.specs.Str.{bytes_eq};
 ghost use Rattle.sym_edges.specs.Outside.{Opens, Reads, MatchStop, OnFault, OnNoMemory, Rose};
@@ -11,13 +11,13 @@ use crate::store::Store;
 use std::alloc::Global;
 use std::marker::Model;
 
-/// Files by name; the first of equal names counts.
+/// Files by name; if several have the same name, the first counts.
 pub type FileList = ListOf<NamedFile>;
 
-/// A store over memory, which tells everything.
+/// A store in memory; contracts see all of it.
 ///
-/// Openings and reads are numbered together from 1. A call fails exactly where its number is in `fail`, or
-/// where the files lack the name. A read moves at most `step` bytes.
+/// Openings and reads are numbered together from 1. A call fails exactly if its number is in `fail`, or if it opens a name that the files lack. A
+/// read moves at most `step` bytes.
 #[derive(Debug, Drop)]
 pub struct MemStore {
     alloc: Global,
@@ -70,7 +70,7 @@ impl MemStore {
     }
 }
 
-/// Whether the call of this number is to fail.
+/// Whether the call with this number is to fail.
 #[tactic(auto, unfolding(crate::specs::Memory::is_failing))]
 pub(crate) fn fails(fail: &CallList, call: u64) -> bool
     ensures { result ≡ is_failing fail.now call }

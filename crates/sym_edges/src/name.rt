@@ -21,7 +21,7 @@ impl Model for NameText {
 }
 
 impl NameText {
-    /// Takes no memory.
+    /// Allocates no memory.
     pub fn of(text: String) -> NameText
         ensures { result ≡ string_bytes text }
     {

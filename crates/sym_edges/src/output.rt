@@ -5,7 +5,7 @@ ghost use Rattle.sym_edges.specs.Outside.{append_told, AddsFront, Rose};
 use crate::fault::Failed;
 use crate::sink::Sink;
 
-/// Writes all bytes. After a failure only some of the first bytes were added, perhaps none. Takes no memory.
+/// Writes all bytes. If it fails, only a prefix of them was added, which may be empty. Allocates no memory.
 pub fn write_all<O: Sink>(sink: &mut O, bytes: &[u8]) -> Result<(), Failed>
     ensures written { OnOk result (O.taken sink.new ≡ append_told (O.taken sink.old) bytes.now) }
     ensures front { OnErr result (AddsFront (O.taken sink.old) (O.taken sink.new) bytes.now) }

@@ -21,7 +21,7 @@ impl Sect {
     ghost use Rattle.std.specs.Prelude.{◌≡◌};
     ghost use Rattle.sym_edges.specs.PrintedWords.{section_word};
 
-    /// The name of the section without its point, as it is printed.
+    /// The name of the section without the leading point, as it is printed.
     pub fn word(self) -> &'static [u8]
         ensures { result.now ≡ section_word self }
     {

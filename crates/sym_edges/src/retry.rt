@@ -1,14 +1,14 @@
-//! Calls of the system that a signal may interrupt (POSIX, EINTR): they are tried again.
+//! System calls that are tried again if a signal interrupts them (POSIX, EINTR).
 ghost use Rattle.std.specs.Prelude.{◌≡◌, ◌≤◌, ◌<◌, length, take, IfOk, OnErr};
 ghost use Rattle.std.specs.Io.KnownBytes.{Appends, Consumes, IsAtEnd, Keeps};
 
 use crate::fault::Failed;
 use std::io::{ErrorKind, Read, Write};
 
-/// How often a call is made that is interrupted each time, before that is a fault like any other.
+/// How often a call is made if each time it is interrupted; then this is a fault like any other.
 const TRIES: u32 = 100;
 
-/// One read, tried again where a signal interrupts it.
+/// One read, tried again if a signal interrupts it.
 pub fn read_retrying<R: Read>(reader: &mut R, buf: &mut [u8]) -> Result<usize, Failed>
     ensures within { IfOk result (λ n. n ≤ length buf.old) }
     ensures taken { IfOk result (λ n. Consumes (R.remaining reader.old) (R.remaining reader.new) (take n buf.new)) }
@@ -28,7 +28,7 @@ pub fn read_retrying<R: Read>(reader: &mut R, buf: &mut [u8]) -> Result<usize, F
     Err(Failed)
 }
 
-/// One write, tried again where a signal interrupts it.
+/// One write, tried again if a signal interrupts it.
 pub fn write_retrying<W: Write>(writer: &mut W, piece: &[u8]) -> Result<usize, Failed>
     ensures within { IfOk result (λ n. n ≤ length piece.now) }
     ensures taken { IfOk result (λ n. Appends (W.contents writer.old) (W.contents writer.new) (take n piece.now)) }

@@ -6,13 +6,13 @@ use crate::fault::Failed;
 
 /// A place that takes bytes.
 ///
-/// A sink means the bytes that it took, where it tells them, and a count of faults that never falls.
+/// Contracts see the bytes that a sink took, if it shows them, and a count of faults, which never falls.
 pub trait Sink {
     ghost taken: { Self → Option (List ℕ) };
 
     ghost faults: { Self → ℕ };
 
-    /// Takes a front of the piece, and answers its length: at least one byte of a piece that is not empty.
+    /// Takes a prefix of the piece and returns its length: at least one byte if the piece is not empty.
     fn write(&mut self, piece: &[u8]) -> Result<usize, Failed>
         ensures within { IfOk result (λ n. n ≤ length piece.now) }
         ensures moves { IfOk result (λ n. 0 < length piece.now → 0 < n) }

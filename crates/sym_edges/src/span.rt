@@ -3,7 +3,7 @@ ghost use Rattle.std.specs.Prelude.{◌≡◌, ◌<◌};
 
 use std::marker::Model;
 
-/// The addresses from `start` up to, and without, `end`. A span is never empty.
+/// The addresses from `start` up to `end`, without `end`. A span is never empty.
 #[derive(Clone, Copy, Debug, PartialEq, Eq)]
 pub struct Span {
     start: u64,

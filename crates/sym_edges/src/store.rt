@@ -4,10 +4,10 @@ ghost use Rattle.sym_edges.specs.Outside.{Files, Opens, Reads, MatchStop, OnFaul
 
 use crate::fault::{Failed, Stop};
 
-/// Named files, opened and read one after the other.
+/// Named files, which are opened and read one after another.
 ///
-/// A store means four things: the names that `open_file` was asked for, in order; its files, where it tells
-/// them; what is left of the open file, where it tells that; and a count of faults, which rises where a call fails and at no other time.
+/// Contracts see four things of a store: the names that `open_file` was asked for, in order; its files, if it shows them; what is left of the open
+/// file, if it shows this; and a count of faults, which rises if a call fails and at no other time.
 pub trait Store {
     ghost asked: { Self → List (List ℕ) };
 
@@ -17,7 +17,7 @@ pub trait Store {
 
     ghost faults: { Self → ℕ };
 
-    /// Opens a file: all of its bytes are left then. Out of memory changes nothing.
+    /// Opens a file; then all of its bytes are left. If memory runs out, nothing changes.
     fn open_file(&mut self, name: &str) -> Result<(), Stop<Failed>>
         ensures asked { MatchStop result
             (λ _. asked self.new ≡ asked self.old ++ name.now ∷ [])
@@ -31,7 +31,7 @@ pub trait Store {
         ensures cause { OnFault result (Rose (faults self.old) (faults self.new)) }
         ensures no_memory { OnNoMemory result (faults self.new ≡ faults self.old) };
 
-    /// Reads a front of what is left into `buf`, and answers its length: 0 exactly where `buf` is empty or nothing is left.
+    /// Reads a prefix of what is left into `buf`, and returns its length. It is 0 exactly if `buf` is empty or nothing is left.
     fn read(&mut self, buf: &mut [u8]) -> Result<usize, Failed>
         ensures within { IfOk result (λ n. n ≤ length buf.old) }
         ensures taken { IfOk result (λ n. Reads (left self.old) n (length buf.old) (take n buf.new) (left self.new)) }

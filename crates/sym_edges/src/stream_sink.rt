@@ -6,8 +6,8 @@ use crate::retry::write_retrying;
 use crate::sink::Sink;
 use std::io::Write;
 
-/// A stream of the system, as standard output. Each piece is handed to the system in one call, and nothing is kept in a
-/// buffer. It tells no bytes, and counts each error of the system, and a write of 0 bytes as one; a write that a signal interrupts is tried again.
+/// A stream of the system, such as standard output. Each piece is handed to the system in one call, and nothing is buffered. Contracts do not see the
+/// bytes. Each error of the system is counted, and also each write of 0 bytes. A write that a signal interrupts is tried again.
 #[derive(Drop)]
 pub struct StreamSink<W: Write + Drop> {
     stream: W,

@@ -1,4 +1,4 @@
-//! Reading a file whole, up to a limit.
+//! Reading a whole file, up to a limit.
 ghost use Rattle.std.specs.Prelude.{◌≡◌, ℕ, ◌≤◌, ◌<◌, List, [], ◌∷◌, ◌++◌, Option, length, IfOk, OnOk};
 ghost use Rattle.sym_edges.specs.Outside.{MatchStop, Rose};
 ghost use Rattle.sym_edges.specs.WholeFile.{AsksOnce, HoldsFile, IsSteady, ReadAll, ReadRest};
@@ -20,16 +20,16 @@ pub enum ReadEnd {
     TooLong,
 }
 
-/// The greatest length of a file that is dumped, and so of each of its sections: 2^29 bytes.
+/// The greatest length of a file that is dumped, and thus of each of its sections: 2^29 bytes.
 pub const FILE_LIMIT: usize = 0x2000_0000;
 
-/// The bytes that are read at once.
+/// How many bytes are read at once.
 const PIECE: usize = 65536;
 
-/// The whole file of that name, which has at most `limit` bytes. The store is asked for this name alone, at most once.
+/// The whole file with this name, which has at most `limit` bytes. The store is asked for no other name, and for this one at most once.
 ///
-/// `CantOpen` and `CantRead` come only where the store's count of faults rose, and it stands still where anything else comes: before `CantRead` the file was opened, and after
-/// `CantOpen` what was left of an earlier file still is. `TooLong` comes exactly where more than `limit` bytes were taken.
+/// After `CantOpen` and `CantRead` the store's count of faults has risen; after any other result it has not changed. Before `CantRead` the file was
+/// opened. After `CantOpen`, what was left of an earlier file is still left. `TooLong` comes exactly if more than `limit` bytes were taken.
 pub fn read_all<S: Store>(
     alloc: Global,
     store: &mut S,

@@ -1,9 +1,10 @@
 -- The rule of the one shared word.
 --
--- Some workers share one word, which counts their draws. Each has a seat, and a seat's view is what its worker knows: the numbers that it drew; its rights, how many
--- draws it may still make that find no number; its share, for how many workers it stands; and the lot, how many numbers and workers there are.
--- A draw adds 1 to the word. Where it found k there, and k is below the count, the number k is this worker's; else a right is spent. So no number is drawn twice, and
--- none is left out: the rule says so as sums over all views, which every step keeps (`Steps`).
+-- Some workers share one word, which counts their draws. Each worker has a seat, and the seat's view is what the worker knows: the numbers that it
+-- drew; its rights, which are the draws that it may still make without finding a number; its share, which is the number of workers that it stands
+-- for; and the lot, which is how many numbers and workers there are. A draw adds 1 to the word. If it found k there and k is below the count, this
+-- worker gets the number k; otherwise a right is spent. So no number is drawn twice, and none is left out. The rule says this by sums over all views,
+-- and every step keeps the rule (`Steps`).
 use Rattle.std.specs.Prelude.{◌≡◌, ℕ, ◌+◌, ◌-◌, ◌^◌, ◌<◌, ◌≤◌, min, List, [], length, slice_index}
 use mathlib.Core.Option.{some}
 use lib.ListN.{get_elem?}
@@ -18,9 +19,9 @@ lot_of count workers = record { count = count; workers = workers }
 abbrev pub view : Lot → List ℕ → ℕ → ℕ → View
 view lot drawn rights share = record { lot = lot; drawn = drawn; rights = rights; share = share }
 
--- what one view has to say
+-- what holds for one view
 pub record IsView (lot : Lot) (v : View) : Type 0 where
-  -- no view has more rights than its share, and one with share 0 has drawn nothing
+  -- no view has more rights than its share, and a view with share 0 has drawn nothing
   pub rights : v.rights ≤ v.share
   pub idle : v.share ≡ 0 → v.drawn ≡ []
   -- a view with a share knows the lot
@@ -29,10 +30,10 @@ pub record IsView (lot : Lot) (v : View) : Type 0 where
 pub record Drawing (lot : Lot) (s : State ℕ View) : Type 0 where
   pub wide : length s.words ≡ 1
   pub few : lot.count + lot.workers < 2 ^ 63
-  -- each number below both the word and the count stands in one view's list, once, and no list has another number
+  -- each number below both the word and the count is in one view's list, once, and no list has another number
   pub drawn : (x : ℕ) → total (λ v. times x v.drawn) s.views ≡ once_below (min (slice_index s.words 0) lot.count) x
-  -- the rights and the word's excess over the count add up to the workers
+  -- all rights, and the word's excess over the count, add up to the number of workers
   pub rights : total (λ v. v.rights) s.views + (slice_index s.words 0 - lot.count) ≡ lot.workers
-  -- the shares add up to the workers
+  -- the shares add up to the number of workers
   pub shares : total (λ v. v.share) s.views ≡ lot.workers
   pub each : (i : ℕ) (v : View) → get_elem? s.views i ≡ some v → IsView lot v

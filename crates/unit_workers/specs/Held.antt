@@ -8,7 +8,8 @@ pub record Roll : Type 0 where
   pub count : ℕ
   pub workers : ℕ
 
--- A hand: the tickets that it draws from, the numbers that it drew, in order, how many draws it may still make that find none, and for how many workers it stands
+-- A hand: the tickets that it draws from; the numbers that it drew, in order; how many draws it may still make that find no number; and how many
+-- workers it stands for
 pub record Held : Type 0 where
   pub roll : Roll
   pub drawn : List ℕ

@@ -1,4 +1,4 @@
--- Results beside their numbers, and results in the places of their numbers.
+-- Results with their numbers, and results in the places of their numbers.
 use Rattle.std.specs.Prelude.{◌≡◌, ℕ, ◌<◌, ◌≤◌, List, [], ◌∷◌, length, Option, Some, Result, IfSome, IfOk, IsSomeAnd, slice_index_or, slice_set}
 use Rattle.std.specs.List.{All}
 use Rattle.sym_edges.specs.declared.fault.OutOfMemory.{OutOfMemory}
@@ -6,7 +6,7 @@ use Rattle.unit_workers.specs.declared.worker.Worked.{Worked}
 use Rattle.unit_workers.specs.Numbers.{times}
 use Rattle.unit_workers.specs.Held.{Roll, Held, held}
 
--- member k of the list stands in the relation for k
+-- member k of the list is in the relation `gives` for k
 abbrev pub AreInOrder : {A : Type 0} → (ℕ → A → Type 0) → List A → Type 0
 AreInOrder {A} gives outs = (k : ℕ) (default : A) → k < length outs → gives k (slice_index_or outs k default)
 
@@ -19,20 +19,20 @@ abbrev pub numbers : {A : Type 0} → List (ℕ × A) → List ℕ
 numbers [] = []
 numbers (r ∷ rs) = r.0 ∷ numbers rs
 
--- a number below the count, with a result that stands for it
+-- a number below the count, with a result that is in the relation for this number
 abbrev pub IsResult : {A : Type 0} → (ℕ → A → Type 0) → ℕ → ℕ × A → Type 0
 IsResult gives count r = (r.0 < count) × gives r.0 r.1
 
--- what one worker has: its hand, with so many rights left, drew the numbers of its results. It is done where no right is left
+-- what one worker has: its hand drew the numbers of its results and has `rights` rights left. If no right is left, the worker is done
 pub record IsWorked {A : Type 0} (gives : ℕ → A → Type 0) (roll : Roll) (rights : ℕ) (hand : Held) (found : List (ℕ × A)) : Type 0 where
   pub holds : hand ≡ held roll (numbers found) rights 1
   pub each : All (IsResult gives roll.count) found
 
--- each worker that found memory is done
+-- each worker that did not run out of memory is done
 abbrev pub AreWorked : {A : Type 0} → (ℕ → A → Type 0) → Roll → List (Result (Worked A) OutOfMemory) → Type 0
 AreWorked gives roll works = All (λ work. IfOk work (λ w. IsWorked gives roll 0 w.hand w.found.items)) works
 
--- the places after each result was put into that of its number, from the last result to the first
+-- the places after each result was put into the place of its number, from the last result to the first
 abbrev pub placed : {A : Type 0} → List (Option A) → List (ℕ × A) → List (Option A)
 placed slots [] = slots
 placed slots (r ∷ rs) = slice_set (placed slots rs) r.0 (Some r.1)
@@ -42,11 +42,11 @@ pub record IsGathered {A : Type 0} (gives : ℕ → A → Type 0) (roll : Roll) 
   pub of : hand.roll ≡ roll
   pub rights : hand.rights ≡ 0
   pub long : length slots ≡ roll.count
-  -- what stands in a place stands in the relation for it
+  -- a result in a place is in the relation for the number of this place
   pub fits : (k : ℕ) (default : Option A) → k < length slots → IfSome (slice_index_or slots k default) (gives k)
-  -- the place of each number that was drawn is taken
+  -- the place of each number that was drawn has a result
   pub taken : (k : ℕ) (default : Option A) → k < length slots → 0 < times k hand.drawn → IsSomeAnd (slice_index_or slots k default) (gives k)
 
--- each place from a number on has a result that stands in the relation for it
+-- each place from a number on has a result that is in the relation for it
 abbrev pub AreTaken : {A : Type 0} → (ℕ → A → Type 0) → ℕ → List (Option A) → Type 0
 AreTaken {A} gives from slots = (k : ℕ) (default : Option A) → from ≤ k → k < length slots → IsSomeAnd (slice_index_or slots k default) (gives k)

@@ -9,7 +9,7 @@ use std::marker::Model;
 use std::thread::Threads;
 use sym_edges::OutOfMemory;
 
-/// Some workers, 1 to 64, with what starts their threads and gives them memory.
+/// Some workers, 1 to 64, with what starts their threads and what gives them memory.
 #[derive(Drop)]
 pub struct Crew<'c, R: Threads + Sync> {
     rt: &'c R,
@@ -28,7 +28,7 @@ impl<'c, R: Threads + Sync> Model for Crew<'c, R> {
 }
 
 impl<'c, R: Threads + Sync> Crew<'c, R> {
-    /// So many workers.
+    /// A crew of this many workers.
     pub fn new(rt: &'c R, alloc: Global, workers: usize) -> Crew<'c, R>
         requires { (1 ≤ workers) × (workers ≤ 64) }
         ensures { result ≡ workers }
@@ -36,7 +36,7 @@ impl<'c, R: Threads + Sync> Crew<'c, R> {
         Crew { rt, alloc, workers }
     }
 
-    /// How many they are.
+    /// The number of workers.
     pub fn workers(&self) -> usize
         ensures number { result ≡ self.now }
         ensures range { (1 ≤ result) × (result ≤ 64) }
@@ -49,7 +49,7 @@ impl<'c, R: Threads + Sync> Crew<'c, R> {
         self.alloc
     }
 
-    /// Runs the job at each number below `count` by these workers ([`run_all`]).
+    /// Runs the job at each number below `count`, by these workers ([`run_all`]).
     pub fn run<J: UnitJob + Sync, G: Gate + Sync>(
         &self,
         job: &J,

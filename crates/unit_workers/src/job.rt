@@ -8,11 +8,11 @@ use sym_edges::OutOfMemory;
 pub trait UnitJob {
     /// What a unit gives.
     type Out: Drop;
-    /// What a worker keeps from one unit to the next, so that memory is taken once: stacks and lists that each unit fills again.
-    /// It may hold anything when a unit is begun, and stays with its worker. A job without such memory has `()`.
+    /// Memory that a worker reuses from one unit to the next, so that it is allocated once: stacks and lists that each unit fills again. It may
+    /// contain anything when a unit begins, and stays with its worker. A job without such memory has `()`.
     type Scratch: Drop;
 
-    /// The results that stand for a number.
+    /// The relation between a number and its results.
     ghost gives: { Self → ℕ → Self.Out → Type 0 };
 
     /// Made once for each worker.
@@ -28,7 +28,7 @@ pub trait UnitJob {
         ensures { IfOk result (λ out. gives self.now k out) };
 }
 
-/// Is told of each unit by the worker that drew it, before the unit is read.
+/// A worker calls `at` for each unit that it drew, before it reads the unit.
 pub trait Gate {
     fn at(&self, k: usize);
 }

@@ -1,6 +1,6 @@
-//! With what tickets are made.
+//! What tickets are made with.
 
-/// With what tickets are made: how many units there are, and how many workers may draw.
+/// What tickets are made with: how many units there are, and how many workers may draw.
 #[derive(Drop)]
 pub struct Lot {
     pub count: u64,

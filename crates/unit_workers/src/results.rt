@@ -9,7 +9,7 @@ use crate::worker::{Work, Worked};
 use std::alloc::Global;
 use sym_edges::OutOfMemory;
 
-/// As many empty places as are asked for.
+/// `count` empty places.
 pub fn vacant<T: Drop>(alloc: Global, count: usize) -> Result<Vec<Option<T>>, OutOfMemory>
     ensures { IfOk result (λ v. v.items ≡ replicate count None) }
 {
@@ -56,7 +56,7 @@ pub fn gather<J: UnitJob>(
     Ok(hand)
 }
 
-/// The results in order, where each place has one.
+/// The results in order; each place must have one.
 pub fn take_all<J: UnitJob>(
     alloc: Global,
     _job: &J,

@@ -9,7 +9,7 @@ use crate::view::View;
 use atomic_table::{Join, Play, Split, Table, TableRule};
 use std::alloc::Global;
 
-/// One word and no slot.
+/// A table of one word and no slot.
 pub type Word = Table<u8, View, Lot, Rule, Global>;
 
 pub type Seat = atomic_table::Seat<u8, View>;

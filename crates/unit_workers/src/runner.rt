@@ -32,11 +32,11 @@ fn deal(
     Ok(hands)
 }
 
-/// Runs the job at each number below `count`, by `workers` workers, and answers the results in the order of their numbers.
+/// Runs the job at each number below `count`, by `workers` workers, and returns the results in the order of their numbers.
 ///
-/// Each worker draws the next number until there is none, so a unit that takes long holds up no other. With one worker, or
-/// one unit, no thread is started, and there are no more workers than units. Where a thread can't be started, the caller does
-/// that worker's units itself. Where one worker takes memory, the answer is [`OutOfMemory`].
+/// Each worker draws the next number until there is none, so a unit that takes long holds up no other. There are no more workers than units. With one
+/// worker, or one unit, no thread is started. If a thread can't be started, the caller does that worker's units itself. If a worker runs out of
+/// memory, the result is [`OutOfMemory`].
 pub fn run_all<R: Threads + Sync, J: UnitJob + Sync, G: Gate + Sync>(
     rt: &R,
     alloc: Global,

@@ -1,8 +1,8 @@
-//! The shares of a list, which are jobs of workers.
+//! The shares of a list, each of which is a job of a worker.
 ghost use Rattle.std.specs.Prelude.{◌≡◌, ◌+◌, ◌*◌, ◌≤◌, min};
 ghost use Rattle.unit_workers.specs.Shares.{share};
 
-/// Where share `k` of `count` members begins, and where it ends. A share has `size` members; the last one may have fewer, and those after it
+/// Where share `k` of `count` members begins, and where it ends. A share has `size` members; the last one may have fewer, and shares after the last
 /// have none.
 pub fn share_bounds(count: usize, size: usize, k: usize) -> (usize, usize)
     ensures order { result.0 ≤ result.1 }

@@ -11,7 +11,7 @@ use std::marker::Model;
 use std::mem::size_of;
 use sym_edges::OutOfMemory;
 
-/// The numbers below a count, one for each unit, of which each is drawn once. Threads share it by reference.
+/// The numbers below a count, one for each unit; each is drawn once. Threads share the tickets by reference.
 #[derive(Drop)]
 pub struct Tickets {
     word: Word,
@@ -29,7 +29,7 @@ impl Model for Tickets {
     ghost invariant = { λ t. (t.word.shared.table_id.words ≡ 1) × (t.word.shared.table_id.slots ≡ 0) × (t.count ≡ t.word.shared.key.count) × (0 < t.word.shared.key.workers) };
 }
 
-/// The right to draw, and what was drawn. It takes no bytes: what it holds is known to contracts alone.
+/// The right to draw, and what was drawn. It takes no bytes: only contracts know its contents.
 #[derive(Drop)]
 pub struct Hand {
     seat: Seat,
@@ -74,7 +74,7 @@ pub fn open_tickets(
 }
 
 impl Hand {
-    /// A hand for one more worker. Takes no memory.
+    /// A hand for one more worker. Allocates no memory.
     pub fn split(&mut self, tickets: &Tickets) -> Hand
         requires of { self.old.roll ≡ tickets.now }
         requires rights { 2 ≤ self.old.rights }
@@ -85,7 +85,7 @@ impl Hand {
         Hand { seat }
     }
 
-    /// The next number, or none where all are drawn, which spends a right. Takes no memory.
+    /// The next number. If all are drawn there is none, and a right is spent. Allocates no memory.
     pub fn draw(&mut self, tickets: &Tickets) -> Option<usize>
         requires of { self.old.roll ≡ tickets.now }
         requires right { 0 < self.old.rights }
@@ -101,7 +101,7 @@ impl Hand {
         }
     }
 
-    /// Takes in another hand: its numbers stand after those of this one.
+    /// Joins another hand: its numbers come after those of this one.
     pub fn join(&mut self, tickets: &Tickets, other: Hand)
         requires of { (self.old.roll ≡ tickets.now) × (other.roll ≡ tickets.now) }
         ensures { self.new ≡ held tickets.now (self.old.drawn ++ other.drawn) (self.old.rights + other.rights) (self.old.share + other.share) }
@@ -110,7 +110,7 @@ impl Hand {
         tickets.word.shared.join_seat::<Both>(&mut self.seat, seat);
     }
 
-    /// Ends the tickets. All hands were joined into this one, and no right is left: so it has each number once.
+    /// Ends the tickets. All hands were joined into this one, and no right is left, so this hand has each number once.
     pub fn close(self, tickets: Tickets)
         requires of { self.roll ≡ tickets }
         requires share { self.share ≡ tickets.workers }

@@ -1,19 +1,19 @@
-//! What is known at the word by whoever holds a seat.
+//! What the holder of a seat at the word knows.
 ghost use Rattle.std.specs.Prelude.{ℕ, List};
 ghost use Rattle.std.specs.Borrow.{ftrue};
 ghost use Rattle.unit_workers.specs.declared.lot.Lot.{Lot};
 
 use std::marker::Model;
 
-/// What a seat at the word knows. No value of it is made.
+/// What a seat at the word knows. No value of this type is ever made.
 pub struct View {
     /// What the word was made with.
     pub ghost lot: { Lot },
     /// The numbers that were drawn, in order.
     pub ghost drawn: { List ℕ },
-    /// How many draws may still be made that find no number.
+    /// How many more draws may be made that find no number.
     pub ghost rights: { ℕ },
-    /// For how many workers the seat stands.
+    /// How many workers the seat stands for.
     pub ghost share: { ℕ },
 }
 

@@ -9,7 +9,7 @@ use std::alloc::Global;
 use std::thread::{Threads, map_vec};
 use sym_edges::OutOfMemory;
 
-/// What one worker leaves: its hand, and its results beside their numbers.
+/// What one worker leaves: its hand, and its results with their numbers.
 #[derive(Drop)]
 pub struct Worked<T> {
     pub hand: Hand,
@@ -39,7 +39,7 @@ pub fn work<J: UnitJob, G: Gate>(
     Ok(Worked { hand, found })
 }
 
-/// All workers, each in a thread of its own where one can be started, else one after another.
+/// All workers, each in a thread of its own if one can be started, otherwise one after another.
 pub fn work_all<R: Threads + Sync, J: UnitJob + Sync, G: Gate + Sync>(
     rt: &R,
     alloc: Global,

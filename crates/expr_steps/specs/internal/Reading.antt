@@ -12,7 +12,7 @@ use Rattle.expr_steps.specs.Operations.{operations_at}
 use Rattle.expr_steps.specs.Steps.{in_front, steps_of}
 use Rattle.expr_steps.specs.Standing.{words, depth_after, standing_by}
 
--- the number that an operation pushes, where it pushes a constant
+-- the number that an operation pushes, if it pushes a constant
 abbrev pub constant_of : Operation → Option ℕ
 constant_of (Constant value) = Some value
 constant_of (Breg register offset) = None
@@ -25,28 +25,28 @@ constant_of (PlusUconst addend) = None
 constant_of Shl = None
 constant_of Ge = None
 
--- a constant and the operation behind it are a step, whatever comes later
+-- a constant and the operation after it are one step, whatever comes later
 pub record IsPair (kept : Option ℕ) (value : ℕ) (operation : Operation) (s : Step) (keeps : Option ℕ) : Type 0 where
   pub steps : (later : List Operation) → steps_of (Constant value ∷ operation ∷ later) kept ≡ in_front s (steps_of later keeps)
 
--- or the constant is a step alone
+-- the constant is a step alone
 pub record IsAlone (kept : Option ℕ) (value : ℕ) (operation : Operation) : Type 0 where
   pub steps : (later : List Operation) → steps_of (Constant value ∷ operation ∷ later) kept ≡ in_front (step.Constant value) (steps_of (operation ∷ later) None)
 
--- or neither
+-- neither the two together nor the constant alone is a step
 pub record IsNoStep (kept : Option ℕ) (value : ℕ) (operation : Operation) : Type 0 where
   pub steps : (later : List Operation) → steps_of (Constant value ∷ operation ∷ later) kept ≡ None
 
--- the steps of an operation in front of those ahead
+-- the steps of an operation and of those ahead
 unfoldable pub steps_behind : Operation → Option ℕ → Ahead → Option (List Step)
 steps_behind operation kept c = option_and_then (λ ops. steps_of (operation ∷ ops) kept) (operations_at c)
 
--- a depth that is known is at most so great
+-- a depth, if it is known, is at most `most`
 abbrev pub IsAtMost : ℕ → Option ℕ → Type 0
 IsAtMost most None = Unit {0}
 IsAtMost most (Some depth) = depth ≤ most
 
--- how an expression stands, by what is known of the steps that were read and those that are left
+-- the standing of an expression, given what is known of the steps that were read and the steps that are left
 unfoldable pub stands : Bool → ℕ → Option ℕ → Option ℕ → List Step → Option Standing
 stands start count free over given = standing_by start (count + sum_by words given) (depth_after given free) (depth_after given over)
 

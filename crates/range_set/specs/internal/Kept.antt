@@ -1,4 +1,4 @@
--- The ranges of a set, however they are kept.
+-- The ranges of a set, in whichever form they are stored.
 use Rattle.std.specs.Prelude.{List, [], ◌∷◌}
 use Rattle.sym_edges.specs.Addresses.{Range}
 use Rattle.range_set.specs.declared.set.Kept.{Kept}

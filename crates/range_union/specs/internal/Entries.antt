@@ -1,16 +1,16 @@
--- Ranges by their starts, of which no two meet, as a map has them.
+-- Ranges of which no two overlap, as the entries of a map by their starts.
 use Rattle.std.specs.Prelude.{◌≡◌, ℕ, ◌<◌, ◌≤◌, ◌||◌, true, nat_lt, if◌then◌else◌, List, [], ◌∷◌, length, map, Option, None, Some}
 use Rattle.sym_edges.specs.Addresses.{Range}
 use Rattle.range_union.specs.Ranges.{overlap, any_overlap, range_to}
 
--- ranges by their starts, each with its end
+-- the range of an entry, which is a start and an end
 abbrev pub range_by : ℕ × ℕ → Range
 range_by entry = range_to entry.0 entry.1
 
 unfoldable pub ranges_by : List (ℕ × ℕ) → List Range
 ranges_by entries = map range_by entries
 
--- the first range, if there is one, starts at or above an address
+-- the first range, if there is one, starts at or above the address
 abbrev pub StartsFrom : ℕ → List (ℕ × ℕ) → Type 0
 StartsFrom a [] = Unit {0}
 StartsFrom a (entry ∷ entries) = a ≤ entry.0
@@ -29,7 +29,7 @@ unfoldable pub last_below : ℕ → List (ℕ × ℕ) → Option (ℕ × ℕ)
 last_below below [] = None
 last_below below (entry ∷ entries) = or_entry (last_below below entries) (if nat_lt entry.0 below then Some entry else None)
 
--- a range that overlaps one from a start up to an end is taken out of a list
+-- a range from `low` up to `high`, which overlaps the one from `start` up to `end`, was taken out of a list
 pub record IsTaken (start end low high : ℕ) (old new : List (ℕ × ℕ)) : Type 0 where
   pub some : low < high
   pub overlaps : overlap (range_to start end) (range_to low high) ≡ true

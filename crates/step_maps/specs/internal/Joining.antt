@@ -9,7 +9,7 @@ is_same_index None (Some y) = false
 is_same_index (Some x) None = false
 is_same_index (Some x) (Some y) = x.index == y.index
 
--- the cover up to a last address, where there is an item, in front of those after it
+-- the cover up to a last address, if there is an item, and then the later covers
 abbrev pub with_cover : ℕ → ℕ → Option FirstItem → List Cover → List Cover
 with_cover first last None covers = covers
 with_cover first last (Some item) covers = record { first = first; last = last; index = item.index; shared = item.shared } ∷ covers

@@ -6,16 +6,16 @@ use Rattle.step_maps.specs.Covers.{reaches}
 use Rattle.step_maps.specs.Overlays.{over}
 use Rattle.step_maps.specs.Ends.{BelowEnd}
 
--- the stretch alone
+-- the item of one stretch alone
 abbrev pub own_item : Stretch → ℕ → Option FirstItem
 own_item s a = if reaches s a then Some (record { index = s.index; class = s.class; shared = false }) else None
 
--- each stretch over those after it
+-- each stretch laid over those after it
 unfoldable pub laid : List Stretch → ℕ → Option FirstItem
 laid [] a = None
 laid (s ∷ items) a = over (own_item s a) (laid items a)
 
--- whether each stretch begins above the last address of the one before
+-- whether each stretch begins above the last address of the one before it
 abbrev pub ascends_from : ℕ → List Stretch → Bool
 ascends_from last [] = true
 ascends_from last (s ∷ items) = nat_lt last s.first && ascends_from s.last items
@@ -30,7 +30,7 @@ sooner None y = y
 sooner (Some x) None = Some x
 sooner (Some x) (Some y) = Some (min x y)
 
--- from an address on, and up to a stop, each stretch has all addresses or none
+-- from `at` on, up to the stop `next`, each stretch contains all addresses or none
 abbrev pub AreSteady : List Stretch → ℕ → Option ℕ → Type 0
 AreSteady [] at next = Unit {0}
 AreSteady (s ∷ items) at next = ((a : ℕ) → at ≤ a → a < 2 ^ 64 → BelowEnd a next → reaches s a ≡ reaches s at) × AreSteady items at next
