@@ -1,5 +1,5 @@
--- The value of a postfix expression (Breakpad's symbol_files.md, "STACK CFI"): its words go from left to right over a stack of values, the
--- last value first; the first failure counts. Arithmetic is modulo 2^64.
+-- The value of a postfix expression (Breakpad's symbol_files.md, "STACK CFI"). Its words are evaluated from left to right with a stack of values,
+-- whose first member is its top. The first word that fails decides the failure. Arithmetic is modulo 2^64.
 use Rattle.std.specs.Prelude.{ℕ, ◌+◌, ◌-◌, ◌*◌, ◌/◌, ◌%◌, ◌^◌, ◌==◌, if◌then◌else◌, List, [], ◌∷◌, codes, Option, None, Some, Result, Ok, Err}
 use Rattle.std.specs.Int.{cast_unsigned, is_power_of_two, w64}
 use Rattle.std.specs.Str.{bytes_eq}
@@ -22,18 +22,18 @@ known_or_missing register (Some v) = Ok v
 unfoldable pub register_value : Regs → ℕ → Result ℕ Cause
 register_value regs register = known_or_missing register (slice_index_or regs.values register None)
 
--- the value of a name that is no register of the sixteen: `$rip` is the address of the next instruction
+-- the value of a name that is none of the sixteen registers: `$rip` is the address of the next instruction
 unfoldable pub name_value : Regs → List ℕ → Result ℕ Cause
 name_value regs name = if bytes_eq name (codes "$rip") then known_or_missing 16 regs.rip else Err cause.UnknownName
 
--- the value of `.cfa`: there is none inside its own rule
+-- the value of `.cfa`; it has no value inside its own rule
 abbrev pub cfa_value : Option Outcome → Result ℕ Cause
 cfa_value None = Err cause.UnknownName
 cfa_value (Some (Value v)) = Ok v
 cfa_value (Some Undefined) = Err cause.NoCfa
 cfa_value (Some (Failed why)) = Err why
 
--- the word that memory has at an address
+-- the word in memory at an address
 abbrev pub word_or_unreadable : ℕ → Option ℕ → Result ℕ Cause
 word_or_unreadable a None = Err (cause.Unreadable a)
 word_or_unreadable a (Some word) = Ok word
@@ -41,18 +41,18 @@ word_or_unreadable a (Some word) = Ok word
 unfoldable pub word_value : List MemRun → ℕ → Result ℕ Cause
 word_value memory a = word_or_unreadable a (word_at memory a)
 
--- a value on top of a stack
+-- a value is pushed onto a stack
 abbrev pub pushed : Result ℕ Cause → List ℕ → Result (List ℕ) Cause
 pushed (Err why) stack = Err why
 pushed (Ok v) stack = Ok (v ∷ stack)
 
--- a sign takes two values from the stack, the second of them from the top, and leaves one
+-- an operator of two operands pops the second operand, then the first, and pushes the result
 abbrev pub on_two : (ℕ → ℕ → Result ℕ Cause) → List ℕ → Result (List ℕ) Cause
 on_two sign [] = Err cause.Stack
 on_two sign (b ∷ []) = Err cause.Stack
 on_two sign (b ∷ a ∷ stack) = pushed (sign a b) stack
 
--- `^` takes one
+-- `^` has one operand
 abbrev pub on_one : (ℕ → Result ℕ Cause) → List ℕ → Result (List ℕ) Cause
 on_one sign [] = Err cause.Stack
 on_one sign (a ∷ stack) = pushed (sign a) stack
@@ -72,7 +72,7 @@ quotient_of a b = if b == 0 then Err cause.Divide else Ok (a / b)
 abbrev pub remainder_of : ℕ → ℕ → Result ℕ Cause
 remainder_of a b = if b == 0 then Err cause.Divide else Ok (a % b)
 
--- the greatest multiple of a power of two that is at most a
+-- the greatest multiple of b that is at most a; b must be a power of two
 abbrev pub multiple_of : ℕ → ℕ → Result ℕ Cause
 multiple_of a b = if is_power_of_two b then Ok (a - a % b) else Err cause.Align
 
@@ -91,7 +91,7 @@ with_token regs memory cfa Rem stack = on_two remainder_of stack
 with_token regs memory cfa Align stack = on_two multiple_of stack
 with_token regs memory cfa Fetch stack = on_one (word_value memory) stack
 
--- what is left at the end is one value
+-- exactly one value must be left at the end
 abbrev pub one_value : List ℕ → Outcome
 one_value [] = Failed cause.Stack
 one_value (v ∷ []) = Value v
@@ -101,12 +101,12 @@ abbrev pub or_failed : Result (List ℕ) Cause → (List ℕ → Outcome) → Ou
 or_failed (Err why) go = Failed why
 or_failed (Ok stack) go = go stack
 
--- the value of words over a stack
+-- the value of words, given the stack before them
 unfoldable pub postfix_from : Regs → List MemRun → Option Outcome → List Token → List ℕ → Outcome
 postfix_from regs memory cfa [] stack = one_value stack
 postfix_from regs memory cfa (token ∷ tokens) stack = or_failed (with_token regs memory cfa token stack) (postfix_from regs memory cfa tokens)
 
--- the value of a rule's words, where the CFA is given outside its own rule: `.undef` alone says that there is no value
+-- the value of a rule's words; `cfa` is given except inside the rule of `.cfa`. A rule of the single word `.undef` says that there is no value
 unfoldable pub rule_value : Regs → List MemRun → Option Outcome → List Token → Outcome
 rule_value regs memory cfa (Undef ∷ []) = Undefined
 rule_value regs memory cfa tokens = postfix_from regs memory cfa tokens []

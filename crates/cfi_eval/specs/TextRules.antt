@@ -9,23 +9,23 @@ use Rattle.sym_rules.specs.declared.rules.Target.TheVariants.{Cfa, Ra, Reg, Othe
 use Rattle.sym_rules.specs.declared.rules.Token.{Token}
 use Rattle.sym_rules.specs.declared.rules.RuleText.{RuleText}
 
--- the rules of the records of changes that stand directly after an INIT, up to an address
+-- the rules of those STACK CFI records directly after an INIT that have an address of at most x
 unfoldable pub changes_until : ℕ → List SymLine → List RuleText
 changes_until x [] = []
 changes_until x (Change address rules ∷ lines) = (if nat_le address x then rules else []) ++ changes_until x lines
 changes_until x (line ∷ lines) = []
 
--- the INIT covers the address
+-- whether an INIT covers the address x
 abbrev pub covers : ℕ → ℕ → ℕ → Bool
 covers x address size = nat_le address x && nat_lt x (address + size)
 
--- the rules of the first INIT that covers the address, and after them those of its changes up to there
+-- the rules of the first INIT that covers the address, followed by the rules of its changes up to that address
 unfoldable pub text_rules : List SymLine → ℕ → Option (List RuleText)
 text_rules [] x = None
 text_rules (Init address size rules ∷ lines) x = if covers x address size then Some (rules ++ changes_until x lines) else text_rules lines x
 text_rules (line ∷ lines) x = text_rules lines x
 
--- the same target
+-- whether two targets are the same
 abbrev pub same_target : Target → Target → Bool
 same_target Cfa Cfa = true
 same_target Ra Ra = true
@@ -33,7 +33,7 @@ same_target (Reg a) (Reg b) = a == b
 same_target (Other a) (Other b) = bytes_eq a b
 same_target _ _ = false
 
--- the words of the last rule of a target: a later rule counts before an earlier one
+-- the words of the last rule with a target: a later rule overrides an earlier one
 unfoldable pub rule_for : Target → List RuleText → Option (List Token)
 rule_for t [] = None
 rule_for t (rule ∷ rules) = option_or (rule_for t rules) (if same_target rule.target t then Some rule.tokens else None)

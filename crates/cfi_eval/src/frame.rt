@@ -48,7 +48,7 @@ fn ra_at<M: ByteMemory>(
     }
 }
 
-/// Whether a call keeps the register, beside rsp.
+/// Whether a call preserves the register; rsp is treated separately.
 #[tactic(auto, unfolding(sym_edges::specs::Abi::is_kept))]
 fn is_kept(register: u8) -> bool
     ensures { result ≡ is_kept register }
@@ -122,7 +122,7 @@ pub fn frame_of<M: ByteMemory>(
     })
 }
 
-/// What the text gives at an address that the INIT at an index covers, the first that does.
+/// What the text gives at an address, given the index of the first INIT that covers it.
 #[tactic(auto, unfolding(crate::specs::TextValue::text_frame))]
 pub fn frame_from<M: ByteMemory>(
     alloc: Global,
@@ -139,8 +139,8 @@ pub fn frame_from<M: ByteMemory>(
     frame_of(alloc, &rules, regs, memory)
 }
 
-/// What the text gives at an address (Breakpad's symbol_files.md, "STACK CFI"): the rules are those of the first INIT that covers it and of
-/// the changes directly behind that one, up to the address, a later rule before an earlier one. `None` where no INIT covers it.
+/// What the text gives at an address (Breakpad's symbol_files.md, "STACK CFI"). The rules are those of the first INIT that covers it and of the
+/// changes directly after that INIT, up to the address; a later rule overrides an earlier one. `None` if no INIT covers it.
 pub fn frame_at<M: ByteMemory>(
     alloc: Global,
     file: &SymFile,

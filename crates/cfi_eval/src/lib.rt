@@ -1,17 +1,17 @@
-//! What the rules of frame records evaluate to (Breakpad's symbol_files.md, "STACK CFI"): the caller's registers at an address, over given
-//! registers and memory.
+//! What the rules of frame records evaluate to (Breakpad's symbol_files.md, "STACK CFI"): the caller's registers at an address, given registers and
+//! memory.
 //!
-//! `eval` gives the value of a rule's words, by `Regs` and by a memory: `Memory` is one of runs of bytes, and others say by `ByteMemory` which
-//! byte they have at an address. `init_at` finds the record whose rules a symbol file has at an address, `RulesAt` is these rules as the
-//! changes behind it overwrite them, `frame_of` evaluates rules, and `frame_from` and `frame_at` do so at an address.
+//! `eval` gives the value of a rule's words, given `Regs` and a memory. `Memory` is a memory of runs of bytes; another type is a memory if it gives
+//! its byte at each address by `ByteMemory`. `init_at` finds the record whose rules a symbol file has at an address. `RulesAt` is these rules,
+//! overridden by the changes after that record. `frame_of` evaluates rules, and `frame_from` and `frame_at` evaluate those at an address.
 #![tactic(auto)]
 
-// What the values rest on.
+// What the values depend on.
 mod byte_memory;
 mod memory;
 mod registers;
 
-// What comes of a rule.
+// The result of a rule.
 mod outcome;
 
 // The value of a rule.

@@ -1,4 +1,4 @@
-//! What is known of memory.
+//! The known part of memory.
 ghost use Rattle.std.specs.Prelude.{◌≡◌, ◌<◌, ◌≤◌, ◌^◌, ◌++◌, true, length, IfOk, OnOk};
 ghost use Rattle.step_maps.specs.Covers.{AreStretches};
 ghost use Rattle.cfi_eval.specs.Bytes.{byte_at};
@@ -18,10 +18,10 @@ pub struct MemRun {
     pub bytes: ByteRun,
 }
 
-/// How the run that holds an address is found.
+/// How the run that contains an address is found.
 #[derive(Drop)]
 pub enum Finder {
-    /// By halves: the runs ascend and do not meet.
+    /// By binary search: the runs are ascending and disjoint.
     Rising,
     /// By a map of the runs.
     Map { map: StepMap<Option<FirstItem>> },
@@ -29,7 +29,7 @@ pub enum Finder {
     Scan,
 }
 
-/// What is known of memory: runs of bytes, of which the last that holds an address counts.
+/// The known part of memory: runs of bytes, of which the last that contains an address counts.
 #[derive(Drop)]
 pub struct Memory {
     runs: Vec<MemRun>,
@@ -48,7 +48,7 @@ impl Model for Memory {
     ghost invariant = { λ m. IsFinder m.runs.items m.finder };
 }
 
-/// Whether each run begins at or behind the end of the one before it.
+/// Whether each run begins at or after the end of the run before it.
 fn rise(runs: &[MemRun]) -> bool
     ensures { result ≡ rise_from 0 runs.now }
 {
@@ -62,7 +62,7 @@ fn rise(runs: &[MemRun]) -> bool
     true
 }
 
-/// The byte that a run has at an address.
+/// The byte at an address in a run.
 fn byte_in(run: &MemRun, a: u64) -> Option<u8>
     ensures { result ≡ byte_in a run.now }
 {
@@ -72,7 +72,7 @@ fn byte_in(run: &MemRun, a: u64) -> Option<u8>
     run.bytes.get((a - run.start) as usize).copied()
 }
 
-/// The byte at an address in the last run that holds it.
+/// The byte at an address, in the last run that contains it.
 fn last_byte(runs: &[MemRun], a: u64) -> Option<u8>
     ensures { result ≡ byte_at runs.now a }
 {
@@ -85,7 +85,7 @@ fn last_byte(runs: &[MemRun], a: u64) -> Option<u8>
     None
 }
 
-/// How many of the runs begin at or before an address, by halves.
+/// How many of the runs begin at or before an address, by binary search.
 fn count_to(runs: &[MemRun], a: u64) -> usize
     requires { rise_from 0 runs.now ≡ true }
     ensures within { result ≤ length runs.now }
@@ -94,7 +94,7 @@ fn count_to(runs: &[MemRun], a: u64) -> usize
     runs.partition_point(|run| run.start <= a)
 }
 
-/// The byte at an address, where runs ascend and do not meet.
+/// The byte at an address, if the runs are ascending and disjoint.
 #[tactic(auto, using(crate::proofs::MemoryLemmas::behind_none, crate::proofs::MemoryLemmas::behind_some))]
 fn byte_by_halves(runs: &[MemRun], a: u64) -> Option<u8>
     requires { rise_from 0 runs.now ≡ true }
@@ -107,7 +107,7 @@ fn byte_by_halves(runs: &[MemRun], a: u64) -> Option<u8>
     byte_in(&runs[behind - 1], a)
 }
 
-/// Adds the stretch of a run, where it is not empty, cut at the last address.
+/// Adds the stretch of a run, cut off after the greatest address, if the run is not empty.
 #[tactic(auto, using(step_maps::proofs::StretchLemmas::stretches_push))]
 fn push_run(stretches: &mut Vec<Stretch>, index: u32, run: &MemRun) -> Result<(), OutOfMemory>
     requires { AreStretches stretches.old.items }
@@ -127,7 +127,7 @@ fn push_run(stretches: &mut Vec<Stretch>, index: u32, run: &MemRun) -> Result<()
     Ok(())
 }
 
-/// The stretches of runs, those of the last run first.
+/// The stretches of runs, that of the last run first.
 fn stretches_of(alloc: Global, runs: &[MemRun]) -> Result<Vec<Stretch>, OutOfMemory>
     requires { length runs.now < 2 ^ 32 }
     ensures same { IfOk result (λ stretches. stretches.items ≡ stretches_to (length runs.now) runs.now) }
@@ -140,7 +140,7 @@ fn stretches_of(alloc: Global, runs: &[MemRun]) -> Result<Vec<Stretch>, OutOfMem
     Ok(stretches)
 }
 
-/// How the runs are found: in n log n turns for n runs however they overlap.
+/// How the runs are found: in n log n steps for n runs, however they overlap.
 fn finder_of(alloc: Global, runs: &[MemRun]) -> Result<Finder, OutOfMemory>
     ensures { IfOk result (λ finder. IsFinder runs.now finder) }
 {
@@ -166,7 +166,7 @@ fn byte_by_map(runs: &[MemRun], map: &StepMap<Option<FirstItem>>, a: u64) -> Opt
     }
 }
 
-/// The byte that the run at a place has at an address.
+/// The byte at an address in the run with an index.
 fn byte_of(runs: &[MemRun], place: usize, a: u64) -> Option<u8>
     ensures { result ≡ byte_of a runs.now place }
 {
@@ -177,7 +177,7 @@ fn byte_of(runs: &[MemRun], place: usize, a: u64) -> Option<u8>
 }
 
 impl Memory {
-    /// The memory that runs give, of which the last that holds an address counts.
+    /// A memory made of runs, of which the last that contains an address counts.
     pub fn of(alloc: Global, runs: Vec<MemRun>) -> Result<Memory, OutOfMemory>
         ensures { IfOk result (λ memory. memory ≡ runs.items) }
     {

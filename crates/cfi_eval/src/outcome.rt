@@ -1,21 +1,21 @@
-//! What comes of a rule: a value, none, or the cause for which there is none.
+//! The result of a rule: a value, no value, or the cause of a failure.
 
 /// Why a rule has no value.
 #[derive(Clone, Copy, Debug, PartialEq, Eq)]
 pub enum Cause {
-    /// The register of that DWARF number has no value; 16 is rip.
+    /// The register with this DWARF number has no value; 16 is rip.
     Missing(u8),
-    /// The word that `^` fetches there: not all of its eight bytes are known.
+    /// Not all eight bytes of the word at this address, which `^` fetches, are known.
     Unreadable(u64),
     /// `/` or `%` by 0.
     Divide,
-    /// `@` to a multiple of a number that is no power of two.
+    /// `@` with a second operand that is not a power of two.
     Align,
-    /// A sign has too few values, or another number of values than one is left at the end.
+    /// An operator has too few operands, or the number of values left at the end is not one.
     Stack,
     /// A name that is none of the sixteen registers, `$rip` and `.cfa`; or `.cfa` inside its own rule.
     UnknownName,
-    /// `.cfa` where the CFA is undefined.
+    /// `.cfa` if the CFA is undefined.
     NoCfa,
 }
 
@@ -23,7 +23,7 @@ pub enum Cause {
 #[derive(Clone, Copy, Debug, PartialEq, Eq)]
 pub enum Outcome {
     Value(u64),
-    /// The caller's value is not there.
+    /// The caller's value is not available.
     Undefined,
     Failed(Cause),
 }

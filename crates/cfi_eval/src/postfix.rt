@@ -1,4 +1,4 @@
-//! The values of rules: postfix expressions over a stack.
+//! The values of rules: postfix expressions, evaluated with a stack.
 ghost use Rattle.std.specs.Prelude.{◌≡◌, ◌∷◌, reverse, Ok, Err, MatchResult, IfOk};
 ghost use Rattle.cfi_eval.specs.Postfix.{register_value, name_value, cfa_value, word_value, quotient_of, remainder_of, multiple_of, with_token, one_value, rule_value};
 ghost use Rattle.cfi_eval.specs.internal.Stacks.{HasNoTwo, HasNone, is_undefined};
@@ -35,7 +35,7 @@ fn name_value(regs: &Regs, name: &[u8]) -> Result<u64, Cause>
     }
 }
 
-/// The value of `.cfa`: there is none inside its own rule.
+/// The value of `.cfa`; it has no value inside its own rule.
 fn cfa_value(cfa: Option<Outcome>) -> Result<u64, Cause>
     ensures { result ≡ cfa_value cfa }
 {
@@ -47,7 +47,7 @@ fn cfa_value(cfa: Option<Outcome>) -> Result<u64, Cause>
     }
 }
 
-/// The word that memory has at an address.
+/// The word in memory at an address.
 #[tactic(auto, unfolding(crate::specs::Postfix::word_value))]
 fn word_value<M: ByteMemory>(memory: &M, a: u64) -> Result<u64, Cause>
     ensures { result ≡ word_value (M.runs memory.now) a }
@@ -76,7 +76,7 @@ fn remainder(a: u64, b: u64) -> Result<u64, Cause>
     Ok(a % b)
 }
 
-/// The greatest multiple of a power of two that is at most `a`.
+/// The greatest multiple of `b` that is at most `a`; `b` must be a power of two.
 fn multiple(a: u64, b: u64) -> Result<u64, Cause>
     ensures { result ≡ multiple_of a b }
 {
@@ -86,7 +86,7 @@ fn multiple(a: u64, b: u64) -> Result<u64, Cause>
     Ok(a - a % b)
 }
 
-/// The value on top of the stack is taken.
+/// Pops the value on top of the stack.
 fn pop_one(stack: &mut Vec<u64>) -> Result<u64, Cause>
     ensures { MatchResult result
         (λ a. reverse stack.old.items ≡ a ∷ reverse stack.new.items)
@@ -98,7 +98,7 @@ fn pop_one(stack: &mut Vec<u64>) -> Result<u64, Cause>
     }
 }
 
-/// The two values on top of the stack are taken, and given in the order in which they were pushed.
+/// Pops the two values on top of the stack, and gives them in the order in which they were pushed.
 #[tactic(auto, using(crate::proofs::StackLemmas::none_no_two, crate::proofs::StackLemmas::one_no_two))]
 fn pop_two(stack: &mut Vec<u64>) -> Result<(u64, u64), Cause>
     ensures { MatchResult result
@@ -110,7 +110,7 @@ fn pop_two(stack: &mut Vec<u64>) -> Result<(u64, u64), Cause>
     Ok((a, b))
 }
 
-/// The value that a word leaves on the stack, once those that it takes are taken from it.
+/// Pops the operands of a word, and gives the value that the word pushes.
 #[tactic(auto, unfolding(crate::specs::Postfix::with_token))]
 fn token_value<M: ByteMemory>(
     token: &Token,
@@ -160,7 +160,7 @@ fn token_value<M: ByteMemory>(
     }
 }
 
-/// What is left at the end is one value.
+/// Exactly one value must be left at the end.
 fn one_value(stack: &[u64]) -> Outcome
     ensures { result ≡ one_value (reverse stack.now) }
 {
@@ -180,8 +180,8 @@ fn is_undefined(tokens: &[Token]) -> bool
     }
 }
 
-/// The value of a rule's words (Breakpad's symbol_files.md, "STACK CFI"). `cfa` is what the rule of `.cfa` gave, and `None` inside that
-/// rule. A register of a number above 15 has no value. Memory is taken for the stack of values alone.
+/// The value of a rule's words (Breakpad's symbol_files.md, "STACK CFI"). `cfa` is what the rule of `.cfa` gave, and `None` inside that rule. A
+/// register with a number above 15 has no value. Memory is allocated only for the stack of values.
 #[tactic(auto, unfolding(crate::specs::Postfix::rule_value))]
 pub fn eval<M: ByteMemory>(
     alloc: Global,

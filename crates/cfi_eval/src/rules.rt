@@ -36,10 +36,10 @@ pub fn init_at(file: &SymFile, address: u64) -> Option<usize>
         .position(|line| is_init_at(line, address))
 }
 
-/// How many targets a frame has.
+/// How many targets there are in a frame.
 const TARGETS: usize = 18;
 
-/// The place of a target among those that a frame has: the registers by their numbers, then the CFA and the return address.
+/// The place of a target among those in a frame: the registers by their numbers, then the CFA and the return address.
 fn place_of(target: &Target) -> Option<usize>
     ensures place { result ≡ target_place target.now }
     ensures within { IfSome result (λ place. place < 18) }
@@ -52,7 +52,7 @@ fn place_of(target: &Target) -> Option<usize>
     }
 }
 
-/// A rule counts before the earlier ones of its target.
+/// A rule overrides the earlier rules with its target.
 fn put_rule<'r>(table: &mut [Option<&'r Tokens>; TARGETS], rule: &'r RuleText)
     ensures { (find : Target → Option (List Token)) → IsTable find table.old → IsTable (λ t. option_or (rule_in t rule.now) (find t)) table.new }
 {
@@ -62,7 +62,7 @@ fn put_rule<'r>(table: &mut [Option<&'r Tokens>; TARGETS], rule: &'r RuleText)
     table[place] = Some(&rule.tokens);
 }
 
-/// The same of the rules of a record.
+/// Each rule of a record overrides the earlier rules with its target.
 fn put_rules<'r>(table: &mut [Option<&'r Tokens>; TARGETS], rules: &'r [RuleText])
     ensures { (find : Target → Option (List Token)) → IsTable find table.old → IsTable (λ t. option_or (rule_for t rules.now) (find t)) table.new }
 {
@@ -71,8 +71,8 @@ fn put_rules<'r>(table: &mut [Option<&'r Tokens>; TARGETS], rules: &'r [RuleText
     }
 }
 
-/// The words of the last rule of each target of a frame, in one pass over `first` and the records of changes that stand at the front of
-/// `behind`, up to an address.
+/// The words of the last rule for each target in a frame, found in one pass over `first` and the STACK CFI records at the start of `behind`, up to an
+/// address.
 fn table_at<'r>(
     first: &'r [RuleText],
     behind: &'r [SymLine],
@@ -97,14 +97,14 @@ fn table_at<'r>(
     table
 }
 
-/// The rules that count at an address: those of an INIT, then those of the changes that stand directly behind it, up to there, a later rule
-/// before an earlier one. Contracts see the list of them.
+/// The rules that apply at an address: those of an INIT, then those of the changes directly after it, up to that address; a later rule overrides an
+/// earlier one. Contracts see the list of all these rules.
 #[derive(Drop)]
 pub struct RulesAt<'r> {
     first: &'r [RuleText],
     behind: &'r [SymLine],
     address: u64,
-    /// The words of the last rule of each target of a frame.
+    /// The words of the last rule for each target in a frame.
     table: [Option<&'r Tokens>; TARGETS],
 }
 
@@ -122,7 +122,7 @@ impl<'r> Model for RulesAt<'r> {
 }
 
 impl<'r> RulesAt<'r> {
-    /// The rules at an address, by the index of the first INIT that covers it.
+    /// The rules at an address, given the index of the first INIT that covers it.
     pub fn of(lines: &'r [SymLine], init: usize, address: u64) -> RulesAt<'r>
         requires within { init < length lines.now }
         requires first { init_place lines.now address ≡ Some init }
@@ -142,7 +142,7 @@ impl<'r> RulesAt<'r> {
         }
     }
 
-    /// Rules that count wherever they are asked for.
+    /// Rules that apply at every address.
     pub fn plain(rules: &'r [RuleText]) -> RulesAt<'r>
         ensures { result ≡ rules.now }
     {
@@ -162,7 +162,7 @@ impl<'r> RulesAt<'r> {
         self.tokens(&Target::Ra)
     }
 
-    /// The words of the last rule of a target that a frame has.
+    /// The words of the last rule for a target in a frame.
     pub(crate) fn tokens(&self, target: &Target) -> Option<&'r Tokens>
         requires { is_some (target_place target.now) ≡ true }
         ensures { option_copied result ≡ rule_for target.now self.now }

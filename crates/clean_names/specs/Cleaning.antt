@@ -2,24 +2,24 @@
 use Rattle.std.specs.Prelude.{◌≡◌, ℕ, ◌==◌, ◌||◌, nat_lt, if◌then◌else◌, List, [], ◌∷◌, map, take, codes}
 use Rattle.clean_names.specs.Names.{is_space, skip}
 
--- control bytes, below 0x20 and 0x7f, become `?`
+-- control bytes (below 0x20, or 0x7f) become `?`
 abbrev pub shown_byte : ℕ → ℕ
 shown_byte b = if nat_lt b 32 || b == 127 then 63 else b
 
--- an empty name is said to be left out
+-- an empty name becomes `<name omitted>`
 abbrev pub or_omitted : List ℕ → List ℕ
 or_omitted [] = codes "<name omitted>"
 or_omitted (b ∷ bytes) = b ∷ bytes
 
--- shown bytes, without the spaces in front, cut after so many
+-- control bytes become `?`, leading spaces are dropped, and the name is cut off after `limit` bytes
 unfoldable pub cleaned_upto : ℕ → List ℕ → List ℕ
 cleaned_upto limit bytes = or_omitted (take limit (skip is_space (map shown_byte bytes)))
 
--- a cleaned name has at most 65,536 bytes
+-- the cleaned name, which has at most 65,536 bytes
 unfoldable pub cleaned : List ℕ → List ℕ
 cleaned bytes = cleaned_upto 65536 bytes
 
--- cleaning does not change the texts
+-- cleaning changes none of the texts
 abbrev pub AreClean : List (List ℕ) → Type 0
 AreClean [] = Prim.Unit {0}
 AreClean (text ∷ texts) = (cleaned text ≡ text) × AreClean texts

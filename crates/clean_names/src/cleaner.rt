@@ -8,10 +8,10 @@ ghost use Rattle.clean_names.specs.Cleaning.{shown_byte, cleaned, cleaned_upto};
 use std::alloc::{AllocError, Global};
 use sym_edges::{ByteRun, OutOfMemory};
 
-/// How many bytes a name has at most.
+/// The greatest length of a cleaned name, in bytes.
 pub const NAME_LIMIT: usize = 65_536;
 
-/// What stands for a name that is empty or not known.
+/// The text that replaces a name that is empty or not known.
 #[inline]
 pub fn name_omitted() -> &'static [u8]
     ensures { result.now ≡ codes "<name omitted>" }
@@ -19,7 +19,7 @@ pub fn name_omitted() -> &'static [u8]
     b"<name omitted>"
 }
 
-/// The bytes without the spaces in front. Takes no memory.
+/// The bytes without the leading spaces. Allocates no memory.
 #[tactic(auto, using(crate::proofs::SkipLemmas::skip_stop, crate::proofs::SkipLemmas::skip_more, crate::proofs::SkipLemmas::skip_end))]
 pub fn unspaced(bytes: &[u8]) -> &[u8]
     ensures { result.now ≡ skip is_space bytes.now }
@@ -40,7 +40,7 @@ pub fn shown_byte(b: u8) -> u8
     if b < 0x20 || b == 0x7f { b'?' } else { b }
 }
 
-/// Whether there is no control byte. All bytes are looked at, since a loop without a way out takes many at once.
+/// Whether there is no control byte. The loop never ends early, so that it can test many bytes at once.
 fn are_shown(bytes: &[u8]) -> bool
     ensures { result ≡ list_all (λ b. shown_byte b == b) bytes.now }
 {
@@ -63,7 +63,7 @@ fn shown(alloc: Global, bytes: &[u8]) -> Result<Vec<u8>, AllocError>
     Ok(name)
 }
 
-/// Whether cleaning leaves a name as it is.
+/// Whether cleaning does not change a name.
 #[tactic(auto, using(crate::proofs::CleanLemmas::is_left, crate::proofs::CleanLemmas::none_changes, crate::proofs::CleanLemmas::long_changes, crate::proofs::CleanLemmas::spaced_changes))]
 pub fn is_clean(bytes: &[u8]) -> bool
     ensures { result ≡ bytes_eq (cleaned bytes.now) bytes.now }
@@ -95,7 +95,7 @@ fn add_shown(text: &mut Vec<u8>, bytes: &[u8]) -> Result<(), OutOfMemory>
     Ok(())
 }
 
-/// Adds the name that `clean` makes of the bytes. Takes no memory beside the text's.
+/// Adds the name that `clean` makes of the bytes. Allocates memory only for the text.
 #[tactic(auto, using(crate::proofs::CleaningLemmas::cleaned_none, crate::proofs::CleaningLemmas::cleaned_some), unfolding(crate::specs::Cleaning::cleaned))]
 pub fn add_cleaned(text: &mut Vec<u8>, bytes: &[u8]) -> Result<(), OutOfMemory>
     ensures { OnOk result (text.new.items ≡ text.old.items ++ cleaned bytes.now) }
@@ -121,8 +121,8 @@ fn clean_upto(alloc: Global, limit: usize, bytes: &[u8]) -> Result<ByteRun, OutO
     Ok(ByteRun::of(shown(alloc, front)?))
 }
 
-/// A name for a record, of any bytes: control bytes become `?`, leading spaces go, the rest is cut after 65,536 bytes, and
-/// an empty name becomes `<name omitted>`.
+/// A name for a record, made of any bytes: control bytes become `?`, leading spaces are dropped, the rest is cut off after 65,536 bytes, and an empty
+/// name becomes `<name omitted>`.
 #[tactic(auto, using(crate::proofs::CleaningLemmas::cleaned_named, crate::proofs::CleaningLemmas::cleaned_short), unfolding(crate::specs::Cleaning::cleaned))]
 pub fn clean(alloc: Global, bytes: &[u8]) -> Result<ByteRun, OutOfMemory>
     ensures cleaned { IfOk result (λ t. t ≡ cleaned bytes.now) }

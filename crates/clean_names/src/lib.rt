@@ -1,9 +1,8 @@
-//! Names of any bytes, cleaned for a text of lines.
+//! Names made of any bytes, cleaned for a text of lines.
 //!
-//! A name ends a line (Breakpad's symbol_files.md), so it is not empty, begins with no space and has no bytes that end lines. `clean`
-//! makes a name of any bytes, as a list of its own, and `add_cleaned` adds the same name at the end of a text; `is_clean` tells
-//! a name that is left as it is. `unspaced` and `shown_byte`
-//! are the steps of that, for names that are made piece by piece.
+//! A name ends a line (Breakpad's symbol_files.md), so it is not empty, does not begin with a space, and has no bytes that end lines. `clean` makes a
+//! name of any bytes, as a separate list; `add_cleaned` adds this name to a text. `is_clean` tests whether cleaning does not change a name.
+//! `unspaced` and `shown_byte` are the steps of cleaning, for names that are made piece by piece.
 #![tactic(auto)]
 
 mod cleaner;

@@ -1,4 +1,4 @@
--- A DWARF expression as the words of a rule (Breakpad's symbol_files.md, "STACK CFI"), step by step.
+-- The words of a rule that express a DWARF expression (Breakpad's symbol_files.md, "STACK CFI"), step by step.
 use Rattle.std.specs.Prelude.{ℕ, ◌%◌, ◌^◌, ◌==◌, Bool, if◌then◌else◌, List, [], ◌∷◌, ◌++◌, codes, Option, None, Some}
 use Rattle.std.specs.Int.{w64, cast_signed}
 use Rattle.std.specs.List.{flat_map}
@@ -14,11 +14,11 @@ use Rattle.expr_steps.specs.declared.standing.Standing.TheVariants.{Free, OverCf
 use Rattle.expr_steps.specs.Steps.{steps}
 use Rattle.expr_steps.specs.Standing.{standing_of}
 
--- a number below 2^64 as an integer of 64 bits, which is how rules write it
+-- a number below 2^64 as a signed integer of 64 bits, as rules write it
 abbrev pub number : ℕ → Token
 number n = token.Number (cast_signed w64 (n % 2 ^ 64))
 
--- a register by its DWARF number; 16 is rip, which has no number in rules
+-- a register by its DWARF number; 16 is rip, which rules name and do not number
 abbrev pub register_token : ℕ → Token
 register_token register = if register == 16 then token.Other (codes "$rip") else token.Reg register
 
@@ -35,21 +35,21 @@ step_tokens (Remainder size) = number size ∷ token.Rem ∷ []
 step_tokens (Product factor) = number factor ∷ token.Mul ∷ []
 step_tokens (Reaches lift size) = number lift ∷ token.Add ∷ number size ∷ token.Div ∷ []
 
--- and of all of them
+-- the words of all steps
 unfoldable pub steps_tokens : List Step → List Token
 steps_tokens given = flat_map step_tokens given
 
--- where an expression stands over the CFA, that is its first word
+-- the words of an expression, given its steps; if it needs the CFA below its own values, its first word is `.cfa`
 abbrev pub tokens_by : List Step → Option Standing → Option (List Token)
 tokens_by given None = None
 tokens_by given (Some Free) = Some (steps_tokens given)
 tokens_by given (Some OverCfa) = Some (token.Cfa ∷ steps_tokens given)
 
--- the words of an expression, and none where rule text cannot say it; `start` says that the CFA may be on the stack
+-- the words of an expression, or none if rule text cannot express it; `start` says that the CFA may be on the stack
 unfoldable pub expr_tokens : Bool → List ℕ → Option (List Token)
 expr_tokens start bytes = option_and_then (λ given. tokens_by given (standing_of start given)) (steps bytes)
 
--- the words of a rule that is the expression's value, or the word in memory that it is the address of
+-- the words of a rule whose value is that of the expression or, if `fetch`, the word in memory at that address
 abbrev pub with_fetch : Bool → Option (List Token) → Option (List Token)
 with_fetch fetch None = None
 with_fetch fetch (Some given) = Some (if fetch then given ++ token.Fetch ∷ [] else given)
@@ -57,7 +57,7 @@ with_fetch fetch (Some given) = Some (if fetch then given ++ token.Fetch ∷ [] 
 unfoldable pub rule_tokens : Bool → Bool → List ℕ → Option (List Token)
 rule_tokens start fetch bytes = with_fetch fetch (expr_tokens start bytes)
 
--- a word of an expression has no name of its own but rip's
+-- a token that an expression may have: one that a word can spell, and no `Other` name except that of rip
 abbrev pub is_expr_word : Token → Bool
 is_expr_word (token.Other name) = bytes_eq name (codes "$rip")
 is_expr_word word = is_plain_token word

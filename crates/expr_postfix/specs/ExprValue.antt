@@ -1,7 +1,8 @@
--- The value of a DWARF expression (DWARF 5, 2.5.1): its operations go from left to right over a stack of numbers below 2^64, the last one
--- first; the first failure counts, and the value is the last number at the end. Before the expression of a register's rule the standard
--- pushes the CFA (6.4.2.3), always; before that of the CFA's own rule nothing (6.4.2.2). An expression that never takes a number from below its
--- own has the same value with the CFA and without it; here it begins without it, so that it has a value where the CFA has none.
+-- The value of a DWARF expression (DWARF 5, 2.5.1). Its operations are executed from left to right with a stack of numbers below 2^64, whose first
+-- member is its top. The first operation that fails decides the failure, and the value is the number on top at the end. The standard always pushes
+-- the CFA before the expression of a register's rule (6.4.2.3), and nothing before the expression of the CFA's own rule (6.4.2.2). An expression that
+-- never pops a number from below its own has the same value with the CFA and without it. Here the stack of such an expression begins empty, so that
+-- it has a value even if the CFA has none.
 use Rattle.std.specs.Prelude.{ℕ, ◌+◌, ◌-◌, ◌*◌, ◌%◌, ◌^◌, ◌==◌, bit_and, Bool, if◌then◌else◌, List, [], ◌∷◌, Option, None, Some, Result, Ok, Err, ℤ, int_lt}
 use Rattle.std.specs.Int.{w64, cast_signed, cast_unsigned}
 use Rattle.std.specs.List.{slice_index_or}
@@ -19,16 +20,16 @@ use Rattle.expr_steps.specs.declared.standing.Standing.TheVariants.{Free, OverCf
 use Rattle.expr_steps.specs.Operations.{operations}
 use Rattle.expr_steps.specs.Standing.{standing}
 
--- what a register holds now, by its DWARF number; 16 is rip
+-- the present value of a register, given its DWARF number; 16 is rip
 abbrev pub held : Regs → ℕ → Option ℕ
 held regs register = if register == 16 then regs.rip else slice_index_or regs.values register None
 
--- the address of a register with an offset
+-- the value of a register plus an offset
 abbrev pub offset_from : ℕ → ℤ → Option ℕ → Result ℕ Cause
 offset_from register offset None = Err (Missing register)
 offset_from register offset (Some v) = Ok ((v + cast_unsigned w64 offset) % 2 ^ 64)
 
--- the word at an address
+-- the word in memory at an address
 abbrev pub fetched : ℕ → Option ℕ → Result ℕ Cause
 fetched a None = Err (Unreadable a)
 fetched a (Some word) = Ok word
@@ -37,7 +38,7 @@ fetched a (Some word) = Ok word
 abbrev pub is_at_least : ℤ → ℤ → ℕ
 is_at_least a b = if int_lt a b then 0 else 1
 
--- a number is pushed, and an operation takes the top number, or the two on top, of which the upper is its second operand
+-- `onto` pushes a number. An operation pops the top number, or the two on top, of which the upper is its second operand
 abbrev pub onto : List ℕ → Result ℕ Cause → Result (List ℕ) Cause
 onto stack (Ok v) = Ok (v ∷ stack)
 onto stack (Err why) = Err why
@@ -72,12 +73,12 @@ abbrev pub go_on : Result (List ℕ) Cause → (List ℕ → Outcome) → Outcom
 go_on (Ok stack) next = next stack
 go_on (Err why) next = Failed why
 
--- the value of operations over a stack
+-- the value of operations, given the stack before them
 unfoldable pub value_over : Regs → List MemRun → List Operation → List ℕ → Outcome
 value_over regs memory [] stack = top_value stack
 value_over regs memory (operation ∷ later) stack = go_on (with_operation regs memory operation stack) (value_over regs memory later)
 
--- with what the stack begins: with the CFA, where the expression takes numbers from below its own
+-- the stack before the first operation: the CFA, if the expression pops numbers below its own; otherwise it is empty
 abbrev pub beginning : Outcome → Option Standing → Result (List ℕ) Cause
 beginning cfa None = Ok []
 beginning cfa (Some Free) = Ok []
@@ -89,11 +90,11 @@ abbrev pub value_by : Regs → List MemRun → Result (List ℕ) Cause → Optio
 value_by regs memory begin None = Failed Stack
 value_by regs memory begin (Some given) = go_on begin (value_over regs memory given)
 
--- the value of an expression, over registers and memory and, where `start` says that it may be on the stack, the CFA
+-- the value of an expression, given registers, memory and the CFA; `start` says that the CFA may be on the stack
 unfoldable pub expr_value : Regs → List MemRun → Outcome → Bool → List ℕ → Outcome
 expr_value regs memory cfa start bytes = value_by regs memory (beginning cfa (standing start bytes)) (operations bytes)
 
--- the word at an address that an outcome gives; a failure stays one
+-- the word at the address that is an outcome's value; a failure remains a failure
 abbrev pub word_there : ℕ → Option ℕ → Outcome
 word_there a None = Failed (Unreadable a)
 word_there a (Some word) = Value word

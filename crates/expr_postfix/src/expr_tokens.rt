@@ -17,7 +17,7 @@ use std::alloc::Global;
 use sym_edges::{ByteRun, OutOfMemory, Reason, Stop};
 use sym_rules::{RuleName, Token, Tokens};
 
-/// A number as an integer of 64 bits.
+/// A number as a signed integer of 64 bits.
 #[tactic(auto, using(crate::proofs::TokenLemmas::small_number))]
 fn number(value: u64) -> Token
     ensures { result ≡ number value }
@@ -59,7 +59,7 @@ fn add_register(
     Ok(())
 }
 
-/// Adds a number and a sign.
+/// Adds a number and an operator.
 fn add_number(words: &mut Vec<Token>, value: u64, sign: Token) -> Result<(), OutOfMemory>
     ensures { OnOk result (words.new.items ≡ words.old.items ++ number value ∷ sign ∷ []) }
 {
@@ -118,7 +118,7 @@ fn add_steps(alloc: Global, words: &mut Vec<Token>, expr: &[u8]) -> Result<(), O
     }
 }
 
-/// The words with which an expression begins, by how it stands.
+/// The words before those of the steps.
 fn first_words(alloc: Global, standing: Standing) -> Result<Vec<Token>, OutOfMemory>
     ensures { IfOk result (λ words. words.items ≡ first_tokens standing) }
 {
@@ -146,8 +146,9 @@ fn words_of(alloc: Global, expr: &[u8], start: bool) -> Result<Vec<Token>, Stop<
     Ok(words)
 }
 
-/// The words of an expression, at most 1,024, where rule text can say it; `Expression` exactly where it cannot. `start` says that the CFA may
-/// be on the stack: it is for `DW_CFA_expression` and `DW_CFA_val_expression`, and not for `DW_CFA_def_cfa_expression`. Takes no memory but the words.
+/// The words of an expression, at most 1,024, if rule text can express it; the fault `Expression` exactly if they cannot. `start` says that the CFA
+/// may be on the stack: it may for `DW_CFA_expression` and `DW_CFA_val_expression`, and not for `DW_CFA_def_cfa_expression`. Allocates memory only
+/// for the words.
 #[tactic(auto, using(crate::proofs::WholeLemmas::value_with_cfa, crate::proofs::FitLemmas::words_few))]
 pub fn tokens(alloc: Global, expr: &[u8], start: bool) -> Result<Tokens, Stop<Reason>>
     ensures exact { MatchStop result
@@ -164,7 +165,7 @@ pub fn tokens(alloc: Global, expr: &[u8], start: bool) -> Result<Tokens, Stop<Re
     }
 }
 
-/// The words of a rule by an expression: those of `tokens`, and `^` behind them where it fetches the word at the expression's value.
+/// The words of a rule, given an expression: those of `tokens`, followed by `^` if the rule fetches the word at the expression's value.
 #[tactic(auto, unfolding(crate::specs::ExprTokens::rule_tokens))]
 pub fn rule_tokens(
     alloc: Global,

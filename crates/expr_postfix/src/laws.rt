@@ -1,4 +1,4 @@
-//! Laws of the definitions, for readers and for proofs above. Each function does nothing: its contract is the law.
+//! Laws of the definitions, for readers and for proofs in crates that use this one. Each function does nothing: its contract is the law.
 ghost use Rattle.std.specs.Prelude.{◌≡◌, ℕ, ◌<◌, ◌≤◌, Bool, true, false, List, length, Option, Some};
 ghost use Rattle.std.specs.List.{list_all};
 ghost use Rattle.sym_rules.specs.declared.rules.Token.{Token};
@@ -9,9 +9,9 @@ ghost use Rattle.cfi_eval.specs.Postfix.{rule_value};
 ghost use Rattle.expr_postfix.specs.ExprTokens.{expr_tokens, rule_tokens, is_expr_word};
 ghost use Rattle.expr_postfix.specs.ExprValue.{expr_value, word_of};
 
-/// Evaluating the words of an expression gives its value, or its failure with the same cause, for all registers, rip, memory and CFA
-/// (`value`); with `^` behind them the word in memory that it is the address of (`fetched`). Where no CFA may be on the stack, as in the rule of
-/// the CFA itself, it does not matter what `.cfa` stands for (`free`).
+/// Evaluating the words of an expression gives its value, or its failure with the same cause, for all registers, rip, memory and CFA (`value`). With
+/// `^` after them, the words give the word in memory at that value (`fetched`). If the CFA may not be on the stack, as in the rule of the CFA itself,
+/// the value of `.cfa` does not matter (`free`).
 #[tactic(auto, using(crate::proofs::WholeLemmas::value_with_cfa, crate::proofs::WholeLemmas::value_in_memory, crate::proofs::WholeLemmas::value_free))]
 pub fn words_have_the_value()
     ensures value { (start : Bool) (bytes : List ℕ) (words : List Token) (regs : Regs) (memory : List MemRun) (cfa : Outcome) →
@@ -22,8 +22,8 @@ pub fn words_have_the_value()
         expr_tokens false bytes ≡ Some words → rule_value regs memory given words ≡ expr_value regs memory cfa false bytes }
 {}
 
-/// The words of an expression are one at least and 1,024 at most, and none of them has a name of its own but rip's; so each of them is short, and a
-/// rule can carry them.
+/// An expression has at least one word and at most 1,024 words, and no `Other` name except that of rip. So each word is short, and a rule can carry
+/// them.
 #[tactic(auto, using(crate::proofs::FitLemmas::words_some, crate::proofs::FitLemmas::words_few, crate::proofs::FitLemmas::words_plain))]
 pub fn words_fit_rules()
     ensures some { (start : Bool) (bytes : List ℕ) (words : List Token) → expr_tokens start bytes ≡ Some words → 0 < length words }

@@ -3,7 +3,7 @@ use Rattle.std.specs.Prelude.{ℕ, List, codes}
 use Rattle.state_file.specs.declared.fault.StateKind.{StateKind}
 use Rattle.state_file.specs.declared.fault.StateKind.TheVariants as fault
 
--- the word of a kind
+-- the word for each kind of fault
 abbrev pub state_word : StateKind → List ℕ
 state_word fault.Keyword = codes "keyword"
 state_word fault.Fields = codes "fields"

@@ -1,17 +1,17 @@
 //! What may be wrong with a state file.
 
-/// What is wrong with a line of a state file, in the order in which it is looked for.
+/// What is wrong with a line of a state file, in the order in which faults are looked for.
 #[derive(Clone, Copy, Debug, PartialEq, Eq)]
 pub enum StateKind {
     /// The first word is neither `REG` nor `MEM`.
     Keyword,
-    /// There are not two fields after it.
+    /// The number of fields after the first word is not two.
     Fields,
     /// No register has the name.
     Register,
-    /// A field is no hexadecimal number, or no run of bytes.
+    /// A field is not a hexadecimal number, or not a run of bytes.
     Hex,
-    /// The last byte of a run lies above 2^64 - 1.
+    /// The address of a run's last byte is above 2^64 - 1.
     Wraps,
 }
 

@@ -1,13 +1,13 @@
-//! State files: the registers and the memory that rules of frame records are evaluated over.
+//! State files: the registers and the memory with which rules of frame records are evaluated.
 //!
-//! A state file is a text of lines: `REG name hex` gives a register a value, `MEM hex bytes` says what bytes memory has from an address on.
-//! A later line counts before an earlier one. `read_state` gives the state, or the first fault with its line.
+//! A state file is a text of lines: `REG name hex` gives the value of a register, `MEM hex bytes` the bytes of memory from an address on. A later
+//! line overrides an earlier one. `read_state` gives the state, or the first fault with its line.
 #![tactic(auto)]
 
 // What may be wrong with the text.
 mod fault;
 
-// Where it is cut, and what its words say.
+// How it is cut, and what its words say.
 mod cuts;
 mod line;
 mod numbers;

@@ -17,7 +17,7 @@ use sym_rules::is_blank;
 #[derive(Debug, Drop)]
 pub(crate) enum StateLine {
     Blank,
-    /// The value of one of the sixteen registers by its number, or of rip.
+    /// The value of one of the sixteen registers, given its number, or of rip.
     Register { register: Option<u8>, value: u64 },
     /// Bytes of memory.
     Run(MemRun),
@@ -55,7 +55,7 @@ fn memory_line(alloc: Global, word: &[u8], digits: &[u8]) -> Result<StateLine, S
     Ok(StateLine::Run(MemRun { start, bytes }))
 }
 
-/// A line by its first word and what stands behind it.
+/// A line, given its first word and the bytes after it.
 #[tactic(auto, unfolding(crate::specs::StateText::worded_line))]
 fn worded_line(alloc: Global, key: &[u8], fields: &[u8]) -> Result<StateLine, Stop<StateKind>>
     ensures line { Gives result (worded_line key.now (words fields.now)) }
@@ -80,7 +80,7 @@ fn worded_line(alloc: Global, key: &[u8], fields: &[u8]) -> Result<StateLine, St
     }
 }
 
-/// What a line says, or the first thing that is wrong with it.
+/// What a line says, or its first fault.
 #[tactic(auto, unfolding(crate::specs::StateText::line_read))]
 pub(crate) fn read_line(alloc: Global, line: &[u8]) -> Result<StateLine, Stop<StateKind>>
     ensures line { Gives result (line_read line.now) }

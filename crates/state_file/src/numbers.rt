@@ -1,4 +1,4 @@
-//! Numbers and bytes by their hexadecimal digits.
+//! Numbers and bytes, given their hexadecimal digits.
 ghost use Rattle.std.specs.Prelude.{◌≡◌, ok_or};
 ghost use Rattle.sym_records.specs.FieldReading.{hex_value};
 ghost use Rattle.state_file.specs.StateText.{bytes_of};
@@ -10,7 +10,7 @@ use std::alloc::Global;
 use sym_edges::{ByteRun, Stop};
 use sym_records::hex_digit;
 
-/// The number that at most 16 hexadecimal digits write.
+/// The number with these hexadecimal digits, at most 16.
 #[tactic(auto, using(crate::proofs::HexLemmas::hex_more, crate::proofs::HexLemmas::hex_bad, crate::proofs::HexLemmas::hex_end, crate::proofs::HexLemmas::hex_long))]
 pub fn hex_value(word: &[u8]) -> Option<u64>
     ensures { result ≡ hex_value word.now }
@@ -28,7 +28,7 @@ pub fn hex_value(word: &[u8]) -> Option<u64>
     Some(n)
 }
 
-/// The bytes that pairs of digits are.
+/// The bytes of pairs of digits.
 pub(crate) fn bytes_of(alloc: Global, digits: &[u8]) -> Result<ByteRun, Stop<StateKind>>
     ensures { Gives result (ok_or (bytes_of digits.now) StateKind.Hex) }
 {

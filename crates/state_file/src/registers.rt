@@ -1,4 +1,4 @@
-//! The registers that lines give values to.
+//! The registers to which lines give values.
 ghost use Rattle.std.specs.Prelude.{◌≡◌, IfSome};
 ghost use Rattle.state_file.specs.StateText.{named_register, with_value};
 ghost use Rattle.state_file.specs.internal.Parts.{HasPlace};
@@ -6,7 +6,7 @@ ghost use Rattle.state_file.specs.internal.Parts.{HasPlace};
 use cfi_eval::Regs;
 use sym_rules::register_named;
 
-/// The register of a name: the number of one of the sixteen, or rip, which has none.
+/// The register with a name: the number of one of the sixteen, or rip, which has no number.
 #[tactic(auto, unfolding(crate::specs::StateText::named_register))]
 pub(crate) fn named_register(name: &[u8]) -> Option<Option<u8>>
     ensures register { result ≡ named_register name.now }
@@ -21,7 +21,7 @@ pub(crate) fn named_register(name: &[u8]) -> Option<Option<u8>>
     }
 }
 
-/// A register is given a value.
+/// Gives a value to a register.
 pub(crate) fn give_value(regs: &mut Regs, register: Option<u8>, value: u64)
     requires { HasPlace register }
     ensures { regs.new ≡ with_value register value regs.old }

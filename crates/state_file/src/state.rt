@@ -29,7 +29,7 @@ fn no_registers() -> Regs
     }
 }
 
-/// What a line says is taken over.
+/// Adds what a line says to the registers and the memory.
 fn take_line(line: StateLine, regs: &mut Regs, runs: &mut Vec<MemRun>) -> Result<(), OutOfMemory>
     requires { HasRegister line }
     ensures { OnOk result (state regs.new runs.new.items ≡ with_line line (state regs.old runs.old.items)) }
@@ -47,7 +47,7 @@ fn take_line(line: StateLine, regs: &mut Regs, runs: &mut Vec<MemRun>) -> Result
     }
 }
 
-/// The line with the number that a fault of it has.
+/// What a line says, or its first fault with the number of the line.
 fn read_numbered(alloc: Global, line: &[u8], number: u64) -> Result<StateLine, Stop<StateFault>>
     ensures line { Gives result (numbered number (line_read line.now)) }
     ensures register { IfOk result (λ line. HasRegister line) }
@@ -59,9 +59,9 @@ fn read_numbered(alloc: Global, line: &[u8], number: u64) -> Result<StateLine, S
     }
 }
 
-/// The state that the bytes of a state file give, or its first fault: lines from the first on, in each the first word, then the number of
-/// fields, then the fields from left to right, then whether a run leaves the addresses below 2^64. The runs of memory stand in the order
-/// of their lines.
+/// The state that the bytes of a state file give, or its first fault. Faults are looked for line by line, and in each line in this order: the first
+/// word, the number of fields, the fields from left to right, and whether a run's last byte is above 2^64 - 1. The runs of memory are in the order of
+/// their lines.
 #[tactic(auto, unfolding(crate::specs::StateText::state_of))]
 pub fn read_state(alloc: Global, bytes: &[u8]) -> Result<State, Stop<StateFault>>
     ensures { MatchStop result (λ state. state_of bytes.now ≡ Ok state) (λ fault. state_of bytes.now ≡ Err fault) (Unit {0}) }

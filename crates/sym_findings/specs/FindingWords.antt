@@ -1,9 +1,9 @@
--- The nine kinds of finding: their order, and the words by which they are printed.
+-- The nine kinds of finding: their order, and the words with which they are printed.
 use Rattle.std.specs.Prelude.{ℕ, List, [], ◌∷◌, codes}
 use Rattle.sym_findings.specs.declared.kind.FindingKind.{FindingKind}
 use Rattle.sym_findings.specs.declared.kind.FindingKind.TheVariants as kind
 
--- the kinds in their order, C1 to C9
+-- the kinds in order, C1 to C9
 abbrev pub kinds : List FindingKind
 kinds = kind.GivenAgain ∷ kind.NoFile ∷ kind.NoOrigin ∷ kind.BadSize ∷ kind.FuncMeets ∷ kind.LeavesFunc ∷ kind.LineMeets ∷ kind.InitMeets ∷ kind.ChangeOutside ∷ []
 

@@ -1,6 +1,6 @@
--- What a checker finds in the records of a symbol file (Breakpad's symbol_files.md): nine kinds of finding, each a condition on a record
--- and the records before it, C2 and C3 on all records. Records before a record stand nearest first. Ends are whole numbers, and an empty
--- range meets nothing.
+-- What a checker finds in the records of a symbol file (Breakpad's symbol_files.md). Each of nine kinds of finding is a condition on a record and the
+-- records before it; C2 and C3 are conditions on a record and all records. The records before a record are listed nearest first. Ends of ranges are
+-- not limited to 64 bits, and an empty range overlaps nothing.
 use Rattle.std.specs.Prelude.{ℕ, ◌+◌, ◌&&◌, nat_lt, nat_le, not, Bool, true, false, List, [], ◌∷◌, ◌++◌, Option, None, Some}
 use Rattle.std.specs.List.{list_any, list_all, flat_map}
 use Rattle.std.specs.Option.{option_map, option_map_or}
@@ -15,7 +15,7 @@ use Rattle.sym_findings.specs.declared.kind.Finding.{Finding}
 use Rattle.sym_findings.specs.declared.records_before.OpenInit.{OpenInit}
 use Rattle.sym_findings.specs.FindingWords.{kinds}
 
--- whether the addresses meet those of a list
+-- whether the range e overlaps one of the ranges
 abbrev pub meets_any : List Extent → Extent → Bool
 meets_any runs e = list_any (meet e) runs
 
@@ -25,12 +25,12 @@ is_given_before before (File number name) = list_any (is_file number) before
 is_given_before before (Origin number name) = list_any (is_origin number) before
 is_given_before before _ = false
 
--- C5: a FUNC meets an earlier FUNC
+-- C5: a FUNC overlaps an earlier FUNC
 abbrev pub meets_func : List SymLine → SymLine → Bool
 meets_func before (Func many address size params name) = meets_any (flat_map func_run before) (run_of address size)
 meets_func before _ = false
 
--- a FUNC, and the addresses of the line records that stand under it so far
+-- a FUNC, and the addresses of the line records under it so far
 pub record OpenFunc : Type 0 where
   pub func : Extent
   pub lines : List Extent
@@ -38,7 +38,7 @@ pub record OpenFunc : Type 0 where
 abbrev pub with_line : Extent → OpenFunc → OpenFunc
 with_line e f = record f { lines = e ∷ f.lines }
 
--- the FUNC that a record stands under: the nearest before it, with INLINE and line records alone between
+-- the FUNC that is open after records: the nearest FUNC, with only INLINE and line records after it
 abbrev pub open_func : List SymLine → Option OpenFunc
 open_func [] = None
 open_func (Func many address size params name ∷ before) = Some (record { func = run_of address size; lines = [] })
@@ -55,12 +55,12 @@ leaves_func before (Inline level line file origin ranges) = option_map_or (leave
 leaves_func before (Line address size line file) = option_map_or (leave (run_of address size ∷ [])) (open_func before) false
 leaves_func before _ = false
 
--- C7: a line record meets an earlier one of its FUNC
+-- C7: a line record overlaps an earlier line record of its FUNC
 abbrev pub meets_line : List SymLine → SymLine → Bool
 meets_line before (Line address size line file) = option_map_or (λ f. meets_any f.lines (run_of address size)) (open_func before) false
 meets_line before _ = false
 
--- C8: an INIT meets an earlier INIT
+-- C8: an INIT overlaps an earlier INIT
 abbrev pub init_run : SymLine → List Extent
 init_run (Init address size rules) = run_of address size ∷ []
 init_run _ = []
@@ -69,14 +69,14 @@ abbrev pub meets_init : List SymLine → SymLine → Bool
 meets_init before (Init address size rules) = meets_any (flat_map init_run before) (run_of address size)
 meets_init before _ = false
 
--- the INIT that a STACK CFI changes, the nearest before it with STACK CFI alone between, and the address of the last of these records
+-- the INIT that is open after records: the nearest INIT, with only STACK CFI records after it; and the address of the last of these records
 abbrev pub open_init : List SymLine → Option OpenInit
 open_init [] = None
 open_init (Init address size rules ∷ before) = Some (record { init = run_of address size; last = address })
 open_init (Change address rules ∷ before) = option_map (λ (o : OpenInit). record o { last = address }) (open_init before)
 open_init (_ ∷ before) = None
 
--- C9: a STACK CFI lies outside its INIT, or not above the address of the record before it
+-- C9: a STACK CFI is outside its INIT, or not above the address of the record before it
 abbrev pub goes_on : ℕ → OpenInit → Bool
 goes_on address o = nat_le o.init.address address && nat_lt address (o.init.address + o.init.size) && nat_lt o.last address
 
@@ -84,7 +84,7 @@ abbrev pub is_outside : List SymLine → SymLine → Bool
 is_outside before (Change address rules) = not (option_map_or (goes_on address) (open_init before) false)
 is_outside before _ = false
 
--- whether a checker finds a kind at a record, by all records, those before it, and itself
+-- whether a checker finds a kind at a record, given all records and the records before it
 abbrev pub is_found : List SymLine → List SymLine → SymLine → FindingKind → Bool
 is_found all before s kind.GivenAgain = is_given_before before s
 is_found all before s kind.NoFile = not (has_file all s)
@@ -96,7 +96,7 @@ is_found all before s kind.LineMeets = meets_line before s
 is_found all before s kind.InitMeets = meets_init before s
 is_found all before s kind.ChangeOutside = is_outside before s
 
--- a finding at the record of an index, where there is one
+-- a finding at the record with the index, if there is one
 abbrev pub finding_if : Bool → FindingKind → ℕ → List Finding
 finding_if true kind index = record { kind = kind; index = index } ∷ []
 finding_if false kind index = []
@@ -110,6 +110,6 @@ unfoldable pub findings_from : List SymLine → List SymLine → ℕ → List Sy
 findings_from all before index [] = []
 findings_from all before index (s ∷ lines) = findings_at all before index s ++ findings_from all (s ∷ before) (index + 1) lines
 
--- the findings in the records of a file, by record and then kind
+-- the findings in the records of a file, ordered by record and then by kind
 unfoldable pub findings : List SymLine → List Finding
 findings lines = findings_from lines [] 0 lines

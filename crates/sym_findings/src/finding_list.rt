@@ -22,7 +22,7 @@ fn known_in(alloc: Global, lines: &[SymLine]) -> Result<Known, OutOfMemory>
     Ok(Known { files, origins })
 }
 
-/// Nothing is kept yet. Takes no memory.
+/// Nothing is kept yet. Allocates no memory.
 fn none_kept(alloc: Global) -> Preceding
     ensures { Keeps [] result }
 {
@@ -54,8 +54,7 @@ fn found_in(alloc: Global, known: &Known, lines: &[SymLine]) -> Result<Vec<Findi
     Ok(notes.list)
 }
 
-/// What a checker finds in the records of a file, by record and then kind. n log n turns at worst for n records and
-/// ranges.
+/// What a checker finds in the records of a file, ordered by record and then by kind. Takes at most n log n steps for n records and ranges.
 pub fn findings(alloc: Global, file: &SymFile) -> Result<FindingList, OutOfMemory>
     ensures { IfOk result (λ found. found ≡ findings file.now) }
 {

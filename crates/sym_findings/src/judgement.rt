@@ -18,7 +18,7 @@ use std::alloc::Global;
 use sym_edges::OutOfMemory;
 use sym_records::{Extent, SymLine};
 
-/// The findings so far, and the index of the record that is looked at.
+/// The findings so far, and the index of the current record.
 #[derive(Drop)]
 pub struct Notes {
     pub list: Vec<Finding>,
@@ -26,7 +26,7 @@ pub struct Notes {
 }
 
 impl Notes {
-    /// Lists a finding at the record, where there is one.
+    /// Lists a finding at the record, if there is one.
     #[inline]
     fn note(&mut self, found: bool, kind: FindingKind) -> Result<(), OutOfMemory>
         ensures list { OnOk result (self.new.list.items ≡ self.old.list.items ++ finding_if found kind self.old.index) }
@@ -42,7 +42,7 @@ impl Notes {
     }
 }
 
-/// Not empty, and the end is at most 2^64 - 1.
+/// The range is not empty, and its end is at most 2^64 - 1.
 #[inline]
 fn is_sized(run: &Extent) -> bool
     ensures { result ≡ is_sized run.now }
@@ -50,7 +50,7 @@ fn is_sized(run: &Extent) -> bool
     0 < run.size && run.size <= u64::MAX - run.address
 }
 
-/// The second does not leave the first.
+/// The second range does not leave the first.
 #[inline]
 fn holds_run(func: &Extent, run: &Extent) -> bool
     ensures { result ≡ holds_run func.now run.now }
@@ -72,7 +72,7 @@ fn hold_runs(func: &Extent, runs: &[Extent]) -> bool
     runs.iter().all(|run| holds_run(func, run))
 }
 
-/// Some of the addresses leave the function, where one is open.
+/// Whether one of the ranges leaves the open function, if there is one.
 fn leave_open(func: Option<Extent>, runs: &[Extent]) -> bool
     ensures { result ≡ leaves_open runs.now func }
 {
@@ -82,7 +82,7 @@ fn leave_open(func: Option<Extent>, runs: &[Extent]) -> bool
     }
 }
 
-/// The same of one run of addresses.
+/// Whether the range leaves the open function, if there is one.
 #[inline]
 fn leaves_open(func: Option<Extent>, run: &Extent) -> bool
     ensures { result ≡ leaves_open (run.now ∷ []) func }
@@ -93,7 +93,7 @@ fn leaves_open(func: Option<Extent>, run: &Extent) -> bool
     }
 }
 
-/// Whether a function is open, and something else holds.
+/// Whether a function is open and `holds` is true.
 #[inline]
 fn is_open_and(func: Option<Extent>, holds: bool) -> bool
     ensures { result ≡ (is_some func && holds) }
@@ -101,7 +101,7 @@ fn is_open_and(func: Option<Extent>, holds: bool) -> bool
     func.is_some() && holds
 }
 
-/// Whether a `STACK CFI` goes on with the `STACK CFI INIT` that is open.
+/// Whether a `STACK CFI` is in the range of the open `STACK CFI INIT`, and above the address of the record before it.
 fn goes_on(init: Option<OpenInit>, address: u64) -> bool
     ensures { result ≡ option_map_or (goes_on address) init false }
 {
@@ -115,7 +115,7 @@ fn goes_on(init: Option<OpenInit>, address: u64) -> bool
     }
 }
 
-/// The same `STACK CFI INIT` behind a `STACK CFI`.
+/// The open `STACK CFI INIT` after a `STACK CFI`.
 fn moved(init: Option<OpenInit>, address: u64) -> Option<OpenInit>
     ensures { result ≡ option_map (λ (o : OpenInit). record o { last = address }) init }
 {
@@ -128,7 +128,7 @@ fn moved(init: Option<OpenInit>, address: u64) -> Option<OpenInit>
     }
 }
 
-/// Neither a `FUNC` nor a `STACK CFI INIT` is open any more.
+/// No `FUNC` and no `STACK CFI INIT` is open any more.
 fn close(kept: &mut Preceding)
     ensures { kept.new ≡ record kept.old { func = None; init = None } }
 {
@@ -190,7 +190,7 @@ fn judge_func(
     Ok(())
 }
 
-/// What an `INLINE` says of a call: its file, the function's origin and the addresses.
+/// What an `INLINE` says about a call: its file, the function's origin and the addresses.
 #[derive(Clone, Copy)]
 struct Call<'r> {
     file: u32,

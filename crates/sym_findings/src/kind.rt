@@ -6,21 +6,21 @@ use sym_edges::ListOf;
 pub enum FindingKind {
     /// C1: the number of a `FILE`, or of an `INLINE_ORIGIN`, was given before by the same keyword.
     GivenAgain,
-    /// C2: a line record or an `INLINE` names a `FILE` that is not in the file.
+    /// C2: a line record or an `INLINE` names a `FILE` that is not among the records.
     NoFile,
-    /// C3: an `INLINE` names an `INLINE_ORIGIN` that is not in the file.
+    /// C3: an `INLINE` names an `INLINE_ORIGIN` that is not among the records.
     NoOrigin,
     /// C4: a `FUNC`, a line record, a range of an `INLINE` or a `STACK CFI INIT` has size 0, or an end above 2^64 - 1.
     BadSize,
-    /// C5: a `FUNC` meets an earlier one.
+    /// C5: a `FUNC` overlaps an earlier `FUNC`.
     FuncMeets,
     /// C6: a line record or a range of an `INLINE` leaves its `FUNC`.
     LeavesFunc,
-    /// C7: a line record meets an earlier one of its `FUNC`.
+    /// C7: a line record overlaps an earlier line record of its `FUNC`.
     LineMeets,
-    /// C8: a `STACK CFI INIT` meets an earlier one.
+    /// C8: a `STACK CFI INIT` overlaps an earlier one.
     InitMeets,
-    /// C9: a `STACK CFI` lies outside its `STACK CFI INIT`, or not above the address of the record before it.
+    /// C9: a `STACK CFI` is outside its `STACK CFI INIT`, or not above the address of the record before it.
     ChangeOutside,
 }
 
@@ -63,12 +63,12 @@ impl FindingKind {
     }
 }
 
-/// A kind that was found at the record of an index, counted from 0.
+/// A kind that was found at the record with an index, counted from 0.
 #[derive(Clone, Copy, Debug, PartialEq, Eq)]
 pub struct Finding {
     pub kind: FindingKind,
     pub index: usize,
 }
 
-/// Findings by record and then kind.
+/// Findings, ordered by record and then by kind.
 pub type FindingList = ListOf<Finding>;

@@ -1,19 +1,18 @@
 //! What a checker finds in the records of a symbol file (Breakpad's symbol_files.md).
 //!
-//! A valid list of records can still say things that do not go together: a number that is given twice, a line record whose
-//! file is not there, functions that meet. There are nine kinds of such a [`Finding`], each a condition on a record and the
-//! records before it, or on all records where one names another. [`findings`] lists them by record and then kind. The records
-//! of a file have none exactly where a look-up in it has one answer for all that it says ([`laws::nothing_found`]).
+//! A valid list of records can still be inconsistent: a number that is given twice, a line record whose file is missing, functions that overlap.
+//! There are nine kinds of [`Finding`]. Each is a condition on a record and the records before it, or on all records if one names another.
+//! [`findings`] lists them by record and then by kind. The records of a file have no findings exactly if they meet all conditions of `sym_meaning`'s
+//! `HasNoFindings` ([`laws::nothing_found`]).
 //!
-//! One pass over the records keeps what those before the next one say: the numbers that were given, the addresses of functions
-//! and of frames, and the `FUNC` or `STACK CFI INIT` that is open. Addresses that rise, as they do in nearly all files, take a
-//! few comparisons a record, and others a search by halves.
+//! One pass over the records keeps what the records so far say: the numbers that were given, the addresses of functions and of frames, and the `FUNC`
+//! or `STACK CFI INIT` that is open. If addresses ascend, as in nearly all files, each record takes a few comparisons, and otherwise a binary search.
 #![tactic(auto)]
 
 // The kinds of finding.
 mod kind;
 
-// What the records before one say.
+// What the records before a record say.
 mod met_ranges;
 mod numbers;
 mod records_before;
@@ -22,7 +21,7 @@ mod records_before;
 mod finding_list;
 mod judgement;
 
-// What holds of them.
+// Laws about the findings.
 pub mod laws;
 
 pub use finding_list::findings;

@@ -1,4 +1,4 @@
-//! Addresses in the order of the records that have them.
+//! The addresses of records, in the order of the records.
 ghost use Rattle.std.specs.Prelude.{◌≡◌, ℕ, ◌<◌, ◌&&◌, ◌||◌, ◌∷◌, nat_lt, false, IfOk, OnOk};
 ghost use Rattle.sym_records.specs.declared.line.Extent.{Extent};
 ghost use Rattle.sym_meaning.specs.Findings.{run_of, meet};
@@ -10,8 +10,8 @@ use std::alloc::Global;
 use std::marker::Model;
 use sym_edges::OutOfMemory;
 
-/// The addresses of the records so far. Those of the last ones that touch stand apart, as one range, so that records
-/// in order need no look-up.
+/// The addresses of the records so far. The addresses of the last records that touch each other are stored separately, as one range, so that records
+/// in ascending order need no look-up.
 #[derive(Drop)]
 pub struct MetRanges {
     earlier: RangeUnion,
@@ -33,7 +33,7 @@ impl Model for MetRanges {
     ghost invariant = { λ t. IsTail t.start t.end t.top × EndBy t.top t.earlier };
 }
 
-/// Whether a range that is not empty meets the last one or an earlier one.
+/// Whether a range that is not empty overlaps the last range or an earlier one.
 #[tactic(auto, unfolding(range_union::specs::Ranges::any_overlap))]
 fn overlaps_any(
     earlier: &RangeUnion,
@@ -51,7 +51,7 @@ fn overlaps_any(
     earlier.meets(start, end)
 }
 
-/// A range more, which may be empty.
+/// Adds a range, which may be empty.
 fn put_some(earlier: &mut RangeUnion, start: u128, end: u128) -> Result<(), OutOfMemory>
     ensures more { OnOk result ((a b : ℕ) → a < b → any_overlap (range_to a b) earlier.new ≡ (any_overlap (range_to a b) earlier.old || (nat_lt start end && overlap (range_to a b) (range_to start end)))) }
     ensures no_other { (a b : ℕ) → a < b → (any_overlap (range_to a b) earlier.old || overlap (range_to a b) (range_to start end)) ≡ false → any_overlap (range_to a b) earlier.new ≡ false }
@@ -75,7 +75,7 @@ impl MetRanges {
         }
     }
 
-    /// The addresses of a record more; whether they meet those of an earlier one.
+    /// Adds the addresses of a record; returns whether they overlap those of an earlier record.
     #[tactic(auto, using(crate::proofs::MeetingLemmas::ends_put, crate::proofs::MeetingLemmas::ends_more))]
     pub fn put(&mut self, address: u64, size: u64) -> Result<bool, OutOfMemory>
         ensures met { IfOk result (λ met. met ≡ is_met self.old (run_of address size)) }

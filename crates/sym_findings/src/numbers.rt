@@ -34,7 +34,7 @@ impl GivenNumbers {
         }
     }
 
-    /// A number more; whether it was given before.
+    /// Adds a number; returns whether it was given before.
     #[tactic(auto, using(crate::proofs::NumberLemmas::given_again, crate::proofs::NumberLemmas::given_more))]
     pub fn give(&mut self, number: u32) -> Result<bool, OutOfMemory>
         ensures again { IfOk result (λ again. again ≡ has_number self.old number) }
@@ -45,7 +45,7 @@ impl GivenNumbers {
     }
 }
 
-/// All numbers of some records, in order.
+/// All numbers of some records, in ascending order.
 #[derive(Drop)]
 pub struct KnownNumbers {
     sorted: Vec<u32>,
@@ -72,7 +72,7 @@ impl KnownNumbers {
         Ok(KnownNumbers { sorted })
     }
 
-    /// Whether a number is among them: where they rise one by one, it stands at its distance from the first.
+    /// Whether a number is among them. The search begins at the index where the number is if the numbers are consecutive.
     #[inline]
     pub fn has(&self, number: u32) -> bool
         ensures { result ≡ has_number self.now number }
@@ -81,7 +81,7 @@ impl KnownNumbers {
     }
 }
 
-/// Whether a number is among numbers in order.
+/// Whether a number is among numbers in ascending order.
 #[inline]
 fn has_sorted(sorted: &[u32], number: u32) -> bool
     requires { IsNonDecreasing sorted.now }
@@ -100,7 +100,7 @@ fn number_at(sorted: &[u32], place: usize) -> Option<u32>
     sorted.get(place).copied()
 }
 
-/// Whether a number stands at its distance from the first.
+/// Whether a number is at the index that is its distance from the first number.
 #[tactic(auto, using(crate::proofs::NumberLemmas::stands_in))]
 #[inline]
 fn stands_apart(sorted: &[u32], number: u32) -> bool
@@ -112,7 +112,7 @@ fn stands_apart(sorted: &[u32], number: u32) -> bool
     }
 }
 
-/// The search by halves.
+/// The binary search.
 #[tactic(auto, using(crate::proofs::NumberLemmas::by_halves))]
 fn is_found(sorted: &[u32], number: u32) -> bool
     requires { IsNonDecreasing sorted.now }
@@ -121,14 +121,14 @@ fn is_found(sorted: &[u32], number: u32) -> bool
     sorted.binary_search(&number).is_ok()
 }
 
-/// The numbers that records give, in order.
+/// The numbers that records give, in the order of the records.
 #[derive(Drop)]
 pub struct NumberLists {
     pub files: Vec<u32>,
     pub origins: Vec<u32>,
 }
 
-/// Adds the number of a record, where it gives one.
+/// Adds the number of a record, if it gives one.
 fn add_number(
     files: &mut Vec<u32>,
     origins: &mut Vec<u32>,

@@ -3,14 +3,14 @@ use crate::met_ranges::MetRanges;
 use crate::numbers::{GivenNumbers, KnownNumbers};
 use sym_records::Extent;
 
-/// The `STACK CFI INIT` that a `STACK CFI` changes, and the address of the last record of these.
+/// The `STACK CFI INIT` that a `STACK CFI` changes, and the address of the last record so far that belongs to it.
 #[derive(Clone, Copy, Debug, PartialEq, Eq)]
 pub struct OpenInit {
     pub init: Extent,
     pub last: u64,
 }
 
-/// What the records before one say.
+/// What the records before a record say.
 #[derive(Drop)]
 pub struct Preceding {
     pub files: GivenNumbers,

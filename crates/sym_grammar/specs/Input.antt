@@ -1,4 +1,4 @@
--- The reading of a symbol file that may have so many bytes, and what a call that reads it from a store answers.
+-- The reading of a symbol file whose size is limited, and what a call that reads it from a store returns.
 use Rattle.std.specs.Prelude.{◌≡◌, ◌⊎◌, ℕ, ◌^◌, ⊤, nat_lt, if◌then◌else◌, List, [], ◌∷◌, ◌++◌, length, take, Option, Some, None, Result, Ok, Err}
 use Rattle.sym_edges.specs.Outside.{Files, Rose}
 use Rattle.sym_edges.specs.WholeFile.{HoldsFile}
@@ -14,7 +14,7 @@ use Rattle.sym_grammar.specs.declared.refusal.SymRefusal.TheVariants.{TooLong, T
 use Rattle.sym_grammar.specs.declared.refusal.SymEnd.{SymEnd}
 use Rattle.sym_grammar.specs.declared.refusal.SymEnd.TheVariants.{Unread, Refused}
 
--- what bytes decide whatever follows them: their whole lines, and that the front of the next line is not too long
+-- what bytes decide, whatever follows them: what their whole lines give, and that the start of the next line is not too long
 abbrev pub with_front : ℕ → Result Seen TextFault → List ℕ → Result Part TextFault
 with_front limit (Err fault) held = Err fault
 with_front limit (Ok seen) held =
@@ -24,12 +24,12 @@ with_front limit (Ok seen) held =
 unfoldable pub decided : ℕ → Part → List ℕ → Result Part TextFault
 decided limit part bytes = with_front limit (with_lines limit part.seen (whole_lines (part.held ++ bytes))) (open_line (part.held ++ bytes))
 
--- a fact where there is nothing
+-- P holds if there is no value
 abbrev pub IfNone : {A : Type 0} → Option A → Type 0 → Type 0
 IfNone None P = P
 IfNone (Some x) P = ⊤
 
--- before any byte
+-- what was read before the first byte
 abbrev pub nothing : Part
 nothing = record { seen = start; held = [] }
 
@@ -38,35 +38,35 @@ abbrev pub whole_reading : Result (List SymLine) TextFault → Result (List SymL
 whole_reading (Ok lines) = Ok lines
 whole_reading (Err fault) = Err (Text fault)
 
--- one that is too long is refused for that, but for a fault that its first bytes decide
+-- a file that is too long is refused for its length, except if its first bytes decide a fault
 abbrev pub front_reading : Result Part TextFault → Result (List SymLine) SymRefusal
 front_reading (Ok part) = Err TooLong
 front_reading (Err fault) = Err (Text fault)
 
--- the reading of a file of at most `limit` bytes
+-- the reading of a file that may have at most `limit` bytes
 unfoldable pub file_reading : ℕ → List ℕ → Result (List SymLine) SymRefusal
 file_reading limit bytes = if nat_lt limit (length bytes) then front_reading (decided (2 ^ 20) nothing (take limit bytes)) else whole_reading (reading bytes)
 
--- it is the reading of the file, where its bytes are told, and else that of some bytes
+-- the result is the reading of the file, if its bytes are known, and otherwise the reading of some bytes
 abbrev pub IsReading : ℕ → Result (List SymLine) SymRefusal → Option (List ℕ) → Type 0
 IsReading limit read None = (bytes : List ℕ) × (file_reading limit bytes ≡ read)
 IsReading limit read (Some bytes) = file_reading limit bytes ≡ read
 
--- what a reading of the file of a name answers, and when
+-- what a reading of the file `name` returns, and when
 abbrev pub SymRead : Result (List SymLine) (Stop SymEnd) → Option Files → List ℕ → ℕ → ℕ → ℕ → Type 0
 SymRead (Ok lines) files name limit before after = HoldsFile files name (IsReading limit (Ok lines))
 SymRead (Err (Fault Unread)) files name limit before after = Rose before after
 SymRead (Err (Fault (Refused why))) files name limit before after = HoldsFile files name (IsReading limit (Err why))
 SymRead (Err NoMemory) files name limit before after = ⊤
 
--- the count of faults stands still, unless the file could not be opened or read
+-- the count of faults does not change, unless the file could not be opened or read
 abbrev pub IsSteadyRead : Result (List SymLine) (Stop SymEnd) → ℕ → ℕ → Type 0
 IsSteadyRead (Ok lines) before after = after ≡ before
 IsSteadyRead (Err (Fault Unread)) before after = Unit {0}
 IsSteadyRead (Err (Fault (Refused why))) before after = after ≡ before
 IsSteadyRead (Err NoMemory) before after = after ≡ before
 
--- the name was asked for once; where memory ran out it may not have been
+-- the name was asked for once; if memory ran out, it was asked for at most once
 abbrev pub AsksName : {A F : Type 0} → Result A (Stop F) → List (List ℕ) → List ℕ → List (List ℕ) → Type 0
 AsksName (Ok x) before name after = after ≡ before ++ name ∷ []
 AsksName (Err (Fault f)) before name after = after ≡ before ++ name ∷ []

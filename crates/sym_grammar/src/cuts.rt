@@ -1,11 +1,11 @@
-//! Where a text is cut into lines.
+//! How a text is cut into lines.
 ghost use Rattle.std.specs.Prelude.{◌≡◌, ◌<◌, ◌∷◌, ◌++◌, true, length, MatchOption, IfSome};
 ghost use Rattle.std.specs.List.{list_all};
 ghost use Rattle.sym_rules.specs.Cuts.{is_within_line};
 
 use memchr::memchr;
 
-/// The first line, without its LF, and what stands behind it, where a line ends here.
+/// The first line without its LF, and the bytes after the LF; `None` if there is no LF.
 #[inline]
 pub(crate) fn cut_line(bytes: &[u8]) -> Option<(&[u8], &[u8])>
     ensures cut { MatchOption result (list_all is_within_line bytes.now ≡ true)

@@ -1,4 +1,4 @@
-//! The fields of a line, from left to right: each call gives a value and what stands behind it.
+//! The fields of a line, from left to right: each call gives a value and the bytes after it.
 ghost use Rattle.std.specs.Prelude.{◌≡◌, ◌<◌, length, IfOk};
 ghost use Rattle.sym_rules.specs.RuleReading.{words};
 ghost use Rattle.sym_records.specs.FieldReading.{word_at, name_at, hex_at, mark_at, marked_at, decimal_at, ranges_at, last_at};
@@ -53,7 +53,7 @@ pub(crate) fn decimal_at(bytes: &[u8]) -> Result<(u32, &[u8]), Stop<TextKind>>
     }
 }
 
-/// Whether the next field is `m`, and what stands behind it where it is.
+/// Whether the next field is `m`; if it is, the bytes after it, otherwise all bytes.
 #[inline]
 #[tactic(auto, unfolding(sym_records::specs::FieldReading::mark_at))]
 fn mark_at(bytes: &[u8]) -> (bool, &[u8])
@@ -68,7 +68,7 @@ fn mark_at(bytes: &[u8]) -> (bool, &[u8])
     }
 }
 
-/// Perhaps `m`, then a hexadecimal number.
+/// An optional `m`, then a hexadecimal number.
 #[inline]
 #[tactic(auto, unfolding(sym_records::specs::FieldReading::marked_at))]
 pub(crate) fn marked_at(bytes: &[u8]) -> Result<((bool, u64), &[u8]), Stop<TextKind>>
@@ -79,7 +79,7 @@ pub(crate) fn marked_at(bytes: &[u8]) -> Result<((bool, u64), &[u8]), Stop<TextK
     Ok(((many, n), later))
 }
 
-/// All that is left as a name.
+/// All remaining bytes as a name.
 #[tactic(auto, using(crate::proofs::FieldLemmas::name_some, crate::proofs::FieldLemmas::name_none), unfolding(sym_records::specs::FieldReading::name_at))]
 pub(crate) fn name_at(alloc: Global, bytes: &[u8]) -> Result<ByteText, Stop<TextKind>>
     ensures { Gives result (λ x. x) (name_at bytes.now) }
@@ -116,7 +116,7 @@ fn range_at(bytes: &[u8]) -> Result<(Extent, &[u8]), Stop<TextKind>>
     Ok((Extent { address, size }, later))
 }
 
-/// All that is left as ranges.
+/// All remaining bytes as ranges.
 #[tactic(auto, using(crate::proofs::FieldLemmas::skip_stays, crate::proofs::FieldLemmas::ranges_more, crate::proofs::FieldLemmas::ranges_fault, crate::proofs::FieldLemmas::ranges_some, crate::proofs::FieldLemmas::ranges_none, crate::proofs::FieldLemmas::ranges_start))]
 pub(crate) fn ranges_at(alloc: Global, bytes: &[u8]) -> Result<Extents, Stop<TextKind>>
     ensures { Gives result (λ x. x) (ranges_at bytes.now) }

@@ -8,7 +8,7 @@ use sym_edges::Stop;
 use sym_records::Keyword;
 use sym_rules::{TextKind, cut_word, skip_spaces};
 
-/// Whether the bytes are hexadecimal digits alone.
+/// Whether the bytes are only hexadecimal digits.
 #[inline]
 fn are_hex_digits(word: &[u8]) -> bool
     ensures { result ≡ list_all is_hex_digit word.now }
@@ -17,7 +17,7 @@ fn are_hex_digits(word: &[u8]) -> bool
         .all(|b| matches!(*b, b'0'..=b'9' | b'a'..=b'f' | b'A'..=b'F'))
 }
 
-/// `STACK CFI`, where `INIT` may be the next word.
+/// After `STACK CFI`: the next word may be `INIT`.
 #[inline]
 #[tactic(auto, unfolding(sym_records::specs::Text::cfi_key))]
 fn cfi_key(bytes: &[u8]) -> (Keyword, &[u8])
@@ -31,7 +31,7 @@ fn cfi_key(bytes: &[u8]) -> (Keyword, &[u8])
     }
 }
 
-/// `STACK`, where the next word decides.
+/// After `STACK`: the next word decides.
 #[inline]
 #[tactic(auto, unfolding(sym_records::specs::Text::stack_key))]
 fn stack_key(bytes: &[u8]) -> Result<(Keyword, &[u8]), Stop<TextKind>>
@@ -47,7 +47,7 @@ fn stack_key(bytes: &[u8]) -> Result<(Keyword, &[u8]), Stop<TextKind>>
     Err(Stop::Fault(TextKind::Unknown))
 }
 
-/// The keyword that a word is, and what stands behind it.
+/// The keyword that begins with a word, and the bytes after the keyword.
 #[tactic(auto, unfolding(sym_records::specs::Text::worded_key))]
 fn worded_key<'a>(word: &[u8], rest: &'a [u8]) -> Result<(Keyword, &'a [u8]), Stop<TextKind>>
     ensures { Gives result (λ x. (x.0, x.1.now)) (worded_key word.now rest.now) }
@@ -79,7 +79,7 @@ fn worded_key<'a>(word: &[u8], rest: &'a [u8]) -> Result<(Keyword, &'a [u8]), St
     Err(Stop::Fault(TextKind::Unknown))
 }
 
-/// The keyword of a line, and what stands behind it. A line record has none and begins with a number.
+/// The keyword of a line, and the bytes after it. A line record has no keyword and begins with a number.
 #[inline]
 #[tactic(auto, unfolding(sym_records::specs::Text::key_at, sym_records::specs::Text::keyed))]
 pub(crate) fn key_at(bytes: &[u8]) -> Result<(Keyword, &[u8]), Stop<TextKind>>

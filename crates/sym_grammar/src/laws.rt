@@ -1,4 +1,4 @@
-//! Laws of the definitions, for proofs above. Each function does nothing: its contract is the law.
+//! Laws of the definitions, for proofs in crates that use this one. Each function does nothing: its contract is the law.
 ghost use Rattle.std.specs.Prelude.{◌≡◌, ◌≤◌, ◌++◌, ℕ, List, length, Ok};
 ghost use Rattle.sym_records.specs.declared.line.SymLine.{SymLine};
 ghost use Rattle.sym_records.specs.Reading.{reading};
@@ -10,7 +10,7 @@ pub fn a_text_has_no_more_records_than_bytes()
     ensures { (bytes : List ℕ) (lines : List SymLine) → reading bytes ≡ Ok lines → length lines ≤ length bytes }
 {}
 
-/// Where two pieces were taken one after the other, all that can be known of both together is known.
+/// If two pieces were fed one after the other, all that can be known after both together is known.
 pub fn two_pieces_are_one()
     ensures { (limit : ℕ) (a b c : Part) (p q : List ℕ) → IsUpToDate limit a p b → IsUpToDate limit b q c → IsUpToDate limit a (p ++ q) c }
 {}

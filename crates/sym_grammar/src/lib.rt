@@ -1,13 +1,13 @@
 //! The reader of symbol files, however the text is cut.
 //!
-//! A `Reader` is fed a symbol file (Breakpad's symbol_files.md) in pieces of any size, and answers its records once the text has
-//! ended. Its contract speaks of what follows: what a reader will answer if the text goes on with some bytes and ends is the
-//! reading of all bytes, wherever they were cut. A fault comes as soon as the byte that decides it was fed, with the number
-//! of its line, and stays; so does running out of memory. The reader holds the records and at most one line of 2^20 bytes: a line
-//! that lies wholly in a piece is read where it stands. `read_file` reads a symbol file of a store by it.
+//! A `Reader` is fed a symbol file (Breakpad's symbol_files.md) in pieces of any size, and returns its records once the text has ended. Its contract
+//! is about what follows: what a reader will return if the text goes on with some bytes and then ends is the reading of all bytes, wherever they were
+//! cut. A fault is returned as soon as the byte that decides it was fed, with the number of its line, and remains the result; so does running out of
+//! memory. The reader keeps the records and at most one line of 2^20 bytes: a line that is wholly in a piece is read in place. `read_file` uses the
+//! reader to read a symbol file of a store.
 #![tactic(auto)]
 
-// Where a text is cut into lines.
+// How a text is cut into lines.
 mod cuts;
 
 // The fields.
@@ -29,7 +29,7 @@ mod reader;
 mod input;
 mod refusal;
 
-// What holds of all of it.
+// Laws about all of these.
 pub mod laws;
 
 pub use input::read_file;

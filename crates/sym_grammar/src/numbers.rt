@@ -1,4 +1,4 @@
-//! Numbers by their digits.
+//! Numbers, given their digits.
 ghost use Rattle.std.specs.Prelude.{◌≡◌, ◌^◌, ◌<◌, ◌≤◌, pos, neg_ℤ, IfSome, IfOk};
 ghost use Rattle.sym_rules.specs.RuleReading.{integer_of};
 ghost use Rattle.sym_rules.specs.Cuts.{from};
@@ -10,7 +10,7 @@ use sym_edges::Stop;
 use sym_records::hex_digit;
 use sym_rules::TextKind;
 
-/// The hexadecimal number that a field is, and what stands behind the field: one pass over its digits.
+/// The hexadecimal number in a field, and the bytes after the field, in one pass over its digits.
 #[inline]
 #[tactic(auto, using(crate::proofs::DigitLemmas::field_done, crate::proofs::DigitLemmas::field_end, crate::proofs::DigitLemmas::field_bad, crate::proofs::DigitLemmas::field_long, sym_rules::proofs::CutLemmas::rest_stop, sym_rules::proofs::CutLemmas::rest_end))]
 pub(crate) fn hex_field(field: &[u8]) -> Result<(u64, &[u8]), Stop<TextKind>>
@@ -45,7 +45,7 @@ fn ten_digit(b: u8) -> Option<u8>
     }
 }
 
-/// The number that one to 20 decimal digits write, where it is at most `limit`.
+/// The number with these one to 20 decimal digits, if it is at most `limit`.
 #[inline]
 #[tactic(auto, using(crate::proofs::NumberLemmas::upto_none, crate::proofs::NumberLemmas::upto_long, crate::proofs::NumberLemmas::upto_more, crate::proofs::NumberLemmas::upto_bad, crate::proofs::NumberLemmas::upto_passed, crate::proofs::NumberLemmas::upto_great, crate::proofs::NumberLemmas::upto_end))]
 fn digits_upto(word: &[u8], limit: u64) -> Option<u64>
@@ -76,7 +76,7 @@ fn digits_upto(word: &[u8], limit: u64) -> Option<u64>
     Some(n)
 }
 
-/// The number below 2^32 that one to 20 decimal digits write.
+/// The number with these one to 20 decimal digits, if it is below 2^32.
 #[inline]
 #[tactic(auto, using(crate::proofs::NumberLemmas::decimal_is))]
 pub(crate) fn decimal_value(word: &[u8]) -> Option<u32>
@@ -88,7 +88,7 @@ pub(crate) fn decimal_value(word: &[u8]) -> Option<u32>
     }
 }
 
-/// The integer from -2^63 to 2^63 - 1 that digits write, perhaps with `-` in front.
+/// The integer from -2^63 to 2^63 - 1 with these digits, after an optional `-`.
 #[tactic(auto, using(crate::proofs::NumberLemmas::integer_none, crate::proofs::NumberLemmas::negative_some, crate::proofs::NumberLemmas::negative_none, crate::proofs::NumberLemmas::positive_some, crate::proofs::NumberLemmas::positive_none))]
 pub(crate) fn integer_of(word: &[u8]) -> Option<i64>
     ensures { result ≡ integer_of word.now }
@@ -108,7 +108,7 @@ pub(crate) fn integer_of(word: &[u8]) -> Option<i64>
     }
 }
 
-/// The number below zero.
+/// The negative of a number.
 #[inline]
 fn negative(n: u64) -> i64
     requires { n ≤ 2 ^ 63 }

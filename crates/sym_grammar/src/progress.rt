@@ -1,4 +1,4 @@
-//! The lines of a text one after another.
+//! The lines of a text, one after another.
 ghost use Rattle.std.specs.Prelude.{◌≡◌, ◌≤◌, ◌^◌, true, Some, None};
 ghost use Rattle.std.specs.List.{list_all};
 ghost use Rattle.sym_rules.specs.Cuts.{is_within_line};
@@ -14,7 +14,7 @@ use sym_edges::Stop;
 use sym_records::{Place, SymLine, fits, leads};
 use sym_rules::{TextFault, TextKind, is_blank};
 
-/// What whole lines gave: their records, which are valid, the place behind them, and how many lines there were.
+/// What whole lines gave: their records, which are valid, the place after them, and the number of lines.
 #[derive(Debug, Drop)]
 pub(crate) struct Progress {
     records: Vec<SymLine>,
@@ -33,7 +33,7 @@ impl Model for Progress {
     ghost invariant = { λ p. AreGood p.records.items p.place };
 }
 
-/// No line yet.
+/// Before the first line.
 #[tactic(auto, using(crate::proofs::ProgressLemmas::start_good))]
 pub(crate) fn started(alloc: Global) -> Progress
     ensures { result ≡ start }
@@ -58,7 +58,7 @@ pub(crate) fn into_records(progress: Progress) -> Vec<SymLine>
     records
 }
 
-/// A record joins, where it may stand there.
+/// Adds a record, if it may be at this place.
 #[tactic(auto, using(crate::proofs::ProgressLemmas::pushed_good))]
 fn add_record(seen: &mut Progress, line: SymLine) -> Result<(), Stop<TextKind>>
     requires { fields_fit line ≡ true }
@@ -74,7 +74,7 @@ fn add_record(seen: &mut Progress, line: SymLine) -> Result<(), Stop<TextKind>>
     Ok(())
 }
 
-/// Whether the first line that is not blank has another keyword than `MODULE`.
+/// Whether no record was read yet, and the line is not blank and does not begin with the word `MODULE`.
 #[tactic(auto, unfolding(sym_records::specs::Reading::lacks_module))]
 fn lacks_module(place: Place, line: &[u8]) -> bool
     ensures { result ≡ lacks_module place line.now }
@@ -82,7 +82,7 @@ fn lacks_module(place: Place, line: &[u8]) -> bool
     place == Place::Start && !is_blank(line) && !begins_module(line)
 }
 
-/// A line joins.
+/// Adds a line.
 #[tactic(auto, using(crate::proofs::ProgressLemmas::read_fits), unfolding(sym_records::specs::Reading::with_text))]
 fn add_line(
     alloc: Global,
@@ -116,7 +116,7 @@ pub(crate) fn next_number(seen: &Progress) -> u64
     seen.number.saturating_add(1)
 }
 
-/// A line joins, and a fault has its number.
+/// Adds a line; a fault gets the number of the line.
 pub(crate) fn add_numbered(
     alloc: Global,
     limit: usize,

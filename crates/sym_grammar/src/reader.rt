@@ -14,7 +14,7 @@ use sym_edges::Stop;
 use sym_records::{SymFile, file_of_valid};
 use sym_rules::{TextFault, TextKind};
 
-/// The most bytes that a line has without its LF: 2^20.
+/// The greatest number of bytes of a line without its LF: 2^20.
 const LINE_LIMIT: usize = 0x10_0000;
 
 /// A reader of a symbol file that comes in pieces.
@@ -38,7 +38,7 @@ impl Model for Reader {
 }
 
 impl Reader {
-    /// A reader that was fed nothing. Takes no memory.
+    /// A reader that was fed nothing. Allocates no memory.
     #[tactic(auto, using(crate::proofs::ReaderLemmas::starts))]
     pub fn new(alloc: Global) -> Reader
         ensures nothing { result ≡ fed_nothing }
@@ -51,10 +51,10 @@ impl Reader {
         }
     }
 
-    /// Takes the next piece of the text, of any length.
+    /// Reads the next piece of the text, of any length.
     ///
-    /// A fault comes as soon as the byte that decides it was fed: the LF of a line, or the byte that makes a line too long.
-    /// After a fault and after memory ran out each call answers the same.
+    /// A fault is returned as soon as the byte that decides it was fed: the LF of a line, or the byte that makes a line too long. After a fault, and
+    /// after memory ran out, each call returns the same.
     #[tactic(auto, using(crate::proofs::ReaderLemmas::fed, crate::proofs::DecidedLemmas::ok_decided, crate::proofs::DecidedLemmas::stop_decided))]
     pub fn feed(&mut self, alloc: Global, piece: &[u8]) -> Result<(), Stop<TextFault>>
         ensures feeds { Feeds result self.old piece.now self.new }

@@ -1,4 +1,4 @@
-//! The records, each read from what stands behind its keyword.
+//! The records, each read from the bytes after its keyword.
 ghost use Rattle.std.specs.Prelude.{◌≡◌, codes};
 ghost use Rattle.std.specs.Str.{bytes_eq};
 ghost use Rattle.sym_records.specs.Text.{key_of, record_of, record_at, line_read};
@@ -158,7 +158,7 @@ fn change_of(alloc: Global, bytes: &[u8]) -> Result<SymLine, Stop<TextKind>>
     Ok(SymLine::Change { address, rules })
 }
 
-/// The record of a keyword, from what stands behind it.
+/// The record with a keyword, read from the bytes after the keyword.
 #[inline]
 fn record_of(alloc: Global, keyword: Keyword, bytes: &[u8]) -> Result<SymLine, Stop<TextKind>>
     ensures { Gives result (λ s. s) (record_of keyword bytes.now) }
@@ -187,7 +187,7 @@ fn record_at(alloc: Global, line: &[u8]) -> Result<SymLine, Stop<TextKind>>
     record_of(alloc, keyword, rest)
 }
 
-/// What a line holds: a record, or nothing where it is blank.
+/// What a line has: a record, or nothing if it is blank.
 #[inline]
 #[tactic(auto, unfolding(sym_records::specs::Text::line_read))]
 pub(crate) fn line_read(alloc: Global, line: &[u8]) -> Result<Option<SymLine>, Stop<TextKind>>

@@ -4,16 +4,16 @@ use sym_rules::TextFault;
 /// Why a symbol file is refused.
 #[derive(Clone, Copy, Debug, PartialEq, Eq)]
 pub enum SymRefusal {
-    /// It has more bytes than it may have.
+    /// The file is longer than it may be.
     TooLong,
-    /// Its text has a fault.
+    /// The text has a fault.
     Text(TextFault),
 }
 
 /// Why a symbol file has no records.
 #[derive(Clone, Copy, Debug, PartialEq, Eq)]
 pub enum SymEnd {
-    /// It cannot be opened or read.
+    /// The file cannot be opened or read.
     Unread,
     Refused(SymRefusal),
 }

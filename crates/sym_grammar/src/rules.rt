@@ -9,7 +9,7 @@ use std::alloc::Global;
 use sym_edges::Stop;
 use sym_rules::{RuleText, Rules, TextKind, Token, Tokens, cut_word, skip_spaces};
 
-/// The next token and what stands behind it, unless a rule or the end of the line is next.
+/// The next token and the bytes after it; nothing if a rule or the end of the line is next.
 #[inline]
 #[tactic(auto, using(crate::proofs::RunLemmas::run_end, crate::proofs::RunLemmas::run_rule, crate::proofs::RunLemmas::run_token, crate::proofs::RunLemmas::run_fault, crate::proofs::FieldLemmas::from_shorter))]
 fn next_token(alloc: Global, bytes: &[u8]) -> Result<Option<(Token, &[u8])>, Stop<TextKind>>
@@ -31,7 +31,7 @@ fn next_token(alloc: Global, bytes: &[u8]) -> Result<Option<(Token, &[u8])>, Sto
     Ok(Some((token, rest)))
 }
 
-/// The tokens up to the next rule or the end of the line, and what stands from there on.
+/// The tokens up to the next rule or the end of the line, and the bytes from there on.
 #[tactic(auto, using(crate::proofs::RunLemmas::run_first))]
 fn tokens_at(alloc: Global, bytes: &[u8]) -> Result<(Tokens, &[u8]), Stop<TextKind>>
     ensures tokens { Gives result (λ x. (x.0, words x.1.now)) (token_run (words bytes.now)) }
@@ -43,7 +43,7 @@ fn tokens_at(alloc: Global, bytes: &[u8]) -> Result<(Tokens, &[u8]), Stop<TextKi
     }
 }
 
-/// The same behind one token.
+/// The same after one token.
 #[tactic(auto, using(crate::proofs::RunLemmas::before_none, crate::proofs::RunLemmas::before_some, crate::proofs::RunLemmas::before_fault))]
 fn tokens_after(alloc: Global, a: Token, bytes: &[u8]) -> Result<(Tokens, &[u8]), Stop<TextKind>>
     ensures tokens { Gives result (λ x. (x.0, words x.1.now)) (put_before (a ∷ []) (token_run (words bytes.now))) }
@@ -55,7 +55,7 @@ fn tokens_after(alloc: Global, a: Token, bytes: &[u8]) -> Result<(Tokens, &[u8])
     }
 }
 
-/// The same behind two tokens.
+/// The same after two tokens.
 #[tactic(auto, using(crate::proofs::RunLemmas::before_none, crate::proofs::RunLemmas::before_some, crate::proofs::RunLemmas::before_fault))]
 fn tokens_after_two(
     alloc: Global,
@@ -77,7 +77,7 @@ fn tokens_after_two(
     }
 }
 
-/// The same behind three tokens.
+/// The same after three tokens.
 #[tactic(auto, using(crate::proofs::RunLemmas::before_none, crate::proofs::RunLemmas::before_some, crate::proofs::RunLemmas::before_fault))]
 fn tokens_after_three(
     alloc: Global,
@@ -95,7 +95,7 @@ fn tokens_after_three(
     }
 }
 
-/// The same behind four tokens.
+/// The same after four tokens.
 #[tactic(auto, using(crate::proofs::RunLemmas::before_none, crate::proofs::RunLemmas::before_some, crate::proofs::RunLemmas::before_fault))]
 fn tokens_after_four(
     alloc: Global,
@@ -122,7 +122,7 @@ fn tokens_after_four(
     }
 }
 
-/// The same behind many tokens.
+/// The same after many tokens.
 #[tactic(auto, using(crate::proofs::RunLemmas::before_none, crate::proofs::RunLemmas::before_some, crate::proofs::RunLemmas::before_fault))]
 fn more_tokens(
     alloc: Global,
@@ -145,7 +145,7 @@ fn more_tokens(
     }
 }
 
-/// The next rule, and what stands behind it.
+/// The next rule, and the bytes after it.
 #[tactic(auto, using(crate::proofs::RunLemmas::rule_end, crate::proofs::RunLemmas::rule_next, crate::proofs::RunLemmas::rule_empty, crate::proofs::RunLemmas::rule_bad_target, crate::proofs::RunLemmas::rule_bad_tokens, crate::proofs::FieldLemmas::from_shorter))]
 fn rule_at(alloc: Global, bytes: &[u8]) -> Result<(RuleText, &[u8]), Stop<TextKind>>
     ensures rule { Gives result (λ x. (x.0, words x.1.now)) (rule_run (words bytes.now)) }
@@ -170,8 +170,8 @@ fn rule_at(alloc: Global, bytes: &[u8]) -> Result<(RuleText, &[u8]), Stop<TextKi
     Ok((RuleText { target, tokens }, later))
 }
 
-/// How many `:` stand in front of a space, as the one behind the target of each rule does: the memory for the rules of a line is taken at once.
-/// A rule has five bytes at least, so other lines have no more room than those of as many rules.
+/// For how many rules memory is allocated at once: the number of `:` directly before a space, as after the target of each rule. Since a rule has at
+/// least five bytes, the number is at most a fifth of that of the bytes, plus one.
 #[inline]
 fn rule_room(bytes: &[u8]) -> usize {
     let mut count: usize = 0;

@@ -20,7 +20,7 @@ pub(crate) fn ends_in_colon(word: &[u8]) -> bool
     }
 }
 
-/// Whether a name of a rule may begin with the byte.
+/// Whether a name in a rule may begin with the byte.
 #[inline]
 fn begins_symbol(b: u8) -> bool
     ensures { result ≡ begins_symbol b }
@@ -28,7 +28,7 @@ fn begins_symbol(b: u8) -> bool
     b == b'$' || b == b'.' || (b'A' <= b && b <= b'Z') || (b'a' <= b && b <= b'z')
 }
 
-/// Whether the word begins as a name of a rule does, and does not end with `:`.
+/// Whether the word begins as a name in a rule does, and does not end with `:`.
 #[inline]
 #[tactic(auto, using(sym_rules::proofs::LastLemmas::symbol_ends, sym_rules::proofs::LastLemmas::symbol_other, sym_rules::proofs::LastLemmas::symbol_nothing))]
 fn is_symbol(word: &[u8]) -> bool
@@ -48,7 +48,7 @@ fn other_name(alloc: Global, name: &[u8]) -> Result<RuleName, OutOfMemory>
     RuleName::of(alloc, text)
 }
 
-/// The target of a name.
+/// The target that a name stands for.
 #[tactic(auto, unfolding(sym_rules::specs::RuleReading::named_target))]
 fn named_target(alloc: Global, name: &[u8]) -> Result<Target, Stop<TextKind>>
     ensures { Gives result (λ t. t) (Ok (named_target name.now)) }
@@ -80,7 +80,7 @@ pub(crate) fn target_at(alloc: Global, word: &[u8]) -> Result<Target, Stop<TextK
     named_target(alloc, name)
 }
 
-/// The sign of an operation.
+/// The operator that a word spells.
 #[inline]
 #[tactic(auto, unfolding(sym_rules::specs::RuleReading::sign_of))]
 fn sign_of(word: &[u8]) -> Option<Token>
@@ -110,7 +110,7 @@ fn sign_of(word: &[u8]) -> Option<Token>
     None
 }
 
-/// The token of a name.
+/// The token that a name stands for.
 #[tactic(auto, unfolding(sym_rules::specs::RuleReading::named_token))]
 fn named_token(alloc: Global, name: &[u8]) -> Result<Token, Stop<TextKind>>
     ensures { Gives result (λ t. t) (Ok (named_token name.now)) }
@@ -127,7 +127,7 @@ fn named_token(alloc: Global, name: &[u8]) -> Result<Token, Stop<TextKind>>
     }
 }
 
-/// The token of a word: a name, an integer or a sign.
+/// The token of a word: a name, an integer or an operator.
 #[tactic(auto, unfolding(sym_rules::specs::RuleReading::token_at))]
 pub(crate) fn token_at(alloc: Global, word: &[u8]) -> Result<Token, Stop<TextKind>>
     ensures { Gives result (λ t. t) (token_at word.now) }

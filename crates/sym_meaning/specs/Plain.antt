@@ -1,9 +1,9 @@
--- Records that a look-up of functions, inlined copies and lines passes over.
+-- Records that a look-up of functions, inlined copies and lines skips.
 use Rattle.std.specs.Prelude.{List, [], ◌∷◌}
 use Rattle.sym_records.specs.declared.line.SymLine.{SymLine}
 use Rattle.sym_records.specs.declared.line.SymLine.TheVariants.{File, Origin, Func, Inline, Line}
 
--- records that are no FUNC, and nothing that stands under one
+-- a record that is neither a FUNC nor a record under a FUNC
 abbrev pub IsPlain : SymLine → Type 0
 IsPlain (Func many address size params name) = ⊥
 IsPlain (Inline level line file origin ranges) = ⊥
@@ -14,7 +14,7 @@ abbrev pub ArePlain : List SymLine → Type 0
 ArePlain [] = Prim.Unit {0}
 ArePlain (s ∷ lines) = IsPlain s × ArePlain lines
 
--- records that are no FILE
+-- a record that is not a FILE
 abbrev pub IsNoFile : SymLine → Type 0
 IsNoFile (File number name) = ⊥
 IsNoFile _ = Prim.Unit {0}
@@ -23,7 +23,7 @@ abbrev pub HaveNoFile : List SymLine → Type 0
 HaveNoFile [] = Prim.Unit {0}
 HaveNoFile (s ∷ lines) = IsNoFile s × HaveNoFile lines
 
--- records that are no INLINE_ORIGIN
+-- a record that is not an INLINE_ORIGIN
 abbrev pub IsNoOrigin : SymLine → Type 0
 IsNoOrigin (Origin number name) = ⊥
 IsNoOrigin _ = Prim.Unit {0}

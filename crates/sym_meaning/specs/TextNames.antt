@@ -6,28 +6,28 @@ use Rattle.sym_records.specs.declared.line.Extent.{Extent}
 use Rattle.sym_records.specs.declared.line.SymLine.{SymLine}
 use Rattle.sym_records.specs.declared.line.SymLine.TheVariants.{File, Origin, Func, Inline, Line}
 
--- whether the address is one of `size` addresses from a first one on
+-- whether x is one of the `size` addresses from `address` on
 abbrev pub is_within : ℕ → ℕ → ℕ → Bool
 is_within address size x = nat_le address x && nat_lt x (address + size)
 
--- whether it is a FUNC that covers the address
+-- whether the record is a FUNC that covers the address
 abbrev pub is_func_at : ℕ → SymLine → Bool
 is_func_at x (Func many address size params name) = is_within address size x
 is_func_at x _ = false
 
--- whether it is a line record that covers the address
+-- whether the record is a line record that covers the address
 abbrev pub is_line_at : ℕ → SymLine → Bool
 is_line_at x (Line address size line file) = is_within address size x
 is_line_at x _ = false
 
--- the records directly under a FUNC: the INLINE and line records at the front of what stands after it
+-- the records directly under a FUNC: the INLINE and line records that follow it, up to another record
 abbrev pub under : List SymLine → List SymLine
 under [] = []
 under (Inline level line file origin ranges ∷ lines) = Inline level line file origin ranges ∷ under lines
 under (Line address size line file ∷ lines) = Line address size line file ∷ under lines
 under (_ ∷ lines) = []
 
--- a FUNC, and what stands after it
+-- a FUNC, and the records after it
 pub record Found : Type 0 where
   pub func : SymLine
   pub behind : List SymLine
@@ -53,11 +53,11 @@ abbrev pub file_name : SymLine → List ℕ
 file_name (File number name) = name
 file_name _ = []
 
--- the name of the first FILE of that number
+-- the name of the first FILE with the number n
 abbrev pub text_path : List SymLine → ℕ → Option (List ℕ)
 text_path lines n = option_map file_name (find (is_file n) lines)
 
--- what a line record says: the path of its file, where that FILE is there, and the line
+-- what a line record says: the path of its FILE, if there is such a FILE, and the line
 abbrev pub path_and_line : List SymLine → SymLine → Option (List ℕ) × ℕ
 path_and_line lines (Line address size line file) = (text_path lines file, line)
 path_and_line lines _ = (None, 0)
@@ -66,11 +66,11 @@ path_and_line lines _ = (None, 0)
 abbrev pub line_under : ℕ → Found → Option SymLine
 line_under x f = find (is_line_at x) (under f.behind)
 
--- path and line of the first line record that covers the address, under the first FUNC that does
+-- path and line of the first line record that covers the address, under the first FUNC that covers it
 unfoldable pub text_line : List SymLine → ℕ → Option (Option (List ℕ) × ℕ)
 text_line lines x = option_map (path_and_line lines) (option_and_then (line_under x) (text_func lines x))
 
--- whether it is an INLINE of a level that covers the address by one of its ranges
+-- whether the record is an INLINE of the level, and one of its ranges covers the address
 abbrev pub is_inline_at : ℕ → ℕ → SymLine → Bool
 is_inline_at level x (Inline own line file origin ranges) = (own == level) && list_any (λ (r : Extent). is_within r.address r.size x) ranges
 is_inline_at level x _ = false
@@ -83,28 +83,29 @@ abbrev pub origin_name : SymLine → List ℕ
 origin_name (Origin number name) = name
 origin_name _ = []
 
--- the name of the first INLINE_ORIGIN of that number
+-- the name of the first INLINE_ORIGIN with the number n
 abbrev pub text_origin : List SymLine → ℕ → Option (List ℕ)
 text_origin lines n = option_map origin_name (find (is_origin n) lines)
 
--- a call that was inlined: the name of the function, and path and line of the call
+-- an inlined call: the name of the function, and path and line of the call
 pub record Call : Type 0 where
   pub name : Option (List ℕ)
   pub path : Option (List ℕ)
   pub line : ℕ
 
--- what an INLINE says: the name of its INLINE_ORIGIN and the path of its FILE, where these are there, and the line
+-- what an INLINE says: the name of its INLINE_ORIGIN and the path of its FILE, if there are such records, and the line
 abbrev pub call_of : List SymLine → SymLine → Call
 call_of lines (Inline level line file origin ranges) = record { name = text_origin lines origin; path = text_path lines file; line = line }
 call_of lines _ = record { name = None; path = None; line = 0 }
 
--- how many levels INLINE records have: one more than the highest
+-- the number of levels of INLINE records: one more than the highest level
 abbrev pub level_count : List SymLine → ℕ
 level_count [] = 0
 level_count (Inline level line file origin ranges ∷ lines) = max (level + 1) (level_count lines)
 level_count (_ ∷ lines) = level_count lines
 
--- at each of so many levels, from one on, the first of some INLINE records that covers the address; it ends at a level that has none
+-- for each level from `level` on, the first INLINE record that covers the address; the list ends at a level without one, and has at most `levels`
+-- records
 abbrev pub inlines_from : ℕ → ℕ → ℕ → List SymLine → List SymLine
 inlines_from x level zero records = []
 inlines_from x level (suc levels) records = option_map_or (λ s. s ∷ inlines_from x (level + 1) levels records) (find (is_inline_at level x) records) []
@@ -113,6 +114,6 @@ inlines_from x level (suc levels) records = option_map_or (λ s. s ∷ inlines_f
 abbrev pub inlines_under : ℕ → Found → List SymLine
 inlines_under x f = inlines_from x 0 (level_count (under f.behind)) (under f.behind)
 
--- the calls at the address, the outermost first: what the INLINE records say that cover it, under the first FUNC that does
+-- the calls at the address, the outermost first: what the INLINE records under the first FUNC that covers the address say
 unfoldable pub text_chain : List SymLine → ℕ → List Call
 text_chain lines x = map (call_of lines) (option_map_or (inlines_under x) (text_func lines x) [])

@@ -1,28 +1,28 @@
--- The canonical spelling of a record (Breakpad's symbol_files.md): a keyword and its fields, one space in front of each field, numbers in
--- lower-case hexadecimal or in decimal, both without leading zeros, and LF at the end.
+-- The canonical spelling of a record (Breakpad's symbol_files.md): a keyword, its fields with one space before each, and LF at the end. Numbers are
+-- in lower-case hexadecimal or in decimal, both without leading zeros.
 use Rattle.std.specs.Prelude.{ℕ, List, [], ◌∷◌, ◌++◌, drop, codes}
 use Rattle.std.specs.List.{flat_map}
 use Rattle.sym_records.specs.Fields.{spelled, hex}
 use Rattle.sym_records.specs.Records.{layout, headed, keyword, values}
 use Rattle.sym_records.specs.declared.line.SymLine.{SymLine}
 
--- a word and further ones, one space in front of each of these
+-- a word, then more words with one space before each
 abbrev pub spaced : List ℕ → List (List ℕ) → List ℕ
 spaced word rest = word ++ flat_map (λ field. 32 ∷ field) rest
 
--- a record without the end of its line: the first of the spaces is left out
+-- a record without the end of its line; the space before its first word is left out
 unfoldable pub body : SymLine → List ℕ
 body s = drop 1 (headed (keyword s) ++ spelled (layout (keyword s)) (values s))
 
--- a record's one canonical spelling
+-- the one canonical spelling of a record
 unfoldable pub canon : SymLine → List ℕ
 canon s = body s ++ 10 ∷ []
 
--- the canonical spelling of records one after another
+-- the canonical spellings of records, one after another
 unfoldable pub canon_text : List SymLine → List ℕ
 canon_text lines = flat_map canon lines
 
--- a frame record up to its rules: its words and its numbers
+-- a frame record up to its rules: its keyword and its numbers
 unfoldable pub init_front : ℕ → ℕ → List ℕ
 init_front address size = codes "STACK CFI INIT" ++ ((32 ∷ hex address) ++ (32 ∷ hex size))
 

@@ -1,5 +1,4 @@
--- What stands in a line after its keyword (Breakpad's symbol_files.md): fields in the middle, and one that ends the line. One space stands in
--- front of each.
+-- What follows the keyword in a line (Breakpad's symbol_files.md): middle fields, then one last field. One space comes before each.
 use Rattle.std.specs.Prelude.{ℕ, ◌^◌, ◌&&◌, Bool, true, false, nat_lt, List, [], ◌∷◌, ◌++◌, length, codes}
 use Rattle.std.specs.List.{list_all, flat_map}
 use Rattle.std.specs.Fmt.{decimal, digits}
@@ -10,14 +9,14 @@ use Rattle.sym_rules.specs.RuleValidity.{are_rules}
 use Rattle.sym_rules.specs.declared.rules.RuleText.{RuleText}
 use Rattle.sym_records.specs.declared.line.Extent.{Extent}
 
--- a field in the middle: a word, a hexadecimal number, one that `m` may stand in front of, or a decimal number
+-- a middle field: a word, a hexadecimal number, a hexadecimal number with an optional `m` before it, or a decimal number
 pub data Middle : Type 0 where
   Word : Middle
   Hex : Middle
   Marked : Middle
   Decimal : Middle
 
--- the fields of a line: it ends with a name, frame rules, ranges, or a decimal number
+-- the kinds of the fields of a line: the last is a name, frame rules, ranges, or a decimal number
 pub data Shape : Type 0 where
   Name : Shape
   Rules : Shape
@@ -25,14 +24,14 @@ pub data Shape : Type 0 where
   Last : Shape
   Then : Middle → Shape → Shape
 
--- what a field in the middle says
+-- the value of a middle field
 abbrev pub Held : Middle → Type 0
 Held Word = List ℕ
 Held Hex = ℕ
 Held Marked = Bool × ℕ
 Held Decimal = ℕ
 
--- what the fields say
+-- the values of the fields of a line
 abbrev pub Values : Shape → Type 0
 Values Name = List ℕ
 Values Rules = List RuleText
@@ -46,12 +45,12 @@ Values (Then m rest) = Held m × Values rest
 abbrev pub hex : ℕ → List ℕ
 hex n = digits 16 false n
 
--- `m`, where symbols of other names have the address too
+-- `m`, if symbols with other names have the address too
 abbrev pub mark : Bool → List ℕ
 mark true = codes " m"
 mark false = []
 
--- a field in the middle
+-- a middle field
 abbrev pub spelled_middle : (m : Middle) → Held m → List ℕ
 spelled_middle Word w = 32 ∷ w
 spelled_middle Hex n = 32 ∷ hex n
@@ -62,7 +61,7 @@ spelled_middle Decimal n = 32 ∷ decimal n
 abbrev pub range_words : Extent → List (List ℕ)
 range_words range = hex range.address ∷ hex range.size ∷ []
 
--- with one space in front of each
+-- a range, with one space before each word
 unfoldable pub spelled_range : Extent → List ℕ
 spelled_range range = (32 ∷ hex range.address) ++ 32 ∷ hex range.size
 
@@ -76,18 +75,18 @@ spelled (Then m rest) v = spelled_middle m v.0 ++ spelled rest v.1
 
 -- What a line can carry.
 
--- a field: not empty, without spaces and LFs
+-- a field: not empty, without spaces and without LFs
 unfoldable pub is_field : List ℕ → Bool
 is_field bytes = nat_lt 0 (length bytes) && list_all is_within_field bytes
 
--- a number in hexadecimal is below 2^64, a decimal one below 2^32
+-- a middle field that a line can carry: a hexadecimal number is below 2^64, a decimal number below 2^32
 abbrev pub fits_middle : (m : Middle) → Held m → Bool
 fits_middle Word w = is_field w
 fits_middle Hex n = nat_lt n (2 ^ 64)
 fits_middle Marked x = nat_lt x.1 (2 ^ 64)
 fits_middle Decimal n = nat_lt n (2 ^ 32)
 
--- a range of two such numbers
+-- a range whose two numbers are below 2^64
 abbrev pub is_range : Extent → Bool
 is_range range = nat_lt range.address (2 ^ 64) && nat_lt range.size (2 ^ 64)
 
@@ -95,7 +94,7 @@ is_range range = nat_lt range.address (2 ^ 64) && nat_lt range.size (2 ^ 64)
 unfoldable pub are_ranges : List Extent → Bool
 are_ranges ranges = nat_lt 0 (length ranges) && list_all is_range ranges
 
--- the fields of a line
+-- the fields that a line can carry
 abbrev pub fit : (shape : Shape) → Values shape → Bool
 fit Name name = is_name name
 fit Rules rules = are_rules rules

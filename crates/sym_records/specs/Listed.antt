@@ -1,4 +1,4 @@
--- The fields of a record as a list: what stands after its keyword, field by field.
+-- The fields of a record as a list: what follows its keyword, field by field.
 use Rattle.std.specs.Prelude.{ℕ, ◌^◌, Bool, nat_lt, List, [], ◌∷◌, ◌++◌}
 use Rattle.std.specs.List.{flat_map}
 use Rattle.std.specs.Fmt.{decimal}
@@ -14,7 +14,7 @@ use Rattle.sym_records.specs.declared.field.Field.{Field}
 use Rattle.sym_records.specs.declared.field.Field.TheVariants as held
 use Rattle.sym_records.specs.Fields.{Middle, Word, Hex, Marked, Decimal, Shape, Name, Rules, Ranges, Last, Then, Held, Values, mark, spelled_range, are_ranges}
 
--- what a field says
+-- a field with its value
 pub data Said : Type 0 where
   word : List ℕ → Said
   name : List ℕ → Said
@@ -24,7 +24,7 @@ pub data Said : Type 0 where
   ranges : List Extent → Said
   rules : List RuleText → Said
 
--- what a field of the code says
+-- a field of the code with its value
 abbrev pub said : Field → Said
 said (held.Word w) = word w.now
 said (held.Name n) = name n.now
@@ -34,7 +34,7 @@ said (held.Decimal n) = count n
 said (held.Ranges rs) = ranges rs.now
 said (held.Rules rs) = rules rs.now
 
--- the spelling of a field, with one space in front
+-- the spelling of a field, with one space before it
 abbrev pub spelled_field : Said → List ℕ
 spelled_field (word w) = 32 ∷ w
 spelled_field (name n) = 32 ∷ n
@@ -44,7 +44,7 @@ spelled_field (count n) = 32 ∷ decimal n
 spelled_field (ranges rs) = flat_map spelled_range rs
 spelled_field (rules rs) = spelled_rules rs
 
--- whether a line can carry it
+-- whether a line can carry the field
 abbrev pub fits_field : Said → Bool
 fits_field (word w) = is_field w
 fits_field (name n) = is_name n
@@ -54,7 +54,7 @@ fits_field (count n) = nat_lt n (2 ^ 32)
 fits_field (ranges rs) = are_ranges rs
 fits_field (rules rs) = are_rules rs
 
--- the fields of a shape
+-- the fields of a line as a list, given their kinds and values
 abbrev pub middle_said : (m : Middle) → Held m → Said
 middle_said Word w = word w
 middle_said Hex n = number n
@@ -68,7 +68,7 @@ listed Ranges rs = ranges rs ∷ []
 listed Last n = count n ∷ []
 listed (Then m rest) v = middle_said m v.0 ∷ listed rest v.1
 
--- a record's fields
+-- the fields of a record
 abbrev pub fields_in : Parts → List Said
 fields_in (after k v) = listed (layout k) v
 

@@ -1,9 +1,10 @@
--- Which record may follow which (Breakpad's symbol_files.md).
+-- Which records may follow which (Breakpad's symbol_files.md).
 use Rattle.std.specs.Prelude.{Bool, true, false}
 use Rattle.sym_records.specs.declared.place.Place.{Place}
 use Rattle.sym_records.specs.declared.place.Place.TheVariants.{Start, Inside, Function, Frame}
 
--- what a record is to those around it: the first of all, one of its own, a function, a part of a function, a frame record, or a change of one
+-- the role of a record among its neighbours: the first of all, a record that belongs to no other, a function, a part of a function, a frame record,
+-- or a change of a frame record
 pub data Role : Type 0 where
   First : Role
   Own : Role
@@ -12,8 +13,8 @@ pub data Role : Type 0 where
   Frames : Role
   Changes : Role
 
--- which may stand at a place: the first at the start alone, parts of a function in a function alone, and a change directly after a frame record
--- alone
+-- which records may be at a place: the first record only at the start, a part of a function only in a function, and a change only after a frame
+-- record or another change
 abbrev pub may_stand : Place → Role → Bool
 may_stand Start First = true
 may_stand Start role = false
@@ -28,7 +29,7 @@ may_stand Frame First = false
 may_stand Frame Owned = false
 may_stand Frame role = true
 
--- the place after one; a part of a function leaves it where it is
+-- the place after a record; a part of a function does not change the place
 abbrev pub place_behind_role : Place → Role → Place
 place_behind_role place First = Inside
 place_behind_role place Own = Inside

@@ -1,4 +1,4 @@
--- The reading of a whole text (Breakpad's symbol_files.md): its records in order, or its first fault with the number of the line.
+-- The reading of a whole text (Breakpad's symbol_files.md): its records in order, or its first fault with the number of its line.
 use Rattle.std.specs.Prelude.{ℕ, ◌+◌, ◌-◌, ◌^◌, ◌&&◌, Bool, true, false, not, min, nat_lt, if◌then◌else◌, List, [], ◌∷◌, ◌++◌, length, codes, Option, Some, None, Result, Ok, Err}
 use Rattle.std.specs.Str.{bytes_eq}
 use Rattle.sym_edges.specs.Results.{◌>>=◌}
@@ -13,7 +13,7 @@ use Rattle.sym_rules.specs.declared.text_fault.TextFault.{TextFault}
 use Rattle.sym_rules.specs.declared.text_fault.TextKind.{TextKind}
 use Rattle.sym_rules.specs.declared.text_fault.TextKind.TheVariants.{Empty, Misplaced, LongLine, NoModule}
 
--- whether a record may stand at a place
+-- whether a record may be at a place
 abbrev pub fits : Place → SymLine → Bool
 fits place s = may_stand place (role (keyword s))
 
@@ -21,17 +21,17 @@ fits place s = may_stand place (role (keyword s))
 abbrev pub leads : Place → SymLine → Place
 leads place s = place_behind_role place (role (keyword s))
 
--- what the lines so far gave: their records, the place after them, and how many lines there were
+-- what the lines so far gave: their records, the place after them, and the number of lines
 pub record Seen : Type 0 where
   pub records : List SymLine
   pub place : Place
   pub number : ℕ
 
--- the number of the next line; it stands still at the greatest u64
+-- the number of the next line; it stays at the greatest u64
 abbrev pub next_number : ℕ → ℕ
 next_number number = min (number + 1) (2 ^ 64 - 1)
 
--- no line yet
+-- before the first line
 abbrev pub start : Seen
 start = record { records = []; place = Start; number = 0 }
 
@@ -41,25 +41,25 @@ is_start Inside = false
 is_start Function = false
 is_start Frame = false
 
--- the first line that is not blank has another keyword than MODULE
+-- no record was read yet, and the line is not blank and does not begin with the word MODULE
 unfoldable pub lacks_module : Place → List ℕ → Bool
 lacks_module place line = is_start place && not (is_blank line) && not (bytes_eq (key_of line) (codes "MODULE"))
 
--- what a line holds joins what was seen
+-- what was seen, with the record of one more line, if the line has a record
 abbrev pub with_record : Seen → Option SymLine → Result Seen TextKind
 with_record seen None = Ok (record seen { number = next_number seen.number })
 with_record seen (Some s) =
     if fits seen.place s then Ok (record { records = seen.records ++ s ∷ []; place = leads seen.place s; number = next_number seen.number })
     else Err Misplaced
 
--- a line by its bytes; the kinds of fault in the order in which they are looked for
+-- what was seen, after one more line; faults are looked for in the order below
 unfoldable pub with_text : ℕ → Seen → List ℕ → Result Seen TextKind
 with_text limit seen line =
     if nat_lt limit (length line) then Err LongLine
     else if lacks_module seen.place line then Err NoModule
     else line_read line >>= with_record seen
 
--- a fault is given the number of its line
+-- a fault gets the number of its line
 abbrev pub numbered : {A : Type 0} → ℕ → Result A TextKind → Result A TextFault
 numbered number (Ok x) = Ok x
 numbered number (Err kind) = Err (record { kind = kind; line = number })
@@ -68,15 +68,15 @@ unfoldable pub with_lines : ℕ → Seen → List (List ℕ) → Result Seen Tex
 with_lines limit seen [] = Ok seen
 with_lines limit seen (line ∷ lines) = numbered (next_number seen.number) (with_text limit seen line) >>= λ after. with_lines limit after lines
 
--- a text holds at least one record
+-- a text has at least one record; otherwise it is a fault
 abbrev pub some_records : List SymLine → Result (List SymLine) TextFault
 some_records [] = Err (record { kind = Empty; line = 1 })
 some_records (s ∷ records) = Ok (s ∷ records)
 
--- the reading of a text whose lines have at most `limit` bytes without LF
+-- the reading of a text whose lines have at most `limit` bytes each, without LF
 unfoldable pub reading_within : ℕ → List ℕ → Result (List SymLine) TextFault
 reading_within limit bytes = with_lines limit start (split_lines bytes) >>= λ after. some_records after.records
 
--- the reading of a text
+-- the reading of a text; a line has at most 2^20 bytes
 unfoldable pub reading : List ℕ → Result (List SymLine) TextFault
 reading bytes = reading_within (2 ^ 20) bytes

@@ -1,4 +1,4 @@
--- The records of a symbol file (Breakpad's symbol_files.md): each is a keyword and fields.
+-- The records of a symbol file (Breakpad's symbol_files.md): each has a keyword and fields.
 use Rattle.std.specs.Prelude.{ℕ, List, [], codes}
 use Rattle.sym_records.specs.Fields.{Shape, Name, Rules, Ranges, Last, Then, Word, Hex, Marked, Decimal, Values}
 use Rattle.sym_records.specs.Places.{Role, First, Own, Owner, Owned, Frames, Changes}
@@ -7,15 +7,15 @@ use Rattle.sym_records.specs.declared.line.SymLine.TheVariants as line
 use Rattle.sym_records.specs.declared.keyword.Keyword.{Keyword}
 use Rattle.sym_records.specs.declared.keyword.Keyword.TheVariants as key
 
--- what belongs to a keyword: its words, with one space in front of each; the fields after it; what its records are to those around them; and the
--- record of such fields
+-- the properties of a keyword: its words, with one space before each; the kinds of the fields after it; the role of its records among their
+-- neighbours; and the record with given values of the fields
 pub record Row : Type 0 where
   pub words : List ℕ
   pub layout : Shape
   pub role : Role
   pub made : Values layout → SymLine
 
--- the keywords; a line record has no words
+-- the table of keywords; a line record has no words
 abbrev pub row : Keyword → Row
 row key.Module = record {
   words = codes " MODULE";
@@ -82,19 +82,19 @@ row key.Change = record {
 abbrev pub headed : Keyword → List ℕ
 headed k = (row k).words
 
--- the fields after a keyword
+-- the kinds of the fields after a keyword
 abbrev pub layout : Keyword → Shape
 layout k = (row k).layout
 
--- what the records of a keyword are
+-- the role of the records with a keyword
 abbrev pub role : Keyword → Role
 role k = (row k).role
 
--- the record of a keyword and fields
+-- the record with a keyword and fields
 abbrev pub made : (k : Keyword) → Values (layout k) → SymLine
 made k v = (row k).made v
 
--- a record apart: its fields after its keyword
+-- the parts of a record: its keyword, and the fields after it
 pub data Parts : Type 0 where
   after : (k : Keyword) → Values (layout k) → Parts
 
@@ -116,10 +116,10 @@ keyword_in (after k v) = k
 abbrev pub values_in : (p : Parts) → Values (layout (keyword_in p))
 values_in (after k v) = v
 
--- a record's keyword
+-- the keyword of a record
 abbrev pub keyword : SymLine → Keyword
 keyword s = keyword_in (parts s)
 
--- a record's fields
+-- the fields of a record
 abbrev pub values : (s : SymLine) → Values (layout (keyword s))
 values s = values_in (parts s)

@@ -1,4 +1,4 @@
--- A line of a symbol file (Breakpad's symbol_files.md): its first words say which record it is, and the fields stand after them.
+-- A line of a symbol file (Breakpad's symbol_files.md): its first words say which record it is, and the fields follow them.
 use Rattle.std.specs.Prelude.{ℕ, Bool, nat_lt, if◌then◌else◌, List, codes, Option, Some, None, Result, Ok, Err}
 use Rattle.std.specs.List.{list_all}
 use Rattle.std.specs.Char.{digit_value}
@@ -13,18 +13,18 @@ use Rattle.sym_records.specs.declared.line.SymLine.{SymLine}
 use Rattle.sym_records.specs.declared.keyword.Keyword.{Keyword}
 use Rattle.sym_records.specs.declared.keyword.Keyword.TheVariants as key
 
--- the next word, and what stands after it
+-- the next word, and the bytes after it
 abbrev pub next_word : List ℕ → List ℕ
 next_word bytes = before 32 (skip is_space bytes)
 
 abbrev pub behind_word : List ℕ → List ℕ
 behind_word bytes = from 32 (skip is_space bytes)
 
--- a line of spaces and CRs alone counts as a line and holds no record
+-- a blank line has only spaces and CRs; it counts as a line and has no record
 abbrev pub is_blank : List ℕ → Bool
 is_blank line = list_all is_margin line
 
--- a line without the CRs at its end and the spaces in front
+-- a line without the CRs at its end and without its leading spaces
 abbrev pub trimmed : List ℕ → List ℕ
 trimmed line = skip is_space (trim_end is_cr line)
 
@@ -32,22 +32,22 @@ trimmed line = skip is_space (trim_end is_cr line)
 unfoldable pub key_of : List ℕ → List ℕ
 key_of line = before 32 (trimmed line)
 
--- a hexadecimal digit, in either case
+-- a hexadecimal digit, in upper or lower case
 abbrev pub is_hex_digit : ℕ → Bool
 is_hex_digit b = nat_lt (digit_value b) 16
 
--- STACK CFI: its third word may be INIT
+-- after STACK CFI: the third word may be INIT
 unfoldable pub cfi_key : List ℕ → Keyword × List ℕ
 cfi_key bytes = if bytes_eq (next_word bytes) (codes "INIT") then (key.Init, behind_word bytes) else (key.Change, bytes)
 
--- STACK: its second word decides
+-- after STACK: the second word decides
 unfoldable pub stack_key : List ℕ → Result (Keyword × List ℕ) TextKind
 stack_key bytes =
     if bytes_eq (next_word bytes) (codes "CFI") then Ok (cfi_key (behind_word bytes))
     else if bytes_eq (next_word bytes) (codes "WIN") then Err fault.Windows
     else Err fault.Unknown
 
--- the keyword that a word is, and what stands after it
+-- the keyword that begins with a word, and the bytes after the keyword
 unfoldable pub worded_key : List ℕ → List ℕ → Result (Keyword × List ℕ) TextKind
 worded_key word rest =
     if bytes_eq word (codes "FUNC") then Ok (key.Func, rest)
@@ -60,15 +60,15 @@ worded_key word rest =
     else if bytes_eq word (codes "MODULE") then Ok (key.Module, rest)
     else Err fault.Unknown
 
--- the keyword of a line by its first word; a line record has none, and begins with a number
+-- the keyword of a line, given its first word; if that word has only hexadecimal digits, the line is a line record, which has no keyword
 unfoldable pub keyed : List ℕ → List ℕ → List ℕ → Result (Keyword × List ℕ) TextKind
 keyed word rest whole = if list_all is_hex_digit word then Ok (key.Line, whole) else worded_key word rest
 
--- the keyword of a line, and what stands after it
+-- the keyword of a line, and the bytes after it
 unfoldable pub key_at : List ℕ → Result (Keyword × List ℕ) TextKind
 key_at bytes = keyed (before 32 bytes) (from 32 bytes) bytes
 
--- the record after a keyword
+-- the record with a keyword, given the bytes after the keyword
 abbrev pub record_of : Keyword → List ℕ → Result SymLine TextKind
 record_of k bytes = fields_at (layout k) bytes >>= λ v. Ok (made k v)
 
@@ -76,6 +76,6 @@ record_of k bytes = fields_at (layout k) bytes >>= λ v. Ok (made k v)
 unfoldable pub record_at : List ℕ → Result SymLine TextKind
 record_at line = key_at (trimmed line) >>= λ found. record_of found.0 found.1
 
--- what a line holds: a record, or nothing where it is blank
+-- what a line has: a record, or nothing if it is blank
 unfoldable pub line_read : List ℕ → Result (Option SymLine) TextKind
 line_read line = if is_blank line then Ok None else record_at line >>= λ s. Ok (Some s)

@@ -1,4 +1,4 @@
-//! A sink that keeps what it takes, for spelling into memory.
+//! A sink that keeps the bytes it takes, for spelling into memory.
 ghost use Rattle.std.specs.Prelude.{◌≡◌, ◌≤◌, ◌<◌, ◌++◌, [], length, take, Some, Ok, IfOk, OnErr};
 ghost use Rattle.sym_edges.specs.Outside.{append_told, Rose};
 
@@ -6,7 +6,7 @@ use std::alloc::Global;
 use sym_edges::{Failed, OutOfMemory, Sink};
 use sym_rules::{ByteText, Waiting, hand_on};
 
-/// A sink that keeps what it takes. It fails where memory runs out.
+/// A sink that keeps the bytes it takes. It fails if memory runs out.
 #[derive(Drop)]
 pub struct ByteSink {
     pub bytes: Vec<u8>,
@@ -14,7 +14,7 @@ pub struct ByteSink {
 }
 
 impl ByteSink {
-    /// Nothing is taken yet.
+    /// A sink that has taken nothing.
     pub fn new(alloc: Global) -> ByteSink
         ensures { result.bytes.items ≡ [] }
     {
@@ -24,7 +24,7 @@ impl ByteSink {
         }
     }
 
-    /// What was taken, and behind it what waits.
+    /// The bytes that were taken, and after them the bytes that wait.
     pub(crate) fn into_text<const N: usize>(
         self,
         waiting: &mut Waiting<N>,

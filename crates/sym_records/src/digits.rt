@@ -6,7 +6,7 @@ ghost use Rattle.sym_records.specs.Fields.{hex};
 use std::marker::Model;
 use sym_rules::write_hex;
 
-/// A number in lower-case hexadecimal without leading zeros, which contracts see as its digits. Takes no memory.
+/// A number in lower-case hexadecimal without leading zeros, which contracts see as its digits. Allocates no memory.
 #[derive(Drop)]
 pub struct HexText {
     digits: [u8; 16],
@@ -46,7 +46,7 @@ impl HexText {
     }
 }
 
-/// The value of a hexadecimal digit, in either case.
+/// The value of a hexadecimal digit, in upper or lower case.
 #[inline]
 #[tactic(auto, unfolding(crate::specs::FieldReading::hex_digit))]
 pub fn hex_digit(b: u8) -> Option<u8>

@@ -11,7 +11,7 @@ pub enum Field<'a> {
     Name(&'a [u8]),
     /// A hexadecimal number.
     Hex(u64),
-    /// Perhaps `m`, then a hexadecimal number.
+    /// An optional `m`, then a hexadecimal number.
     Marked(bool, u64),
     /// A decimal number.
     Decimal(u32),

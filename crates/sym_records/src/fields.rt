@@ -1,4 +1,4 @@
-//! Whether a record's fields can stand in a line.
+//! Whether a record's fields can be in a line.
 ghost use Rattle.std.specs.Prelude.{◌≡◌};
 ghost use Rattle.std.specs.List.{list_all};
 ghost use Rattle.sym_rules.specs.Cuts.{is_within_line};
@@ -6,7 +6,7 @@ ghost use Rattle.sym_records.specs.Fields.{is_field, is_name};
 
 use sym_rules::are_unparted;
 
-/// Whether the bytes have no end of a line among them.
+/// Whether the bytes have no LF.
 fn are_one_line(bytes: &[u8]) -> bool
     ensures { result ≡ list_all is_within_line bytes.now }
 {

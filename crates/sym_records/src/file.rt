@@ -10,8 +10,8 @@ use crate::place::Place;
 use crate::validity::is_valid;
 use std::marker::Model;
 
-/// A list of records that a text can spell: `MODULE` first, and each record valid. `file_of` tests a list, and
-/// `file_of_valid` takes one that is known to be valid.
+/// A list of records that a text can spell: `MODULE` first, and each record valid. `file_of` tests a list, and `file_of_valid` takes a list that is
+/// known to be valid.
 #[derive(Debug, Drop)]
 pub struct SymFile {
     lines: Vec<SymLine>,
@@ -29,14 +29,14 @@ impl Model for SymFile {
     ghost invariant = { λ f. first_bad f.lines.items ≡ None };
 }
 
-/// The list is not valid; `index` is that of its first bad record, and 0 for the empty list.
+/// The list is not valid; `index` is the index of its first bad record, or 0 for the empty list.
 #[derive(Clone, Copy, Debug, PartialEq, Eq)]
 pub struct NotValid {
     pub index: usize,
 }
 
-/// Whether the record may stand at the place: `MODULE` first and nowhere else, lines and inlines in a function, and a change
-/// of frame rules directly after a frame record.
+/// Whether the record may be at the place: `MODULE` only at the start, lines and inlines only in a function, and a change of frame rules only after a
+/// frame record or another change.
 pub fn fits(place: Place, line: &SymLine) -> bool
     ensures { result ≡ fits place line.now }
 {
@@ -61,7 +61,7 @@ pub fn leads(place: Place, line: &SymLine) -> Place
     }
 }
 
-/// The index of the first bad record, where there is a record.
+/// The index of the first bad record, if the list is not empty.
 #[tactic(auto, using(crate::proofs::FileLemmas::bad_at, crate::proofs::FileLemmas::good_at, crate::proofs::FileLemmas::none_left_at))]
 fn first_bad_line(lines: &[SymLine]) -> Option<usize>
     ensures { result ≡ first_bad_from 0 Place.Start lines.now }
@@ -76,7 +76,7 @@ fn first_bad_line(lines: &[SymLine]) -> Option<usize>
     None
 }
 
-/// The index of the first bad record, and 0 where there is none.
+/// The index of the first bad record, if there is one; 0 for the empty list.
 #[tactic(auto, using(crate::proofs::FileLemmas::first_bad_of_none, crate::proofs::FileLemmas::first_bad_of_some))]
 fn first_bad(lines: &[SymLine]) -> Option<usize>
     ensures { result ≡ first_bad lines.now }
@@ -87,7 +87,7 @@ fn first_bad(lines: &[SymLine]) -> Option<usize>
     first_bad_line(lines)
 }
 
-/// A symbol file of these records. A refused list is dropped. Takes no memory.
+/// A symbol file of these records. A refused list is dropped. Allocates no memory.
 #[tactic(auto, using(crate::proofs::ValidityLemmas::none_valid, crate::proofs::ValidityLemmas::some_first))]
 pub fn file_of(lines: Vec<SymLine>) -> Result<SymFile, NotValid>
     ensures exact { MatchResult result
@@ -103,7 +103,7 @@ pub fn file_of(lines: Vec<SymLine>) -> Result<SymFile, NotValid>
     }
 }
 
-/// A symbol file of records that are known to be valid, as those are that a reader took from a text. Takes no memory.
+/// A symbol file of records that are known to be valid, such as those that a reader took from a text. Allocates no memory.
 pub fn file_of_valid(lines: Vec<SymLine>) -> SymFile
     requires { first_bad lines.items ≡ None }
     ensures { result ≡ lines.items }
@@ -124,7 +124,7 @@ impl SymFile {
         self.lines.get(i)
     }
 
-    /// Takes no memory.
+    /// Allocates no memory.
     pub fn into_vec(self) -> Vec<SymLine>
         ensures { result.items ≡ self }
     {

@@ -28,8 +28,8 @@ fn put_records<O: Sink, const N: usize>(
     Ok(())
 }
 
-/// Writes the canonical spelling of all records, in pieces of up to 64 KiB. After a failure a front of it was added.
-/// What was written reads back as the records. Takes no memory.
+/// Writes the canonical spelling of all records, in pieces of up to 64 KiB. If it fails, a prefix of that spelling was added. What was written reads
+/// back as the records. Allocates no memory.
 pub fn write_file<O: Sink>(file: &SymFile, sink: &mut O) -> Result<(), Failed>
     ensures written { OnOk result (O.taken sink.new ≡ append_told (O.taken sink.old) (canon_text file.now)) }
     ensures front { OnErr result (AddsFront (O.taken sink.old) (O.taken sink.new) (canon_text file.now)) }

@@ -15,7 +15,7 @@ pub enum Keyword {
     Func,
     /// `INLINE`
     Inline,
-    /// A line record has none.
+    /// A line record has no keyword.
     Line,
     /// `PUBLIC`
     Public,

@@ -1,4 +1,4 @@
-//! How many bytes a record's line has.
+//! The length of a record's line.
 ghost use Rattle.std.specs.Prelude.{◌≡◌, ◌<◌, ◌-◌, ◌^◌, ◌+◌, length, nat_le, min};
 ghost use Rattle.std.specs.List.{flat_map};
 ghost use Rattle.sym_records.specs.Canon.{body};
@@ -74,7 +74,7 @@ fn fields_length(fields: &[Field<'_>]) -> usize
     total
 }
 
-/// Whether the record's line has at most so many bytes without its LF.
+/// Whether the record's line has at most `limit` bytes without its LF.
 pub(crate) fn is_short(limit: usize, line: &SymLine) -> bool
     requires { limit < 2 ^ 63 }
     ensures { result ≡ nat_le (length (body line.now)) limit }

@@ -16,7 +16,7 @@ pub struct Extent {
 /// Runs of addresses in order.
 pub type Extents = ListOf<Extent>;
 
-/// What `MODULE` says of the binary.
+/// What `MODULE` says about the binary.
 #[derive(Debug, Drop)]
 pub struct Binary {
     pub os: ByteText,
@@ -25,7 +25,7 @@ pub struct Binary {
     pub name: ByteText,
 }
 
-/// The same behind one pointer, since a file has one and a record should stay small.
+/// The same as one pointer, since a file has only one and a record should stay small.
 #[derive(Debug, Drop)]
 pub struct BoxedBinary {
     kept: Box<Binary>,
@@ -62,22 +62,22 @@ pub enum SymLine {
     Module {
         binary: BoxedBinary,
     },
-    /// `INFO text`: what else is known of the binary, as `CODE_ID` and its build id.
+    /// `INFO text`: more about the binary, for example `CODE_ID` and its build id.
     Info {
         text: ByteText,
     },
-    /// `FILE number name`: a source file, by the number that line records and `INLINE` name it with.
+    /// `FILE number name`: a source file, with the number by which line records and `INLINE` name it.
     File {
         number: u32,
         name: ByteText,
     },
-    /// `INLINE_ORIGIN number name`: a function that is inlined, by the number that `INLINE` names it with.
+    /// `INLINE_ORIGIN number name`: a function that is inlined, with the number by which `INLINE` names it.
     Origin {
         number: u32,
         name: ByteText,
     },
-    /// `FUNC [m] address size params name`: a function, and the size of its parameters on the stack. `m` says that
-    /// symbols of other names have the address too.
+    /// `FUNC [m] address size params name`: a function, and the size of its parameters on the stack. `m` says that symbols with other names have the
+    /// address too.
     Func {
         many: bool,
         address: u64,
@@ -101,21 +101,21 @@ pub enum SymLine {
         line: u32,
         file: u32,
     },
-    /// `PUBLIC [m] address params name`: a symbol's address, and the size of its parameters on the stack. `m` says that
-    /// symbols of other names have the address too.
+    /// `PUBLIC [m] address params name`: a symbol's address, and the size of its parameters on the stack. `m` says that symbols with other names have
+    /// the address too.
     Public {
         many: bool,
         address: u64,
         params: u64,
         name: ByteText,
     },
-    /// `STACK CFI INIT address size rules`: the frame rules from an address on, for so many bytes.
+    /// `STACK CFI INIT address size rules`: the frame rules for `size` bytes from an address on.
     Init {
         address: u64,
         size: u64,
         rules: Rules,
     },
-    /// `STACK CFI address rules`: the frame rules that change there, of the last `Init` before it.
+    /// `STACK CFI address rules`: the frame rules of the last `Init` before it that change at an address.
     Change {
         address: u64,
         rules: Rules,

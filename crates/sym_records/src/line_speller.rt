@@ -1,4 +1,4 @@
-//! Spelling a record that is in memory into a sink, forward, through a buffer in front of it.
+//! Spelling a record that is in memory into a sink, forward, through a buffer.
 ghost use Rattle.std.specs.Prelude.{◌≡◌, ◌<◌, ◌∷◌, ◌++◌, length};
 ghost use Rattle.std.specs.Fmt.{decimal};
 ghost use Rattle.std.specs.List.{flat_map};
@@ -40,7 +40,7 @@ fn put_decimal<O: Sink, const N: usize>(
     put_word(sink, waiting, buffer.format(number).as_bytes())
 }
 
-/// Puts `m` after one space, where it is to stand.
+/// Puts `m` after one space, if `many`.
 fn put_mark<O: Sink, const N: usize>(
     sink: &mut O,
     waiting: &mut Waiting<N>,
@@ -55,7 +55,7 @@ fn put_mark<O: Sink, const N: usize>(
     }
 }
 
-/// Puts a hexadecimal number, and `m` in front of it where it is to stand.
+/// Puts a hexadecimal number, and `m` before it if `many`.
 fn put_marked<O: Sink, const N: usize>(
     sink: &mut O,
     waiting: &mut Waiting<N>,
@@ -85,7 +85,7 @@ fn put_range<O: Sink, const N: usize>(
     put_hex(sink, waiting, range.size)
 }
 
-/// Puts ranges, with one space in front of each word.
+/// Puts ranges, with one space before each word.
 fn put_ranges<O: Sink, const N: usize>(
     sink: &mut O,
     waiting: &mut Waiting<N>,
@@ -121,7 +121,7 @@ fn put_field<O: Sink, const N: usize>(
     }
 }
 
-/// Puts fields, with one space in front of each.
+/// Puts fields, with one space before each.
 fn put_fields<O: Sink, const N: usize>(
     sink: &mut O,
     waiting: &mut Waiting<N>,
@@ -157,7 +157,7 @@ fn put_worded<O: Sink, const N: usize>(
     put_fields(sink, waiting, fields)
 }
 
-/// Puts a hexadecimal number, and fields after it, with one space in front of each.
+/// Puts a hexadecimal number, and fields after it with one space before each.
 fn put_numbered<O: Sink, const N: usize>(
     sink: &mut O,
     waiting: &mut Waiting<N>,

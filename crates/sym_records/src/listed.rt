@@ -5,7 +5,7 @@ ghost use Rattle.sym_records.specs.Listed.{said};
 use crate::field::Field;
 use std::marker::Model;
 
-/// The fields of a record, at most five of them. Contracts see what each says.
+/// The fields of a record, at most five. Contracts see the fields with their values.
 #[derive(Drop)]
 pub struct FieldList<'a> {
     held: [Field<'a>; 5],
@@ -75,7 +75,7 @@ impl<'a> FieldList<'a> {
         }
     }
 
-    /// The fields in the order in which they stand.
+    /// The fields, in the order of the line.
     pub fn as_slice(&self) -> &[Field<'a>]
         ensures { map said result.now ≡ self.now }
     {

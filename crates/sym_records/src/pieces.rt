@@ -1,4 +1,4 @@
-//! Texts that are held in pieces.
+//! Texts that are stored in pieces.
 ghost use Rattle.std.specs.Prelude.{◌≡◌, [], ◌++◌, OnOk};
 ghost use Rattle.sym_records.specs.Spelled.{text_bytes};
 
@@ -7,14 +7,14 @@ use std::mem::replace;
 use sym_edges::OutOfMemory;
 use sym_rules::ByteText;
 
-/// The number of bytes from which on a piece gets no more lines.
+/// A piece with this many bytes or more gets no more lines.
 const PIECE: usize = 1 << 20;
 
-/// Room for the line that makes a piece full. A longer one makes its piece grow.
+/// Room for the line that makes a piece full. If that line is longer, the piece grows.
 const SPARE: usize = 1 << 17;
 
-/// A text in pieces: lines are added to the last, and `turn` is called between them. A text that grows long is never
-/// copied as a whole, and little of its room stays empty.
+/// A text in pieces: lines are added to the last piece, and `turn` is called between lines. A long text is never copied as a whole, and little of its
+/// memory stays empty.
 #[derive(Debug, Drop)]
 pub struct TextPieces {
     pub full: Vec<ByteText>,
@@ -31,7 +31,7 @@ impl TextPieces {
         }
     }
 
-    /// Begins another piece where the last is full. The text stays the same.
+    /// Begins another piece if the last is full. The text stays the same.
     #[tactic(auto, using(crate::proofs::SpelledLemmas::turned))]
     pub fn turn(&mut self, alloc: Global) -> Result<(), OutOfMemory>
         ensures { OnOk result (text_bytes self.new ≡ text_bytes self.old) }

@@ -1,13 +1,13 @@
-//! Which records may follow a place in a file.
+//! The places in a file that differ in which records may follow.
 
-/// What stands before a line of a symbol file, as far as it decides which records may follow.
+/// What comes before a line of a symbol file, as far as it decides which records may follow.
 #[derive(Clone, Copy, Debug, PartialEq, Eq)]
 pub enum Place {
     /// No record.
     Start,
-    /// `MODULE` or another record that is none of functions and frames.
+    /// `MODULE`, or another record that belongs neither to a function nor to a frame.
     Inside,
-    /// `FUNC`, and perhaps its lines and inlines.
+    /// `FUNC`, perhaps with its lines and inlines.
     Function,
     /// `STACK CFI INIT` or `STACK CFI`.
     Frame,

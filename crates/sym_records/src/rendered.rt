@@ -1,4 +1,4 @@
-//! The spelling of what is in memory, as a text of its own.
+//! The spelling of a record or of rules in memory, as a separate text.
 ghost use Rattle.std.specs.Prelude.{◌≡◌, IfOk};
 ghost use Rattle.sym_rules.specs.Rules.{spelled_rules};
 ghost use Rattle.sym_records.specs.Canon.{canon};
@@ -22,7 +22,7 @@ pub fn render(alloc: Global, line: &SymLine) -> Result<ByteText, OutOfMemory>
     }
 }
 
-/// Rules, with one space in front of each word.
+/// Rules, with one space before each word.
 pub fn spell_rules(alloc: Global, rules: &[RuleText]) -> Result<ByteText, OutOfMemory>
     ensures { IfOk result (λ t. t ≡ spelled_rules rules.now) }
 {

@@ -8,8 +8,8 @@ use crate::keyword::Keyword;
 use crate::line::SymLine;
 use crate::listed::FieldList;
 
-/// The records, made into what `$make` writes: of each the words of its keyword, one space in front of each, and its fields
-/// in the order in which they stand.
+/// The table of records, in the form that `$make` writes: for each record the words of its keyword, with one space before each, and its fields in the
+/// order of the line.
 macro_rules! records {
     ($make:ident, $given:expr) => {
         $make! { $given;
@@ -87,14 +87,14 @@ pub fn keyword_of(line: &SymLine) -> Keyword
     records!(keyword_by, line)
 }
 
-/// The words of a keyword, one space in front of each. A line record has none.
+/// The words of a keyword, with one space before each. A line record has none.
 pub(crate) fn headed(keyword: Keyword) -> &'static [u8]
     ensures { result.now ≡ headed keyword }
 {
     records!(words_by, keyword)
 }
 
-/// The fields of a record (Breakpad's symbol_files.md): what stands after its keyword.
+/// The fields of a record (Breakpad's symbol_files.md): what follows its keyword.
 pub fn fields_of<'a>(line: &'a SymLine) -> FieldList<'a>
     ensures { result ≡ fields line.now }
 {

@@ -63,7 +63,7 @@ fn put_text<O: Sink, const N: usize>(
 }
 
 impl SymText {
-    /// A text that is the canonical one of its records. Takes no memory.
+    /// A text that is the canonical text of its records. Allocates no memory.
     pub fn of(text: TextPieces) -> SymText
         requires { IsSpelled (text_bytes text) }
         ensures { result ≡ records_in (text_bytes text) }
@@ -71,8 +71,7 @@ impl SymText {
         SymText { text }
     }
 
-    /// Writes the text. After a failure a front of it was added. What was written reads back as the records. Takes no
-    /// memory.
+    /// Writes the text. If it fails, a prefix of the text was added. What was written reads back as the records. Allocates no memory.
     #[tactic(auto, using(crate::proofs::SpelledLemmas::wrote_all, crate::proofs::SpelledLemmas::wrote_front, crate::proofs::SpelledLemmas::wrote_not_on, crate::proofs::SpelledLemmas::spelled_reads))]
     pub fn write<O: Sink>(&self, sink: &mut O) -> Result<(), Failed>
         ensures written { OnOk result (O.taken sink.new ≡ append_told (O.taken sink.old) (canon_text self.now)) }

@@ -1,4 +1,4 @@
-//! Adding records to a text without making them: numbers are written backward, into a line that has room for them.
+//! Adding records to a text without making the records first: numbers are written backward, into a line that has room for them.
 ghost use Rattle.std.specs.Prelude.{◌≡◌, ◌+◌, ◌≤◌, [], ◌∷◌, ◌++◌, length, drop, OnOk};
 ghost use Rattle.std.specs.Fmt.{decimal};
 ghost use Rattle.std.specs.List.{flat_map};
@@ -12,10 +12,10 @@ use clean_names::add_cleaned;
 use sym_edges::OutOfMemory;
 use sym_rules::{write_byte, write_bytes, write_decimal, write_hex, write_last};
 
-/// Room for the numbers of a line, with their spaces and its words.
+/// Room for the numbers of a line, with their spaces and the line's first words.
 const LINE: usize = 64;
 
-/// The same with the line's end, and a name that is left out.
+/// The same, with the line's end and the text that replaces an empty name.
 const ROOM: usize = 80;
 
 /// Writes a hexadecimal number after one space.
@@ -44,7 +44,7 @@ fn write_decimal_field(number: u32, line: &mut [u8], end: usize) -> usize
     write_byte(b' ', line, start)
 }
 
-/// Writes `m` after one space, where it is to stand.
+/// Writes `m` after one space, if `many`.
 #[inline]
 fn write_mark(many: bool, line: &mut [u8], end: usize) -> usize
     requires room { 2 ≤ end }
@@ -59,7 +59,7 @@ fn write_mark(many: bool, line: &mut [u8], end: usize) -> usize
     end
 }
 
-/// Adds the first words of a line, and makes room for so many bytes after them and for its end.
+/// Adds the first words of a line, and makes room for `room` bytes after them and for its end.
 #[inline]
 fn begin(text: &mut Vec<u8>, words: &[u8], room: usize) -> Result<(), OutOfMemory>
     ensures { OnOk result (text.new.items ≡ text.old.items ++ words.now) }
@@ -87,7 +87,7 @@ fn end(text: &mut Vec<u8>) -> Result<(), OutOfMemory>
     Ok(())
 }
 
-/// Adds a name, cleaned, and the end of its line; the space in front of the name is there.
+/// Adds a name, cleaned, and the end of its line; the space before the name is already there.
 fn end_with_name(text: &mut Vec<u8>, name: &[u8]) -> Result<(), OutOfMemory>
     ensures { OnOk result (text.new.items ≡ text.old.items ++ cleaned name.now ++ 10 ∷ []) }
 {
@@ -95,7 +95,7 @@ fn end_with_name(text: &mut Vec<u8>, name: &[u8]) -> Result<(), OutOfMemory>
     end(text)
 }
 
-/// Writes the words of `STACK CFI INIT` and its numbers, in front of its rules.
+/// Writes `STACK CFI INIT` and its numbers, before its rules.
 #[tactic(auto, using(crate::proofs::AddingLemmas::init_before))]
 pub fn write_init(address: u64, size: u64, line: &mut [u8], end: usize) -> usize
     requires room { 48 ≤ end }
@@ -109,7 +109,7 @@ pub fn write_init(address: u64, size: u64, line: &mut [u8], end: usize) -> usize
     write_bytes(b"STACK CFI INIT", line, at)
 }
 
-/// Writes the words of `STACK CFI` and its number, in front of its rules.
+/// Writes `STACK CFI` and its number, before its rules.
 #[tactic(auto, using(crate::proofs::AddingLemmas::change_before))]
 pub fn write_change(address: u64, line: &mut [u8], end: usize) -> usize
     requires room { 26 ≤ end }

@@ -1,4 +1,4 @@
-//! Whether a record is one that a line can spell.
+//! Whether a line can spell a record.
 ghost use Rattle.std.specs.Prelude.{◌≡◌, ◌^◌, ◌↔◌, IsTrue};
 ghost use Rattle.std.specs.List.{list_all};
 ghost use Rattle.sym_records.specs.Fields.{is_range, are_ranges};
@@ -12,7 +12,7 @@ use crate::line::{Extent, SymLine};
 use crate::table::fields_of;
 use sym_rules::are_rules;
 
-/// The most bytes that a line has without its LF.
+/// The greatest number of bytes of a line without its LF.
 const LINE_LIMIT: usize = 1 << 20;
 
 fn is_range(range: Extent) -> bool
@@ -56,7 +56,7 @@ fn fit(fields: &[Field<'_>]) -> bool
     fields.iter().all(|field| fits_field(*field))
 }
 
-/// Whether each field is one that the record's line can carry.
+/// Whether the record's line can carry each field.
 fn has_fields(line: &SymLine) -> bool
     ensures { result ≡ has_fields line.now }
 {
@@ -72,7 +72,7 @@ fn fields_fit(line: &SymLine) -> bool
     has_fields(line) && is_short(LINE_LIMIT, line)
 }
 
-/// Whether a text can spell the record. Takes no memory.
+/// Whether a text can spell the record. Allocates no memory.
 pub fn is_valid(line: &SymLine) -> bool
     ensures fits { result ≡ fields_fit line.now }
     ensures valid { IsTrue result ↔ IsValid line.now }

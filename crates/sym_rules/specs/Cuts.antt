@@ -1,4 +1,4 @@
--- Where a text is cut into lines and a line into fields (Breakpad's symbol_files.md).
+-- How a text is cut into lines, and a line into fields (Breakpad's symbol_files.md).
 use Rattle.std.specs.Prelude.{ℕ, ◌==◌, ◌||◌, ◌&&◌, Bool, false, not, if◌then◌else◌, List, [], ◌∷◌}
 use Rattle.std.specs.List.{list_all}
 pub use Rattle.clean_names.specs.Names.{is_space, is_within_line}
@@ -7,41 +7,41 @@ unfoldable pub use Rattle.clean_names.specs.Names.{skip}
 abbrev pub is_cr : ℕ → Bool
 is_cr b = b == 13
 
--- what a line may have beside its fields
+-- a byte that a line may have besides its fields: a space or CR
 abbrev pub is_margin : ℕ → Bool
 is_margin b = is_space b || is_cr b
 
--- what stands before the first of these bytes
+-- the bytes before the first byte b, or all bytes if there is none
 unfoldable pub before : ℕ → List ℕ → List ℕ
 before b [] = []
 before b (x ∷ xs) = if x == b then [] else x ∷ before b xs
 
--- what stands from the first of these bytes on
+-- the bytes from the first byte b on, or none if there is no b
 unfoldable pub from : ℕ → List ℕ → List ℕ
 from b [] = []
 from b (x ∷ xs) = if x == b then x ∷ xs else from b xs
 
--- without the bytes of a kind at the end
+-- bytes without those at the end for which p is true
 unfoldable pub trim_end : (ℕ → Bool) → List ℕ → List ℕ
 trim_end p [] = []
 trim_end p (x ∷ xs) = if list_all p (x ∷ xs) then [] else x ∷ trim_end p xs
 
--- one more in front of the first of several lists, as a byte in front of the first line
+-- adds a member at the front of the first of several lists, for example a byte to the first line
 abbrev pub onto : {A : Type 0} → A → List (List A) → List (List A)
 onto x [] = (x ∷ []) ∷ []
 onto x (first ∷ later) = (x ∷ first) ∷ later
 
--- the lines of a text: the last is what stands after the last LF, and it may be empty
+-- the lines of a text: the last line is the bytes after the last LF, and it may be empty
 unfoldable pub split_lines : List ℕ → List (List ℕ)
 split_lines [] = [] ∷ []
 split_lines (b ∷ bytes) = if b == 10 then [] ∷ split_lines bytes else onto b (split_lines bytes)
 
--- whether there is a last member and it is of a kind
+-- whether the list has a last member for which p is true
 unfoldable pub last_is : {A : Type 0} → (A → Bool) → List A → Bool
 last_is p [] = false
 last_is p (x ∷ []) = p x
 last_is p (x ∷ y ∷ ys) = last_is p (y ∷ ys)
 
--- a byte that may stand in a field
+-- a byte that may be in a field: neither space nor LF
 abbrev pub is_within_field : ℕ → Bool
 is_within_field b = not (b == 32) && not (b == 10)

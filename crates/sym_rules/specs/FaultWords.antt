@@ -3,7 +3,7 @@ use Rattle.std.specs.Prelude.{ℕ, List, codes}
 use Rattle.sym_rules.specs.declared.text_fault.TextKind.{TextKind}
 use Rattle.sym_rules.specs.declared.text_fault.TextKind.TheVariants.{Empty, Unknown, Fields, Hex, Decimal, Rule, Misplaced, LongLine, Windows, NoModule}
 
--- the word of what is wrong with a line
+-- the word for each kind of fault in a line
 abbrev pub text_word : TextKind → List ℕ
 text_word Empty = codes "empty"
 text_word Unknown = codes "unknown"

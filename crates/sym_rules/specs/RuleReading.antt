@@ -1,5 +1,5 @@
--- The reading of frame rules (Breakpad's symbol_files.md). The rest of the line is split into words at spaces; a word that ends with `:` begins a
--- rule. Whatever is wrong inside the rules is a fault of the kind `Rule`.
+-- The reading of frame rules (Breakpad's symbol_files.md). The rest of the line is split into words at spaces. A word that ends with `:` begins a
+-- rule. Any fault inside the rules has the kind `Rule`.
 use Rattle.std.specs.Prelude.{ℕ, ◌-◌, ◌==◌, ◌||◌, ◌&&◌, Bool, true, false, not, nat_lt, nat_le, if◌then◌else◌, ℤ, pos, neg_ℤ, List, [], ◌∷◌, length, take, drop, slice_index, codes, Option, Some, None, ok_or, Result, Ok, Err}
 use Rattle.std.specs.Option.{option_or, option_map, option_map_or}
 use Rattle.std.specs.List.{list_all, position}
@@ -18,12 +18,12 @@ use Rattle.sym_rules.specs.declared.rules.RuleText.{RuleText}
 use Rattle.sym_rules.specs.declared.text_fault.TextKind.{TextKind}
 use Rattle.sym_rules.specs.declared.text_fault.TextKind.TheVariants.{Rule}
 
--- whether a space or the end is next
+-- whether the next byte is a space, or no byte is left
 abbrev pub ends_word : List ℕ → Bool
 ends_word [] = true
 ends_word (b ∷ bytes) = b == 32
 
--- the words of bytes: a byte in front of a space or the end is a word's last
+-- the words of bytes: a byte before a space or before the end is the last byte of a word
 unfoldable pub words : List ℕ → List (List ℕ)
 words [] = []
 words (b ∷ bytes) =
@@ -35,36 +35,36 @@ words (b ∷ bytes) =
 abbrev pub ends_in_colon : List ℕ → Bool
 ends_in_colon word = last_is (λ b. b == 58) word
 
--- whether a word that begins a rule is next
+-- whether the next word begins a rule
 abbrev pub begins_rule : List (List ℕ) → Bool
 begins_rule [] = false
 begins_rule (word ∷ later) = ends_in_colon word
 
--- words in groups: each that ends with `:` begins a group
+-- words in groups: each word that ends with `:` begins a group
 unfoldable pub groups : List (List ℕ) → List (List (List ℕ))
 groups [] = []
 groups (word ∷ later) = if begins_rule later then (word ∷ []) ∷ groups later else onto word (groups later)
 
--- a byte that a name of a rule begins with: `$`, `.` or an ASCII letter
+-- a byte with which a name in a rule may begin: `$`, `.` or an ASCII letter
 abbrev pub begins_symbol : ℕ → Bool
 begins_symbol b = b == 36 || b == 46 || (nat_le 65 b && nat_le b 90) || (nat_le 97 b && nat_le b 122)
 
--- a name of a rule: it begins so, and does not end with `:`
+-- a name in a rule: it begins with such a byte, and does not end with `:`
 unfoldable pub is_symbol : List ℕ → Bool
 is_symbol name = begins_symbol (slice_index name 0) && not (ends_in_colon name)
 
--- the DWARF number of a register
+-- the DWARF number of a register, given its name
 unfoldable pub register_of : List ℕ → Option ℕ
 register_of name = position (bytes_eq name) register_names
 
--- the target of a name
+-- the target that a name stands for
 unfoldable pub named_target : List ℕ → Target
 named_target name =
     if bytes_eq name (codes ".cfa") then target.Cfa
     else if bytes_eq name (codes ".ra") then target.Ra
     else option_map_or target.Reg (register_of name) (target.Other name)
 
--- without the last byte
+-- bytes without the last byte
 abbrev pub but_last : List ℕ → List ℕ
 but_last bytes = take (length bytes - 1) bytes
 
@@ -80,18 +80,18 @@ is_digit b = nat_lt (digit_value b) 10
 unfoldable pub are_digits : List ℕ → Bool
 are_digits bytes = nat_lt 0 (length bytes) && nat_le (length bytes) 20 && list_all is_digit bytes
 
--- an integer, where it is one of these
+-- an integer, if it is in the range of i64
 abbrev pub in_i64 : ℤ → Option ℤ
 in_i64 n = if fits_i64 n then Some n else None
 
--- an integer: perhaps `-`, then digits
+-- an integer: an optional `-`, then digits
 unfoldable pub integer_of : List ℕ → Option ℤ
 integer_of word =
     if slice_index word 0 == 45 then (if are_digits (drop 1 word) then in_i64 (neg_ℤ (pos (digits_value 10 (drop 1 word)))) else None)
     else if are_digits word then in_i64 (pos (digits_value 10 word))
     else None
 
--- the sign of an operation
+-- the operator that a word spells
 unfoldable pub sign_of : List ℕ → Option Token
 sign_of word =
     if bytes_eq word (codes "+") then Some token.Add
@@ -103,20 +103,20 @@ sign_of word =
     else if bytes_eq word (codes "^") then Some token.Fetch
     else None
 
--- the token of a name
+-- the token that a name stands for
 unfoldable pub named_token : List ℕ → Token
 named_token name =
     if bytes_eq name (codes ".cfa") then token.Cfa
     else if bytes_eq name (codes ".undef") then token.Undef
     else option_map_or token.Reg (register_of name) (token.Other name)
 
--- the token of a word: a name, an integer or a sign
+-- the token of a word: a name, an integer or an operator
 unfoldable pub token_at : List ℕ → Result Token TextKind
 token_at word =
     if is_symbol word then Ok (named_token word)
     else ok_or (option_or (option_map token.Number (integer_of word)) (sign_of word)) Rule
 
--- each member's reading, in order
+-- f of each member, in order, or the first fault
 unfoldable pub each : {A B : Type 0} → (A → Result B TextKind) → List A → Result (List B) TextKind
 each f [] = Ok []
 each f (x ∷ xs) = do
@@ -124,12 +124,12 @@ each f (x ∷ xs) = do
   ys ← each f xs
   Ok (y ∷ ys)
 
--- there is at least one
+-- a list with at least one member; the empty list is a fault
 abbrev pub some_of : {A : Type 0} → List A → Result (List A) TextKind
 some_of [] = Err Rule
 some_of (x ∷ xs) = Ok (x ∷ xs)
 
--- a rule: a target, and at least one token
+-- a rule: a target and at least one token
 unfoldable pub rule_at : List (List ℕ) → Result RuleText TextKind
 rule_at [] = Err Rule
 rule_at (word ∷ later) = do
@@ -138,7 +138,7 @@ rule_at (word ∷ later) = do
   tokens ← each token_at given
   Ok (record { target = target; tokens = tokens })
 
--- at least one rule
+-- the rules of a line: at least one
 unfoldable pub rules_at : List ℕ → Result (List RuleText) TextKind
 rules_at bytes = do
   given ← some_of (groups (words bytes))

@@ -12,15 +12,15 @@ use Rattle.sym_rules.specs.declared.rules.Token.{Token}
 use Rattle.sym_rules.specs.declared.rules.Token.TheVariants as token
 use Rattle.sym_rules.specs.declared.rules.RuleText.{RuleText}
 
--- a name of a rule that is none of those
+-- a name in a rule that is none of the known names
 unfoldable pub is_other : List (List ℕ) → List ℕ → Bool
 is_other known name = list_all is_within_field name && is_symbol name && not (list_any (bytes_eq name) known)
 
--- the names that a target has a variant for
+-- the names for which a target has a variant
 abbrev pub target_names : List (List ℕ)
 target_names = codes ".cfa" ∷ codes ".ra" ∷ register_names
 
--- and those that a token has one for
+-- the names for which a token has a variant
 abbrev pub token_names : List (List ℕ)
 token_names = codes ".cfa" ∷ codes ".undef" ∷ register_names
 
@@ -46,11 +46,11 @@ is_token token.Rem = true
 is_token token.Align = true
 is_token token.Fetch = true
 
--- a rule has at least one token
+-- a rule that words can spell; it has at least one token
 unfoldable pub is_rule : RuleText → Bool
 is_rule rule = is_target rule.target && nat_lt 0 (length rule.tokens) && list_all is_token rule.tokens
 
--- a token that is a name with CR at its end
+-- a token that is a name with CR as its last byte
 abbrev pub ends_in_cr : Token → Bool
 ends_in_cr (token.Number n) = false
 ends_in_cr (token.Reg number) = false
@@ -65,22 +65,22 @@ ends_in_cr token.Rem = false
 ends_in_cr token.Align = false
 ends_in_cr token.Fetch = false
 
--- the last token of rules is such a name
+-- the last token of the last rule is a name with CR as its last byte
 unfoldable pub end_in_cr : List RuleText → Bool
 end_in_cr rules = last_is (λ rule. last_is ends_in_cr rule.tokens) rules
 
--- the rules of a record: at least one, and no CR at the end of the line
+-- the rules of a record: at least one rule, and no CR at the end of the line
 unfoldable pub are_rules : List RuleText → Bool
 are_rules rules = nat_lt 0 (length rules) && list_all is_rule rules && not (end_in_cr rules)
 
--- a target without a name of its own
+-- a target that a word can spell and that is not `Other`
 abbrev pub is_plain_target : Target → Bool
 is_plain_target target.Cfa = true
 is_plain_target target.Ra = true
 is_plain_target (target.Reg number) = nat_lt number 16
 is_plain_target (target.Other name) = false
 
--- a token without a name of its own
+-- a token that a word can spell and that is not `Other`
 abbrev pub is_plain_token : Token → Bool
 is_plain_token (token.Number n) = fits_i64 n
 is_plain_token (token.Reg number) = nat_lt number 16
@@ -95,7 +95,7 @@ is_plain_token token.Rem = true
 is_plain_token token.Align = true
 is_plain_token token.Fetch = true
 
--- a rule of one to four of these
+-- a rule with such a target and one to four such tokens
 unfoldable pub is_plain_rule : RuleText → Bool
 is_plain_rule rule =
     is_plain_target rule.target && nat_lt 0 (length rule.tokens) && nat_le (length rule.tokens) 4 && list_all is_plain_token rule.tokens

@@ -16,7 +16,7 @@ target_name target.Ra = codes ".ra"
 target_name (target.Reg number) = register_name number
 target_name (target.Other name) = name
 
--- a word of an expression; an integer is decimal, with `-` where it is negative
+-- the word of a token; an integer is decimal, with `-` if it is negative
 abbrev pub token_word : Token → List ℕ
 token_word (token.Number n) = signed_decimal n
 token_word (token.Reg number) = register_name number
@@ -31,7 +31,7 @@ token_word token.Rem = codes "%"
 token_word token.Align = codes "@"
 token_word token.Fetch = codes "^"
 
--- the word that begins a rule: its target's name with `:` after it
+-- the word that begins a rule: the target's name, then `:`
 abbrev pub target_word : Target → List ℕ
 target_word target = target_name target ++ 58 ∷ []
 
@@ -39,14 +39,14 @@ target_word target = target_name target ++ 58 ∷ []
 abbrev pub rule_words : RuleText → List (List ℕ)
 rule_words rule = target_word rule.target ∷ map token_word rule.tokens
 
--- a token with one space in front
+-- a token with one space before it
 abbrev pub spelled_token : Token → List ℕ
 spelled_token t = 32 ∷ token_word t
 
--- a rule with one space in front of each word
+-- a rule with one space before each word
 unfoldable pub spelled_rule : RuleText → List ℕ
 spelled_rule rule = (32 ∷ target_word rule.target) ++ flat_map spelled_token rule.tokens
 
--- rules one after another, with one space in front of each word
+-- rules one after another, with one space before each word
 unfoldable pub spelled_rules : List RuleText → List ℕ
 spelled_rules rules = flat_map spelled_rule rules

@@ -1,5 +1,5 @@
-//! Text that is written from its end to its front: what a call writes ends in front of `end`, and the call says where it
-//! starts. So digits stand where they belong as they are found, and a line needs no second buffer.
+//! Text that is written backward: each call writes bytes that end just before `end`, and returns where they start. So each digit is written directly
+//! to its final place, and a line needs no second buffer.
 ghost use Rattle.std.specs.Prelude.{◌≡◌, ◌+◌, ◌<◌, ◌≤◌, [], ◌∷◌, ◌++◌, false, length, drop};
 ghost use Rattle.std.specs.Fmt.{decimal, signed_decimal, digits};
 
@@ -24,7 +24,7 @@ static PAIRS: [u8; 512] = *b"\
     e0e1e2e3e4e5e6e7e8e9eaebecedeeef\
     f0f1f2f3f4f5f6f7f8f9fafbfcfdfeff";
 
-/// Writes the last byte.
+/// Writes the last byte of the line.
 #[inline]
 #[tactic(auto, using(crate::proofs::BackwardLemmas::last_byte))]
 pub fn write_last(byte: u8, line: &mut [u8]) -> usize
@@ -98,7 +98,7 @@ pub fn write_decimal(number: u32, line: &mut [u8], end: usize) -> usize
     write_digits(number as u64, line, end)
 }
 
-/// Writes a signed number in decimal, with `-` where it is negative.
+/// Writes a signed number in decimal, with `-` if it is negative.
 #[inline]
 pub fn write_signed(number: i64, line: &mut [u8], end: usize) -> usize
     requires room { 21 ≤ end }

@@ -1,9 +1,9 @@
-//! Where a line is cut into fields (Breakpad's symbol_files.md).
+//! How a line is cut into fields (Breakpad's symbol_files.md).
 ghost use Rattle.std.specs.Prelude.{◌≡◌, ◌≤◌, length};
 ghost use Rattle.std.specs.List.{list_all};
 ghost use Rattle.sym_rules.specs.Cuts.{is_space, is_cr, is_margin, before, from, skip, trim_end};
 
-/// The bytes without the spaces in front.
+/// The bytes after the leading spaces.
 #[inline]
 #[tactic(auto, using(clean_names::proofs::SkipLemmas::skip_stop, clean_names::proofs::SkipLemmas::skip_more, clean_names::proofs::SkipLemmas::skip_end))]
 pub fn skip_spaces(bytes: &[u8]) -> &[u8]
@@ -18,7 +18,7 @@ pub fn skip_spaces(bytes: &[u8]) -> &[u8]
     &[]
 }
 
-/// What stands before the first space, and what stands from it on.
+/// The bytes before the first space, and the bytes from that space on.
 #[inline]
 #[tactic(auto, using(crate::proofs::CutLemmas::word_stop, crate::proofs::CutLemmas::rest_stop, crate::proofs::CutLemmas::word_more, crate::proofs::CutLemmas::rest_more, crate::proofs::CutLemmas::word_end, crate::proofs::CutLemmas::rest_end))]
 pub fn cut_word(bytes: &[u8]) -> (&[u8], &[u8])
@@ -49,7 +49,7 @@ pub fn trim_crs(bytes: &[u8]) -> &[u8]
     &[]
 }
 
-/// Whether the byte is one that a line may have beside its fields.
+/// Whether the byte is a space or CR.
 #[inline]
 fn is_margin(b: u8) -> bool
     ensures { result ≡ is_margin b }

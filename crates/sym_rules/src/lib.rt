@@ -1,20 +1,20 @@
 //! The rules of frame records in a Breakpad symbol file: their words, their spelling and their reading.
 //!
-//! A rule says how a register of the caller is found: it has a target, whose name ends with `:`, and the words of a
-//! postfix expression (Breakpad's symbol_files.md). `are_rules` tests whether a line can carry rules, `rules_length` says
-//! how long they are. There are two ways to spell: `put_rules` and the calls beside it hand rules that are in memory to a sink, forward, through
-//! a buffer, and take no memory; the `write_` calls write numbers and names into a line that has room for them, from its end to its front.
-//! `cut_word` and the calls beside it cut a line into its fields.
+//! A rule says how to find a register of the caller. It has a target, whose name is followed by `:`, and the words of a postfix expression
+//! (Breakpad's symbol_files.md). `are_rules` tests whether a line can carry rules, and `rules_length` gives their length in bytes. There are two ways
+//! to spell. `put_rules` and the calls with it hand rules that are in memory to a sink, forward, through a buffer, and allocate no memory. The
+//! `write_` calls write numbers and names into a line that has room for them, backward from its end. `cut_word` and the calls with it cut a line into
+//! its fields.
 #![tactic(auto)]
 
-// The rules, and what may be wrong with a text that has them.
+// The rules, and the faults of a text with rules.
 mod rules;
 mod text_fault;
 
 // Which rules a text can spell.
 mod validity;
 
-// The fields of a line, and the registers by their names.
+// The fields of a line, and the registers, given their names.
 mod cuts;
 mod registers;
 

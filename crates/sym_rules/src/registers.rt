@@ -1,4 +1,4 @@
-//! The names of the registers of x86-64, by their DWARF numbers.
+//! The names of the registers of x86-64, and their DWARF numbers.
 ghost use Rattle.std.specs.Prelude.{◌≡◌, ◌+◌, ◌<◌, ◌≤◌, ◌∷◌, ◌++◌, length, drop, IfSome};
 ghost use Rattle.sym_edges.specs.Abi.{register_name};
 ghost use Rattle.sym_rules.specs.RuleReading.{register_of};
@@ -6,7 +6,7 @@ ghost use Rattle.sym_rules.specs.internal.Registers.{register_in};
 
 use crate::backward::write_bytes;
 
-/// What is made of the name of a register; from 16 on there is none.
+/// What is made of the name of a register; a number above 15 has no name.
 macro_rules! with_name {
     ($number:expr, $name:ident => $then:expr, $other:expr) => {
         match $number {
@@ -79,7 +79,7 @@ macro_rules! with_name {
     };
 }
 
-/// The name of a register; from 16 on there is none.
+/// The name of a register; it is empty for a number above 15.
 #[tactic(auto, unfolding(sym_edges::specs::Abi::register_name, sym_edges::specs::Abi::register_names))]
 pub fn register_name(number: u8) -> &'static [u8]
     ensures { result.now ≡ register_name number }
@@ -87,7 +87,7 @@ pub fn register_name(number: u8) -> &'static [u8]
     with_name!(number, name => name, b"")
 }
 
-/// Writes the name of a register; from 16 on there is none.
+/// Writes the name of a register; it is empty for a number above 15.
 #[inline]
 #[tactic(auto, unfolding(sym_edges::specs::Abi::register_name, sym_edges::specs::Abi::register_names))]
 pub fn write_register(number: u8, line: &mut [u8], end: usize) -> usize
@@ -100,7 +100,7 @@ pub fn write_register(number: u8, line: &mut [u8], end: usize) -> usize
     with_name!(number, name => write_bytes(name, line, end), end)
 }
 
-/// The number of one of the sixteen registers by its name without `$`.
+/// The number of one of the sixteen registers, given its name without `$`.
 #[inline]
 #[tactic(auto, unfolding(sym_edges::specs::Abi::register_names))]
 fn register_in(name: &[u8]) -> Option<u8>
@@ -158,7 +158,7 @@ fn register_in(name: &[u8]) -> Option<u8>
     None
 }
 
-/// The DWARF number of a register by its name without `$`.
+/// The DWARF number of a register, given its name without `$`.
 #[inline]
 #[tactic(auto, using(crate::proofs::RegisterLemmas::register_is))]
 pub fn register_named(name: &[u8]) -> Option<u8>
@@ -168,7 +168,7 @@ pub fn register_named(name: &[u8]) -> Option<u8>
     register_in(name)
 }
 
-/// The DWARF number of a register by its name.
+/// The DWARF number of a register, given its name.
 #[inline]
 #[tactic(auto, using(crate::proofs::RegisterLemmas::none_without_sign))]
 pub fn register_of(name: &[u8]) -> Option<u8>

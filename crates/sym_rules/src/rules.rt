@@ -6,11 +6,10 @@ use std::alloc::Global;
 use std::marker::Model;
 use sym_edges::{ByteRun, ListOf, OutOfMemory};
 
-/// Bytes of a text, as a field or a name.
+/// The bytes of a field or a name in a text.
 pub type ByteText = ByteRun;
 
-/// A name that has no variant of its own, which contracts see as its bytes. It is kept behind one pointer, so that words
-/// stay small.
+/// A name that has no variant of its own, which contracts see as its bytes. It is stored as one pointer, so that tokens stay small.
 #[derive(Debug, Drop)]
 pub struct RuleName {
     text: Box<ByteText>,
@@ -40,10 +39,10 @@ impl RuleName {
     }
 }
 
-/// What a frame rule gives the value of.
+/// What a frame rule gives a value for.
 #[derive(Debug, Drop)]
 pub enum Target {
-    /// `.cfa`, the canonical frame address (DWARF 5 6.4.1).
+    /// `.cfa`, the canonical frame address (DWARF 5, 6.4.1).
     Cfa,
     /// `.ra`, the return address.
     Ra,
@@ -58,7 +57,7 @@ pub enum Target {
 #[derive(Debug, Drop)]
 pub enum Token {
     Number(i64),
-    /// A register by its DWARF number, as of a target.
+    /// A register by its DWARF number, as in a target.
     Reg(u8),
     /// `.cfa`
     Cfa,
@@ -76,9 +75,9 @@ pub enum Token {
     Div,
     /// `%`
     Rem,
-    /// `@`: the first operand with the bits below the second, a power of two, cleared.
+    /// `@`: the first operand with all bits below the second operand cleared; the second is a power of two.
     Align,
-    /// `^`: what memory holds at the address.
+    /// `^`: the word in memory at the address.
     Fetch,
 }
 
@@ -88,7 +87,7 @@ pub struct Tokens {
     kept: KeptTokens,
 }
 
-/// The words: memory is taken only for lists that are not of one, three or four of them.
+/// The words: only a list whose length is not one, three or four needs memory of its own.
 #[derive(Debug, Drop)]
 enum KeptTokens {
     One([Token; 1]),
@@ -108,7 +107,7 @@ impl Model for Tokens {
 }
 
 impl Tokens {
-    /// The words of a list. Takes no memory.
+    /// The words of a list. Allocates no memory.
     pub fn of(items: Vec<Token>) -> Tokens
         ensures { result ≡ items.items }
     {
@@ -117,7 +116,7 @@ impl Tokens {
         }
     }
 
-    /// One word. Takes no memory.
+    /// One word. Allocates no memory.
     pub fn one(a: Token) -> Tokens
         ensures { result ≡ a ∷ [] }
     {
@@ -126,7 +125,7 @@ impl Tokens {
         }
     }
 
-    /// Three words. Takes no memory.
+    /// Three words. Allocates no memory.
     pub fn three(a: Token, b: Token, c: Token) -> Tokens
         ensures { result ≡ a ∷ b ∷ c ∷ [] }
     {
@@ -135,7 +134,7 @@ impl Tokens {
         }
     }
 
-    /// Four words. Takes no memory.
+    /// Four words. Allocates no memory.
     pub fn four(a: Token, b: Token, c: Token, d: Token) -> Tokens
         ensures { result ≡ a ∷ b ∷ c ∷ d ∷ [] }
     {
@@ -174,7 +173,7 @@ impl Tokens {
     }
 }
 
-/// A frame rule: how the target's value is made.
+/// A frame rule: a target, and the expression that gives its value.
 #[derive(Debug, Drop)]
 pub struct RuleText {
     pub target: Target,

@@ -6,7 +6,7 @@ ghost use Rattle.sym_rules.specs.Buffer.{Hands};
 use crate::waiting_bytes::Waiting;
 use sym_edges::{Failed, Sink, write_all};
 
-/// Hands on what waits.
+/// Hands on the bytes that wait.
 pub fn hand_on<O: Sink, const N: usize>(
     sink: &mut O,
     waiting: &mut Waiting<N>,
@@ -26,8 +26,8 @@ pub fn hand_on<O: Sink, const N: usize>(
     }
 }
 
-/// Puts bytes after those that wait. Where they do not fit, what waits is handed on first, and a piece that does not
-/// fit into an empty buffer goes straight to the sink.
+/// Puts bytes after those that wait. If they do not fit, the bytes that wait are handed on first; bytes that do not fit into an empty buffer go
+/// directly to the sink.
 #[tactic(auto, using(crate::proofs::BufferLemmas::hands_held, crate::proofs::BufferLemmas::hands_failed, crate::proofs::BufferLemmas::hands_next, crate::proofs::BufferLemmas::hands_through, crate::proofs::BufferLemmas::hands_through_failed))]
 pub fn put<O: Sink, const N: usize>(
     sink: &mut O,

@@ -54,7 +54,7 @@ fn put_tokens<O: Sink, const N: usize>(
     Ok(())
 }
 
-/// Puts a rule, with one space in front of each word.
+/// Puts a rule, with one space before each word.
 fn put_rule<O: Sink, const N: usize>(
     sink: &mut O,
     waiting: &mut Waiting<N>,
@@ -69,7 +69,7 @@ fn put_rule<O: Sink, const N: usize>(
     put_tokens(sink, waiting, rule.tokens.as_slice())
 }
 
-/// Puts rules, with one space in front of each word.
+/// Puts rules, with one space before each word.
 pub fn put_rules<O: Sink, const N: usize>(
     sink: &mut O,
     waiting: &mut Waiting<N>,

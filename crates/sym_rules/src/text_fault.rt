@@ -3,11 +3,11 @@
 /// What is wrong with a line of a symbol file, in the order of the kinds' numbers.
 #[derive(Clone, Copy, Debug, PartialEq, Eq)]
 pub enum TextKind {
-    /// No line holds a record.
+    /// No line has a record.
     Empty,
-    /// No such keyword.
+    /// The keyword is unknown.
     Unknown,
-    /// A field or a name is missing, or there is one too many.
+    /// A field or a name is missing, or there is a field too many.
     Fields,
     /// A field is no hexadecimal number.
     Hex,
@@ -15,13 +15,13 @@ pub enum TextKind {
     Decimal,
     /// A frame rule is bad or missing.
     Rule,
-    /// The record may not stand there.
+    /// The record is not allowed at this place.
     Misplaced,
     /// The line has more than 2^20 bytes.
     LongLine,
     /// A frame record of Windows.
     Windows,
-    /// The first record is no `MODULE`.
+    /// The first record is not `MODULE`.
     NoModule,
 }
 

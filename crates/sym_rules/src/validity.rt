@@ -10,7 +10,7 @@ ghost use Rattle.sym_rules.specs.RuleValidity.{is_other, target_names, token_nam
 use crate::registers::register_name;
 use crate::rules::{RuleText, Target, Token};
 
-/// Whether the bytes have no space and no end of a line among them.
+/// Whether the bytes have neither a space nor LF.
 pub fn are_unparted(bytes: &[u8]) -> bool
     ensures { result ≡ list_all is_within_field bytes.now }
 {
@@ -26,14 +26,14 @@ fn ends_with(bytes: &[u8], last: u8) -> bool
     }
 }
 
-/// Whether a name of a rule may begin with the byte.
+/// Whether a name in a rule may begin with the byte.
 fn begins_symbol(b: u8) -> bool
     ensures { result ≡ begins_symbol b }
 {
     b == b'$' || b == b'.' || (b'A' <= b && b <= b'Z') || (b'a' <= b && b <= b'z')
 }
 
-/// Whether the bytes begin as a name of a rule does, and do not end with `:`.
+/// Whether the bytes begin as a name in a rule does, and do not end with `:`.
 #[tactic(auto, using(crate::proofs::LastLemmas::symbol_ends, crate::proofs::LastLemmas::symbol_other, crate::proofs::LastLemmas::symbol_nothing))]
 fn is_symbol(bytes: &[u8]) -> bool
     ensures { result ≡ is_symbol bytes.now }
@@ -159,7 +159,7 @@ fn are_all_rules(rules: &[RuleText]) -> bool
     rules.iter().all(|rule| is_rule(rule))
 }
 
-/// Whether a record's line can carry the rules: there is one, words can spell each, and the line does not end in CR.
+/// Whether a record's line can carry the rules: there is at least one, words can spell each, and the line does not end in CR.
 #[tactic(auto, unfolding(crate::specs::RuleValidity::are_rules))]
 pub fn are_rules(rules: &[RuleText]) -> bool
     ensures { result ≡ are_rules rules.now }

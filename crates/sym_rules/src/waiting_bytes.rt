@@ -3,7 +3,7 @@ ghost use Rattle.std.specs.Prelude.{◌≡◌, ◌+◌, ◌≤◌, [], ◌++◌,
 
 use std::marker::Model;
 
-/// Bytes that wait to be handed on, at most `N` of them, which contracts see as the list of these.
+/// At most `N` bytes that wait to be handed on, which contracts see as the list of these bytes.
 #[derive(Drop)]
 pub struct Waiting<const N: usize> {
     held: [u8; N],

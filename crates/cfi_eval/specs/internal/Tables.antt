@@ -1,4 +1,4 @@
--- Tables of the rules of the targets that a frame has: the registers by their numbers, then the CFA and the return address.
+-- Tables of the rules for the targets in a frame: the registers by their numbers, then the CFA and the return address.
 use Rattle.std.specs.Prelude.{◌≡◌, ℕ, nat_lt, if◌then◌else◌, List, Option, None, Some, IfSome, slice_get}
 use Rattle.std.specs.Option.{option_copied, option_and_then}
 use Rattle.std.specs.Borrow.{Bor}
@@ -14,14 +14,14 @@ target_place Cfa = Some 16
 target_place Ra = Some 17
 target_place (Other name) = None
 
--- the words of a rule, where it is one of the target
+-- the words of a rule, if it has the target
 abbrev pub rule_in : Target → RuleText → Option (List Token)
 rule_in t rule = if same_target rule.target t then Some rule.tokens else None
 
--- the words that a table has at a place
+-- the words at a place in a table
 abbrev pub words_at : List (Option (Bor (List Token))) → ℕ → Option (List Token)
 words_at table place = option_and_then option_copied (slice_get table place)
 
--- what stands in a table at the place of each target that has one
+-- the table has `find t` at the place of each target t that has a place
 abbrev pub IsTable : (Target → Option (List Token)) → List (Option (Bor (List Token))) → Type 0
 IsTable find table = (t : Target) → IfSome (target_place t) (λ place. words_at table place ≡ find t)

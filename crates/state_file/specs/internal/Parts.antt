@@ -9,21 +9,21 @@ use Rattle.state_file.specs.declared.line.StateLine.{StateLine}
 use Rattle.state_file.specs.declared.line.StateLine.TheVariants.{Blank, Register, Run}
 use Rattle.state_file.specs.declared.state.State.{State}
 
--- the lines that stand behind the first one
+-- the lines after the first line
 abbrev pub lines_behind : Option (List ℕ) → List (List ℕ)
 lines_behind None = []
 lines_behind (Some bytes) = split_lines bytes
 
--- two words, where there are two and no more
+-- two words, if there are exactly two
 abbrev pub two_of : List (List ℕ) → Option (List ℕ × List ℕ)
 two_of (a ∷ b ∷ []) = Some (a, b)
 two_of _ = None
 
--- a state as the code holds it
+-- a state, made of the registers and the memory that the code stores separately
 abbrev pub state : Regs → List MemRun → State
 state regs runs = record { regs = regs; memory = runs }
 
--- a line that gives a value to one of the sixteen registers names one of them
+-- the number of a register is below 16; rip has no number
 abbrev pub HasPlace : Option ℕ → Type 0
 HasPlace None = Unit {0}
 HasPlace (Some register) = register < 16
@@ -33,7 +33,7 @@ HasRegister Blank = Unit {0}
 HasRegister (Register register value) = HasPlace register
 HasRegister (Run run) = Unit {0}
 
--- what a call gives: the value or the fault of a reading, or memory ran out
+-- what a call gives: the value or the fault of a reading, or out of memory
 abbrev pub Gives : {A F : Type 0} → Result A (Stop F) → Result A F → Type 0
 Gives (Ok x) read = read ≡ Ok x
 Gives (Err (Fault f)) read = read ≡ Err f

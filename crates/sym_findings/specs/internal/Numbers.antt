@@ -1,4 +1,4 @@
--- Numbers in a list, and those that records give.
+-- Numbers in a list, and the numbers that records give.
 use Rattle.std.specs.Prelude.{ℕ, Bool, ◌==◌, List, [], ◌∷◌}
 use Rattle.std.specs.List.{list_any}
 use Rattle.sym_records.specs.declared.line.SymLine.{SymLine}
@@ -8,7 +8,7 @@ use Rattle.sym_records.specs.declared.line.SymLine.TheVariants.{File, Origin}
 unfoldable pub has_number : List ℕ → ℕ → Bool
 has_number numbers n = list_any (λ m. m == n) numbers
 
--- the number of a FILE, and of an INLINE_ORIGIN
+-- the number of a FILE, and that of an INLINE_ORIGIN
 abbrev pub file_number : SymLine → List ℕ
 file_number (File number name) = number ∷ []
 file_number _ = []

@@ -1,4 +1,4 @@
--- What a reader was fed from a store.
+-- What was fed to a reader from a store.
 use Rattle.std.specs.Prelude.{◌≡◌, ℕ, ◌^◌, ⊤, List, [], ◌++◌, length, Option, None, Result, Ok, Err, take}
 use Rattle.sym_edges.specs.Outside.{Rose}
 use Rattle.sym_edges.specs.WholeFile.{IsParted}
@@ -13,32 +13,32 @@ use Rattle.sym_grammar.specs.declared.refusal.SymEnd.{SymEnd}
 use Rattle.sym_grammar.specs.declared.refusal.SymEnd.TheVariants.{Unread, Refused}
 use Rattle.sym_grammar.specs.declared.refusal.SymRefusal.TheVariants.{TooLong, Text}
 
--- a reader was fed these bytes, and found no fault in them
+-- these bytes were fed to a reader, which found no fault in them
 pub record WasFed (reader : Reads) (bytes : List ℕ) : Type 0 where
   pub answers : (more : List ℕ) → answer reader more ≡ lifted (reading (bytes ++ more))
   pub decides : decided (2 ^ 20) nothing bytes ≡ Ok reader.part
   pub going : reader.stop ≡ None
 
--- so many bytes of a file were read, and the reader was fed at most `limit` of them
+-- `count` bytes of a file were read, and the first of them, at most `limit`, were fed to the reader
 pub record HasRead (limit : ℕ) (left left_after : Option (List ℕ)) (reader : Reads) (count : ℕ) : Type 0 where
   pub bytes : List ℕ
   pub counted : length bytes ≡ count
   pub parted : IsParted left bytes left_after
   pub fed : WasFed reader (take limit bytes)
 
--- what a reading of the rest of a file answers, and when
+-- what a reading of the rest of a file returns, and when
 abbrev pub SymRest : Result (List SymLine) (Stop SymEnd) → Option (List ℕ) → ℕ → ℕ → ℕ → Type 0
 SymRest (Ok lines) left limit before after = IsReading limit (Ok lines) left
 SymRest (Err (Fault Unread)) left limit before after = Rose before after
 SymRest (Err (Fault (Refused why))) left limit before after = IsReading limit (Err why) left
 SymRest (Err NoMemory) left limit before after = ⊤
 
--- a stop of the reader, as that of a file
+-- a stop of the reader as a stop of the reading of a file
 abbrev pub refused_stop : Stop TextFault → Stop SymEnd
 refused_stop (Fault fault) = Fault (Refused (Text fault))
 refused_stop NoMemory = NoMemory
 
--- what the end of the text answers
+-- what the reader returns at the end of the text
 abbrev pub EndsAs : Result (List SymLine) (Stop SymEnd) → Reads → Type 0
 EndsAs (Ok lines) reader = answer reader [] ≡ Ok lines
 EndsAs (Err (Fault Unread)) reader = ⊥

@@ -1,4 +1,4 @@
--- What the functions under a reader keep.
+-- What the functions called by a reader maintain.
 use Rattle.std.specs.Prelude.{◌≡◌, ℕ, ◌≤◌, true, List, ◌++◌, length, None, Err}
 use Rattle.std.specs.List.{list_all}
 use Rattle.sym_rules.specs.Cuts.{is_within_line}
@@ -11,7 +11,7 @@ use Rattle.sym_rules.specs.declared.text_fault.TextFault.{TextFault}
 use Rattle.sym_grammar.specs.Answer.{Part, outcome, whole_lines, open_line}
 use Rattle.sym_grammar.specs.Input.{decided}
 
--- the front of a line, no longer than a line may be
+-- the start of a line, no longer than a line may be
 pub record IsFront (limit : ℕ) (held : List ℕ) : Type 0 where
   pub one_line : list_all is_within_line held ≡ true
   pub short : length held ≤ limit
@@ -24,13 +24,13 @@ pub record AreGood (lines : List SymLine) (place : Place) : Type 0 where
 abbrev pub part_of : Seen → List ℕ → Part
 part_of seen held = record { seen = seen; held = held }
 
--- bytes were taken, and what is left of them
+-- some of the bytes were read, and `rest` is left of them
 pub record GoesOn (limit : ℕ) (old : Part) (bytes : List ℕ) (new : Part) (rest : List ℕ) : Type 0 where
   pub same : (more : List ℕ) → outcome limit new (rest ++ more) ≡ outcome limit old (bytes ++ more)
   pub lines : with_lines limit new.seen (whole_lines (new.held ++ rest)) ≡ with_lines limit old.seen (whole_lines (old.held ++ bytes))
   pub held : open_line (new.held ++ rest) ≡ open_line (old.held ++ bytes)
 
--- a fault, whatever follows
+-- the bytes have a fault, whatever follows
 pub record Faults (limit : ℕ) (old : Part) (bytes : List ℕ) (fault : TextFault) : Type 0 where
   pub always : (more : List ℕ) → outcome limit old (bytes ++ more) ≡ Err fault
   pub decides : decided limit old bytes ≡ Err fault

@@ -1,4 +1,4 @@
--- The words of a postfix expression, however they are kept.
+-- The words of a postfix expression, in whichever form they are stored.
 use Rattle.std.specs.Prelude.{List}
 use Rattle.sym_rules.specs.declared.rules.Token.{Token}
 use Rattle.sym_rules.specs.declared.rules.KeptTokens.{KeptTokens}
