@@ -1,4 +1,4 @@
-//! The program `dumpsyms`: its words are given to `run`, over the system's files and streams.
+//! The program `dumpsyms`: gives its arguments to `run`, with the system's files and streams.
 #![tactic(auto)]
 
 use dumpsyms_cmd::run;
@@ -9,10 +9,10 @@ use std::{env, io};
 use sym_edges::{FileStore, StreamSink};
 use unit_workers::NoGate;
 
-/// The status where memory ran out.
+/// The status if memory ran out.
 const NO_MEMORY: u8 = 5;
 
-/// The words after the program's name.
+/// The arguments after the program's name.
 fn read_words(rt: &(impl Env + AllocGlobal)) -> io::Result<Vec<String>> {
     let mut words = Vec::new(rt.alloc());
     for word in env::args(rt)?.skip(1) {
@@ -28,7 +28,7 @@ fn main(rt: HostRuntime) -> ExitCode {
             if error.kind() == ErrorKind::OutOfMemory {
                 return ExitCode::from(NO_MEMORY);
             }
-            // A word that is no text is no word of any row.
+            // An argument that is no text is invalid for every command.
             Vec::new(rt.alloc())
         }
     };

@@ -1,4 +1,4 @@
--- What the commands answer, and what each promises of its judgement: by the words and the files.
+-- The verdict of each command, and what each command promises about its judgement, given the arguments and the files.
 use Rattle.std.specs.Prelude.{◌≡◌, ℕ, List, [], Option, Some, None}
 use Rattle.sym_edges.specs.Outside.{Files}
 use Rattle.module_stacks.specs.SymbolFiles.{without}
@@ -19,12 +19,12 @@ use Rattle.dumpsyms_cmd.specs.commands.Stacks.{stacks_answer, StacksPromises}
 use Rattle.dumpsyms_cmd.specs.declared.judgement.Output.TheVariants.{Nothing}
 use Rattle.dumpsyms_cmd.specs.declared.judgement.Judgement.{Judgement}
 
--- the verdict of invalid arguments
+-- the verdict on invalid arguments
 abbrev pub usage : Verdict
 usage = record { status = 2; out = []; err = usage_line }
 
--- the verdict of a command, where the files of these names could not be read: `stacks` goes on without them. The number of workers does not
--- matter
+-- the verdict of a command if the files with the names `missed` could not be read: `stacks` goes on without them. The verdict does not depend on the
+-- number of workers
 abbrev pub IsVerdict : Option Asked → Files → List (List ℕ) → Verdict → Type 0
 IsVerdict None files missed v = v ≡ usage
 IsVerdict (Some (dump source workers)) files missed v = IsSourceVerdict source files v
@@ -43,7 +43,7 @@ pub record IsUsage (j : Judgement) : Type 0 where
   pub out : j.out ≡ Nothing
   pub err : err_bytes j.err ≡ usage_line
 
--- what each command promises of its judgement
+-- what each command promises about its judgement
 abbrev pub CommandPromises : Option Asked → Option Files → Judgement → Type 0
 CommandPromises None files j = IsUsage j
 CommandPromises (Some (dump source workers)) files j = DumpPromises source files j

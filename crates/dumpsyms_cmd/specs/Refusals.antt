@@ -32,81 +32,81 @@ use Rattle.clean_names.specs.Cleaning.{cleaned}
 use Rattle.stack_text.specs.Lines.{line}
 use Rattle.dumpsyms_cmd.specs.SplitUnits.{is_split}
 
--- the image has a fault
+-- the line for a fault in the image of an ELF file
 abbrev pub elf_line : ElfFault → List ℕ
 elf_line fault = line (codes "refused elf " ++ fault_word fault)
 
--- a core file has one
+-- the line for a fault in a core file
 abbrev pub core_line : CoreFault → List ℕ
 core_line fault = line (codes "refused core " ++ core_fault_word fault)
 
--- the image of a separate debug file has one
+-- the line for a fault in the image of a debug file
 abbrev pub debug_elf_line : ElfFault → List ℕ
 debug_elf_line fault = line (codes "refused debug " ++ fault_word fault)
 
--- a binary and a debug file are no pair
+-- the line for a binary and a debug file that are no pair
 abbrev pub pair_line : PairFault → List ℕ
 pair_line fault = line (spaced (codes "refused pair") (pair_word fault ∷ []))
 
--- the build id of a binary is too short to name a debug file
+-- the line for a build id that is too short to name a debug file
 abbrev pub short_id_line : List ℕ
 short_id_line = line (spaced (codes "refused pair") (short_id_word ∷ []))
 
--- the image of a supplementary file has a fault
+-- the line for a fault in the image of a supplementary file
 abbrev pub sup_elf_line : ElfFault → List ℕ
 sup_elf_line fault = line (codes "refused sup " ++ fault_word fault)
 
--- a file is not read with the supplementary file to which it links
+-- the line for a file that is not read with the supplementary file it links to
 abbrev pub sup_line : SupFault → List ℕ
 sup_line fault = line (spaced (codes "refused sup") (sup_word fault ∷ []))
 
--- the file passes the limit
+-- the line for a file above the limit
 abbrev pub too_long_line : List ℕ
 too_long_line = line (codes "refused input too-long")
 
--- a file could not be read: the line, and that which names the file
+-- the line for a file that could not be read: without its name, and with it
 abbrev pub unread_line : List ℕ
 unread_line = line (codes "cannot read input")
 
 abbrev pub unread_name_line : List ℕ → List ℕ
 unread_name_line name = line (codes "cannot read " ++ cleaned name)
 
--- the second where `full`
+-- the line with the name if `full`
 abbrev pub unread_lines : Bool → List ℕ → List ℕ
 unread_lines false name = unread_line
 unread_lines true name = unread_name_line name
 
--- a fault with a place: what is refused, the word of the kind, the section, and the place in hexadecimal
+-- the line for a fault with a place: what is refused, the kind, section, and place in hexadecimal
 abbrev pub located_line : List ℕ → List ℕ → Sect → ℕ → List ℕ
 located_line refused kind section at = line (spaced refused (kind ∷ section_word section ∷ hex at ∷ []))
 
--- debugging information has a fault
+-- the line for a fault in debugging information
 abbrev pub dwarf_line : Located DwarfKind → List ℕ
 dwarf_line fault = located_line (codes "refused dwarf") (dwarf_word fault.kind) fault.section fault.at
 
--- that of the supplementary file has one
+-- the line for a fault in the supplementary file's debugging information
 abbrev pub sup_dwarf_line : Located DwarfKind → List ℕ
 sup_dwarf_line fault = located_line (codes "refused sup-dwarf") (dwarf_word fault.kind) fault.section fault.at
 
--- a section of frame entries has a fault
+-- the line for a fault in a section of frame entries
 abbrev pub frame_line : Located FrameKind → List ℕ
 frame_line fault = located_line (codes "refused frame") (kind_word fault.kind) fault.section fault.at
 
--- the file has a fault after its image
+-- the line for a fault after the image
 abbrev pub debug_line : DebugFault → List ℕ
 debug_line (Dwarf fault) = dwarf_line fault
 debug_line (Sup fault) = sup_dwarf_line fault
 debug_line (Frame fault) = frame_line fault
 
--- an entry is left out: its section, its place in hexadecimal, and the reason
+-- the line for an omitted entry: its section, its place in hexadecimal, and the reason
 abbrev pub omitted_line : Omission → List ℕ
 omitted_line o = line (spaced (codes "omitted") (section_word o.section ∷ hex o.at ∷ reason_word o.reason ∷ []))
 
--- the entries that are left out, in order
+-- the lines for the omitted entries, in order
 unfoldable pub omitted_text : List Omission → List ℕ
 omitted_text omissions = flat_map omitted_line omissions
 
--- a unit is skipped: its place in hexadecimal, and its version
+-- the line for a skipped unit: its place in hexadecimal, and its version
 abbrev pub skipped_line : Unit → List ℕ
 skipped_line unit = line (spaced (codes "skipped debug_info") (hex unit.start ∷ codes "version" ∷ decimal unit.version ∷ []))
 
@@ -118,15 +118,15 @@ skipped_by unit Skipped = skipped_line unit
 abbrev pub skipped_of : Unit → List ℕ
 skipped_of unit = skipped_by unit unit.part
 
--- the units that are skipped, in order
+-- the lines for the skipped units, in order
 unfoldable pub skipped_text : List Unit → List ℕ
 skipped_text units = flat_map skipped_of units
 
--- a unit of the supplementary file is skipped: its place in hexadecimal, and its version
+-- the line for a skipped unit of the supplementary file: its place in hexadecimal, and its version
 abbrev pub sup_skipped_line : Unit → List ℕ
 sup_skipped_line unit = line (spaced (codes "skipped sup_info") (hex unit.start ∷ codes "version" ∷ decimal unit.version ∷ []))
 
--- the entries of a unit stand in another file: its place in hexadecimal
+-- the line for a unit whose entries are in another file: its place in hexadecimal
 abbrev pub split_line : Unit → List ℕ
 split_line unit = line (spaced (codes "split debug_info") (hex unit.start ∷ []))
 
@@ -137,23 +137,23 @@ unit_left_by false unit = skipped_of unit
 abbrev pub unit_left : DebugSections → Unit → List ℕ
 unit_left sections unit = unit_left_by (is_split sections unit) unit
 
--- the units whose entries are not in the file, in order: those that are skipped, and those whose entries stand in another file
+-- the lines for the units whose entries are not in the file, in order: skipped units, and units with their entries in another file
 unfoldable pub units_left_text : DebugSections → List Unit → List ℕ
 units_left_text sections units = flat_map (unit_left sections) units
 
--- the first alone, or both where `full`
+-- the lines for skipped units alone, or for both kinds if `full`
 abbrev pub units_text : Bool → DebugSections → List Unit → List ℕ
 units_text false sections units = skipped_text units
 units_text true sections units = units_left_text sections units
 
--- a text has a fault: what is refused, the word of the kind, and the number of the line
+-- the line for a fault in a text: what is refused, the kind, and the number of the bad line
 abbrev pub fault_at : List ℕ → List ℕ → ℕ → List ℕ
 fault_at refused kind number = line (spaced refused (kind ∷ codes "line" ∷ decimal number ∷ []))
 
--- a symbol file has a fault
+-- the line for a fault in a symbol file
 abbrev pub text_line : TextFault → List ℕ
 text_line fault = fault_at (codes "refused text") (text_word fault.kind) fault.line
 
--- a state file has one
+-- the line for a fault in a state file
 abbrev pub state_line : StateFault → List ℕ
 state_line fault = fault_at (codes "refused state") (state_word fault.kind) fault.line

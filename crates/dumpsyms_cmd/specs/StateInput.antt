@@ -1,4 +1,4 @@
--- What a command over a symbol file and a state file answers, by the records of the one and the state of the other; or why it has none of them.
+-- What a command answers to the records of a symbol file and the state of a state file, or which verdict it gives if one of the files has none.
 use Rattle.std.specs.Prelude.{◌≡◌, ℕ, ◌^◌, nat_lt, if◌then◌else◌, List, length, Option, Some, Result, Ok, Err}
 use Rattle.sym_edges.specs.Outside.{Files, Tells}
 use Rattle.sym_records.specs.declared.line.SymLine.{SymLine}
@@ -13,24 +13,24 @@ use Rattle.dumpsyms_cmd.specs.SymbolInput.{symbol_verdict, file_verdict}
 use Rattle.dumpsyms_cmd.specs.Judgement.{judgement_verdict}
 use Rattle.dumpsyms_cmd.specs.declared.judgement.Judgement.{Judgement}
 
--- by the state, or its first fault
+-- the verdict on the state, or by its first fault
 abbrev pub by_state : (List SymLine → State → Verdict) → List SymLine → Result State StateFault → Verdict
 by_state answer lines (Ok state) = answer lines state
 by_state answer lines (Err fault) = refused (state_line fault)
 
--- a state file may have 2^24 bytes
+-- a state file has at most 2^24 bytes
 abbrev pub STATE_LIMIT : ℕ
 STATE_LIMIT = 2 ^ 24
 
--- by its bytes
+-- the verdict on the bytes of a state file
 abbrev pub state_answer : (List SymLine → State → Verdict) → List SymLine → List ℕ → Verdict
 state_answer answer lines bytes = if nat_lt STATE_LIMIT (length bytes) then refused too_long_line else by_state answer lines (state_of bytes)
 
--- by the bytes of both files, the state's first
+-- the verdict on the bytes of the state file and of the symbol file
 abbrev pub both_answer : (List SymLine → State → Verdict) → List ℕ → List ℕ → Verdict
 both_answer answer state bytes = symbol_verdict (λ lines. state_answer answer lines state) bytes
 
--- by the files, of which the state's is asked for only where the symbol file has records
+-- the verdict on both files; the state file is asked for only if the symbol file has records
 abbrev pub both_verdict : (List SymLine → State → Verdict) → Option (List ℕ) → Option (List ℕ) → Verdict
 both_verdict answer sym state = file_verdict (symbol_verdict (λ lines. file_verdict (state_answer answer lines) state)) sym
 
@@ -39,8 +39,8 @@ abbrev pub HasRecords : Result (List SymLine) SymRefusal → Type 0
 HasRecords (Ok lines) = Unit {0}
 HasRecords (Err why) = ⊥
 
--- a judgement is what the command answers to the bytes of both files; where the store tells its files these are those of the names, and where
--- it tells nothing they are some bytes
+-- a judgement is what the command answers to the bytes of both files. If the store's files are known, these are the bytes under both names; else they
+-- are some bytes
 pub record AnswersBoth (sym state : List ℕ) (answer : List SymLine → State → Verdict) (files : Option Files) (j : Judgement) : Type 0 where
   pub bytes : List ℕ
   pub there : Tells files (λ f. f sym ≡ Some bytes)

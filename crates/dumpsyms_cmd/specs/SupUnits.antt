@@ -1,4 +1,4 @@
--- The units of a supplementary file (DWARF 5, 7.3.6) that are skipped, and to which an entry of the file leads.
+-- The skipped units of a supplementary file (DWARF 5, 7.3.6) to which an entry of the file refers.
 use Rattle.std.specs.Prelude.{ℕ, Bool, true, List, [], length, take}
 use Rattle.std.specs.List.{flat_map, list_any}
 use Rattle.abbrev_units.specs.UnitPlaces.{read_units}
@@ -11,7 +11,7 @@ use Rattle.debug_read.specs.SupUnits.{leads_into}
 use Rattle.debug_read.specs.UnitSays.{UnitSays}
 use Rattle.dumpsyms_cmd.specs.Refusals.{sup_skipped_line}
 
--- the kept entries of the file itself: its units come first
+-- the kept entries of the file itself; its units come before those of the supplementary file
 abbrev pub own_entries : DebugSays → List DieFields
 own_entries found = flat_map (λ (u : UnitSays). u.table.dies) (take (length (read_units found.headers)) found.units)
 

@@ -1,4 +1,4 @@
--- What a command over symbol files answers, by the records of the file that it names; or why that file has none.
+-- What a command answers to the records of a symbol file, or which verdict it gives if the file has none.
 use Rattle.std.specs.Prelude.{◌≡◌, ℕ, List, Option, Some, None, Result, Ok, Err}
 use Rattle.sym_edges.specs.Outside.{Files, Tells}
 use Rattle.sym_records.specs.declared.line.SymLine.{SymLine}
@@ -10,27 +10,27 @@ use Rattle.dumpsyms_cmd.specs.Verdict.{Verdict, refused, unread, LIMIT}
 use Rattle.dumpsyms_cmd.specs.Judgement.{judgement_verdict}
 use Rattle.dumpsyms_cmd.specs.declared.judgement.Judgement.{Judgement}
 
--- a symbol file that is refused
+-- the line for a symbol file that is refused
 abbrev pub refusal_line : SymRefusal → List ℕ
 refusal_line TooLong = too_long_line
 refusal_line (Text fault) = text_line fault
 
--- by the reading of the file
+-- the verdict on the result of reading the file
 abbrev pub by_records : (List SymLine → Verdict) → Result (List SymLine) SymRefusal → Verdict
 by_records answer (Ok lines) = answer lines
 by_records answer (Err why) = refused (refusal_line why)
 
--- by its bytes: it may have 2^29 of them
+-- the verdict on the bytes of the file, at most 2^29
 abbrev pub symbol_verdict : (List SymLine → Verdict) → List ℕ → Verdict
 symbol_verdict answer bytes = by_records answer (file_reading LIMIT bytes)
 
--- by the file, which may not be there
+-- the verdict on the file, which may be missing
 abbrev pub file_verdict : (List ℕ → Verdict) → Option (List ℕ) → Verdict
 file_verdict answer None = unread
 file_verdict answer (Some bytes) = answer bytes
 
--- a judgement is what a command answers to the bytes of the file that it names; where the store tells its files these are that file's, and where
--- it tells nothing they are some bytes
+-- a judgement is what a command answers to the bytes of the file that it names. If the store's files are known, these are the bytes of that file;
+-- else they are some bytes
 pub record AnswersBytes (name : List ℕ) (answer : List ℕ → Verdict) (files : Option Files) (j : Judgement) : Type 0 where
   pub bytes : List ℕ
   pub there : Tells files (λ f. f name ≡ Some bytes)

@@ -1,4 +1,4 @@
--- The words of the program, and what they ask for.
+-- The command-line arguments, and the command that they ask for.
 use Rattle.std.specs.Prelude.{◌≡◌, ℕ, ◌≤◌, ◌==◌, ◌^◌, ◌&&◌, Bool, true, false, not, nat_le, length, List, [], ◌∷◌, ◌++◌, Option, Some, None, Result, Ok, Err, codes, if◌then◌else◌}
 use Rattle.std.specs.List.{after_last, list_all}
 use Rattle.std.specs.Option.{option_map}
@@ -27,28 +27,28 @@ use Rattle.dumpsyms_cmd.specs.declared.words.StateQuery.TheVariants.{Frame, Walk
 use Rattle.dumpsyms_cmd.specs.declared.words.DebugPlace.{DebugPlace}
 use Rattle.dumpsyms_cmd.specs.declared.words.DebugPlace.TheVariants.{File, Root}
 
--- what the program is asked for
+-- a command: what the program is asked for
 pub data Asked : Type 0 where
-  -- the symbol file of an ELF file, or of one and its separate debug file, made by some workers
+  -- the symbol file of an ELF file, or of an ELF file and its separate debug file, made by this many workers
   dump : (source : ElfSource) → (workers : ℕ) → Asked
   -- what a checker finds in a symbol file
   check : (sym : List ℕ) → Asked
   -- what a symbol file names at an address
   lookup : (sym : List ℕ) → (address : ℕ) → Asked
-  -- what the rules of a symbol file evaluate to at an address, over a state file
+  -- what the rules of a symbol file evaluate to at an address, given the state in a state file
   frame : (sym : List ℕ) → (address : ℕ) → (state : List ℕ) → Asked
-  -- the counts of a dump, by some workers, of the made ELF file of so many units
+  -- the counts of a dump, by this many workers, of the generated ELF file with this many units
   sample : (units : ℕ) → (workers : ℕ) → Asked
-  -- the frames of a stack by the rules of a symbol file, from a state file
+  -- the frames of a stack by the rules of a symbol file, from the state in a state file
   walk : (sym : List ℕ) → (state : List ℕ) → Asked
-  -- whether a symbol file says what `dump` writes
+  -- whether a symbol file says the same as what `dump` writes
   judge : (source : ElfSource) → (sym : List ℕ) → Asked
-  -- a symbol file with its legacy Rust names in readable form
+  -- a symbol file with its Rust names in readable form
   names : (sym : List ℕ) → Asked
   -- the stacks of a core file's threads, by the symbol files in a folder
   stacks : (core : List ℕ) → (folder : List ℕ) → Asked
 
--- all commands read files, but `sample`
+-- all commands except `sample` read files
 abbrev pub reads_files : Asked → Bool
 reads_files (dump source workers) = true
 reads_files (check sym) = true
@@ -64,7 +64,7 @@ abbrev pub ReadsFiles : Option Asked → Type 0
 ReadsFiles None = ⊥
 ReadsFiles (Some asked) = reads_files asked ≡ true
 
--- compressed sections are read, and a file that cannot be read is named
+-- with `--full`, compressed sections are read, and the line for an unreadable file has its name
 abbrev pub is_full : Option Asked → Bool
 is_full (Some (dump source workers)) = source.full
 is_full (Some (judge source sym)) = source.full
@@ -76,11 +76,12 @@ last_name [] = []
 last_name (name ∷ []) = name
 last_name (name ∷ other ∷ rest) = last_name (other ∷ rest)
 
--- what a command says of a file that could not be read, by the names that were asked for
+-- the line for a file that could not be read, given the names that were asked for
 abbrev pub not_read_line : Option Asked → List (List ℕ) → List ℕ
 not_read_line command asked = unread_lines (is_full command) (last_name asked)
 
--- where a debug file is, which image is dumped, what is asked of a symbol file, or of one and a state file, and a command, as they are parsed
+-- the meaning of parsed arguments: the place of a debug file, the image to dump, a query of a symbol file, a query of a symbol file and a state file,
+-- and a command
 abbrev pub debug_view : DebugPlace → DebugFile
 debug_view (File path) = at_path path.now
 debug_view (Root root) = below_root root.now
@@ -105,33 +106,33 @@ command_view (Sample units workers) = sample units workers
 command_view (Judge source sym) = judge (source_view source) sym.now
 command_view (Stacks core folder) = stacks core.now folder.now
 
--- a number is decimal digits, without a sign, the first of them not 0
+-- a number is decimal digits without a sign, and does not begin with 0
 abbrev pub is_number : List ℕ → Bool
 is_number [] = false
 is_number (digit ∷ digits) = not (digit == 48) && list_all is_digit (digit ∷ digits)
 
--- the number that a word writes, where it is at most `most`
+-- the number that an argument spells, if it is at most `most`
 unfoldable pub number_upto : ℕ → List ℕ → Option ℕ
 number_upto most word = if is_number word && nat_le (digits_value 10 word) most then Some (digits_value 10 word) else None
 
--- how many workers there are where the words name no number, and how many they may name
+-- the number of workers if the arguments name none, and the greatest number that they may name
 abbrev pub USUAL_WORKERS : ℕ
 USUAL_WORKERS = 4
 
 abbrev pub MOST_WORKERS : ℕ
 MOST_WORKERS = 64
 
--- how many units a made file may have
+-- how many units a generated file may have
 abbrev pub MOST_UNITS : ℕ
 MOST_UNITS = 20000
 
--- the row of a sample, where both numbers are there
+-- the `sample` command, if both numbers are valid
 abbrev pub sample_of : Option ℕ → Option ℕ → Option Asked
 sample_of (Some units) (Some workers) = Some (sample units workers)
 sample_of None workers = None
 sample_of (Some units) None = None
 
--- the address that a word writes: 1 to 16 hexadecimal digits of either case
+-- the address that an argument spells: 1 to 16 hexadecimal digits of either case
 unfoldable pub address_of : List ℕ → Option ℕ
 address_of word = if length word == 0 then None else hex_value word
 
@@ -145,7 +146,7 @@ with_file_at full elf path = record { full = full; elf = elf; debug = Some (at_p
 abbrev pub with_root : Bool → List ℕ → List ℕ → ElfSource
 with_root full elf root = record { full = full; elf = elf; debug = Some (below_root root) }
 
--- the two words that say where a debug file is: `--debug FILE` and `--debug-root DIR`
+-- the two arguments that name a debug file: `--debug FILE` or `--debug-root DIR`
 abbrev pub debug_words : Bool → List ℕ → List ℕ → List ℕ → Option ElfSource
 debug_words full elf word place =
     if bytes_eq word (codes "--debug") then Some (with_file_at full elf place)
@@ -156,20 +157,20 @@ debug_words full elf word place =
 abbrev pub dump_usual : ElfSource → Asked
 dump_usual source = dump source USUAL_WORKERS
 
--- the row of a dump with two words behind the ELF file: `--workers N`, `--debug FILE` or `--debug-root DIR`
+-- a `dump` command with two arguments after the ELF file: `--workers N`, `--debug FILE` or `--debug-root DIR`
 abbrev pub dump_words : Bool → List ℕ → List ℕ → List ℕ → Option Asked
 dump_words full elf word value =
     if bytes_eq word (codes "--workers") then option_map (dump (alone full elf)) (number_upto MOST_WORKERS value)
     else option_map dump_usual (debug_words full elf word value)
 
--- the row of `judge` with two words behind the symbol file: `--debug FILE` or `--debug-root DIR`
+-- a `judge` command with two arguments after the symbol file: `--debug FILE` or `--debug-root DIR`
 abbrev pub judge_by : List ℕ → ElfSource → Asked
 judge_by sym source = judge source sym
 
 abbrev pub judge_words : Bool → List ℕ → List ℕ → List ℕ → List ℕ → Option Asked
 judge_words full elf sym word value = option_map (judge_by sym) (debug_words full elf word value)
 
--- the rows `dump ELF`, `check SYM`, `sample N` and `names SYM`
+-- two arguments: `dump ELF`, `check SYM`, `sample N` and `names SYM`
 abbrev pub two_words : List ℕ → List ℕ → Option Asked
 two_words word name =
     if bytes_eq word (codes "dump") then Some (dump_usual (alone false name))
@@ -178,7 +179,7 @@ two_words word name =
     else if bytes_eq word (codes "names") then Some (names name)
     else None
 
--- the rows `lookup SYM ADDR`, `walk SYM STATE`, `judge ELF SYM`, `stacks CORE STORE` and `dump --full ELF`
+-- three arguments: `lookup SYM ADDR`, `walk SYM STATE`, `judge ELF SYM`, `stacks CORE STORE` and `dump --full ELF`
 abbrev pub three_words : List ℕ → List ℕ → List ℕ → Option Asked
 three_words word name third =
     if bytes_eq word (codes "lookup") then option_map (lookup name) (address_of third)
@@ -188,7 +189,7 @@ three_words word name third =
     else if bytes_eq word (codes "dump") && bytes_eq name (codes "--full") then Some (dump_usual (alone true third))
     else None
 
--- the rows of `dump ELF` with two words behind it, `sample N --workers W`, `frame SYM ADDR STATE` and `judge --full ELF SYM`
+-- four arguments: `dump ELF` with two more, `sample N --workers W`, `frame SYM ADDR STATE` and `judge --full ELF SYM`
 abbrev pub four_words : List ℕ → List ℕ → List ℕ → List ℕ → Option Asked
 four_words word name third fourth =
     if bytes_eq word (codes "dump") then dump_words false name third fourth
@@ -197,20 +198,20 @@ four_words word name third fourth =
     else if bytes_eq word (codes "judge") && bytes_eq name (codes "--full") then Some (judge (alone true third) fourth)
     else None
 
--- the rows of `dump --full ELF` and of `judge ELF SYM` with two words behind them
+-- five arguments: `dump --full ELF` with two more, and `judge ELF SYM` with two more
 abbrev pub five_words : List ℕ → List ℕ → List ℕ → List ℕ → List ℕ → Option Asked
 five_words word name third fourth fifth =
     if bytes_eq word (codes "dump") && bytes_eq name (codes "--full") then dump_words true third fourth fifth
     else if bytes_eq word (codes "judge") then judge_words false name third fourth fifth
     else None
 
--- the rows of `judge --full ELF SYM` with two words behind it
+-- six arguments: `judge --full ELF SYM` with two more
 abbrev pub six_words : List ℕ → List ℕ → List ℕ → List ℕ → List ℕ → List ℕ → Option Asked
 six_words word name third fourth fifth sixth =
     if bytes_eq word (codes "judge") && bytes_eq name (codes "--full") then judge_words true third fourth fifth sixth
     else None
 
--- the table of rows: these, and no other words
+-- the command that the arguments ask for; all other arguments are invalid
 abbrev pub command_of : List (List ℕ) → Option Asked
 command_of [] = None
 command_of (word ∷ []) = None
@@ -221,18 +222,18 @@ command_of (word ∷ name ∷ third ∷ fourth ∷ fifth ∷ []) = five_words wo
 command_of (word ∷ name ∷ third ∷ fourth ∷ fifth ∷ sixth ∷ []) = six_words word name third fourth fifth sixth
 command_of (word ∷ name ∷ third ∷ fourth ∷ fifth ∷ sixth ∷ more ∷ words) = None
 
--- the line that answers other words
+-- the line for invalid arguments
 abbrev pub usage_line : List ℕ
 usage_line = line (codes "usage: dumpsyms dump ELF, check SYM, lookup SYM ADDR, frame SYM ADDR STATE, sample N, walk SYM STATE, judge ELF SYM, names SYM, dump --full ELF, stacks CORE STORE")
 
--- a dump has from one to 64 workers, and so has a sample, which has no more units than it may have
+-- a dump has 1 to 64 workers. A sample has 1 to 64 workers, too, and at most `MOST_UNITS` units
 abbrev pub HasWorkers : Option Asked → Type 0
 HasWorkers None = Unit {0}
 HasWorkers (Some (dump source workers)) = (1 ≤ workers) × (workers ≤ MOST_WORKERS)
 HasWorkers (Some (sample units workers)) = (units ≤ MOST_UNITS) × ((1 ≤ workers) × (workers ≤ MOST_WORKERS))
 HasWorkers (Some other) = Unit {0}
 
--- the second file of a command over a symbol file is read only where that has records
+-- the second file of a command is read only if the first, a symbol file, has records
 abbrev pub if_records : Result (List SymLine) SymRefusal → List ℕ → List (List ℕ)
 if_records (Ok lines) name = name ∷ []
 if_records (Err why) name = []
@@ -245,7 +246,7 @@ abbrev pub second_told : Option Files → List ℕ → List ℕ → List (List �
 second_told None first name = name ∷ []
 second_told (Some files) first name = second_of (files first) name
 
--- the symbol file of `judge` is read only where the ELF file is dumped
+-- the symbol file of `judge` is read only if the ELF file can be dumped
 abbrev pub if_dumped : Result DebugSays DebugFault → List ℕ → List (List ℕ)
 if_dumped (Ok found) name = name ∷ []
 if_dumped (Err fault) name = []
@@ -258,9 +259,9 @@ abbrev pub dumped_told : Option Files → ElfSource → List ℕ → List (List 
 dumped_told None source name = name ∷ []
 dumped_told (Some files) source name = if_image (given_image source files) name
 
--- the files that a command asks for, in the order in which they are read, where the store tells its files or tells nothing; then the debug
--- file below a root is that of some build id, and a supplementary file that of some link. Those of `stacks` behind its core file are found out as
--- it goes
+-- the files that a command asks for, in the order in which they are read. If the store's files are not known, the debug file below a root directory
+-- is that for some build id, and a supplementary file is that for some link. The symbol files of `stacks` are not listed: which ones it asks for
+-- depends on the steps that it finds
 abbrev pub files_of : Option Asked → Option Files → Untold → List (List ℕ)
 files_of None files untold = []
 files_of (Some (dump source workers)) files untold = elf_names files source untold
@@ -277,6 +278,6 @@ files_of (Some (stacks core folder)) files untold = core ∷ []
 abbrev pub is_slash : ℕ → Bool
 is_slash b = b == 47
 
--- what follows the last slash of a path, or all of it
+-- the part of a path after its last slash, or the whole path if it has no slash
 unfoldable pub module_name : List ℕ → List ℕ
 module_name path = after_last is_slash path

@@ -1,4 +1,4 @@
--- What each command answers, and what its text means: a page each.
+-- What each command answers, and what its text means: one module each.
 pub mod Dump
 pub mod Sample
 pub mod Check

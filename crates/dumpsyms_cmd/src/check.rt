@@ -11,10 +11,10 @@ use sym_edges::OutOfMemory;
 use sym_findings::{Finding, findings};
 use sym_records::{ByteText, SymFile};
 
-/// Nothing was found.
+/// The text if nothing was found.
 const NO_FINDINGS: &[u8] = b"no findings\n";
 
-/// Adds the line of a finding.
+/// Adds the line for a finding.
 fn add_finding(text: &mut Vec<u8>, finding: &Finding) -> Result<(), AllocError>
     ensures { OnOk result (text.new.items ≡ text.old.items ++ finding_line finding.now) }
 {
@@ -24,7 +24,7 @@ fn add_finding(text: &mut Vec<u8>, finding: &Finding) -> Result<(), AllocError>
     add_line(text, finding.kind.word(), &words)
 }
 
-/// Adds the lines of findings.
+/// Adds the lines for findings.
 fn add_findings(text: &mut Vec<u8>, found: &[Finding]) -> Result<(), AllocError>
     ensures { OnOk result (text.new.items ≡ text.old.items ++ findings_text found.now) }
 {

@@ -1,4 +1,4 @@
-//! The words and the files, judged.
+//! Decides what to answer, given the arguments and the files.
 ghost use Rattle.std.specs.Prelude.{◌≡◌, ◌≤◌, ℕ, List, Option, Some, None, IfOk, map};
 ghost use Rattle.sym_edges.specs.Outside.{Files};
 ghost use Rattle.std.specs.String.{string_bytes};
@@ -27,7 +27,7 @@ use sym_edges::{OutOfMemory, ReadEnd, Stop, Store};
 use sym_records::ByteText;
 use unit_workers::{Crew, Gate};
 
-/// A refusal with a line.
+/// A refusal with this line.
 pub fn refuse(line: Message) -> Judgement
     ensures { Refuses result (err_bytes line) }
 {
@@ -38,7 +38,7 @@ pub fn refuse(line: Message) -> Judgement
     }
 }
 
-/// A dump of a source's image without faults after it.
+/// A dump of a source's image, given its debugging information.
 #[tactic(auto, using(crate::proofs::JudgedLemmas::dumps_named))]
 fn judge_records<R: Threads + Sync>(
     crew: &Crew<'_, R>,
@@ -76,7 +76,7 @@ pub(crate) fn judge_image<R: Threads + Sync, G: Gate + Sync>(
     }
 }
 
-/// The answer by a line that refuses.
+/// A refusal with a line that was made.
 pub fn answer_line(made: Result<ByteText, AllocError>) -> Answer
     ensures { AnswersMade result made }
 {
@@ -86,7 +86,7 @@ pub fn answer_line(made: Result<ByteText, AllocError>) -> Answer
     }
 }
 
-/// The answer where a file could not be read whole; `unread` is the line for one that could not be opened or read.
+/// The answer if a file could not be read whole; `unread` is the line for a file that could not be opened or read.
 #[tactic(auto, using(crate::proofs::JudgedLemmas::too_long_judged))]
 pub fn answer_stop(stop: Stop<ReadEnd>, unread: Message) -> Answer
     ensures { AnswersStop result (err_bytes unread) stop }
@@ -98,7 +98,7 @@ pub fn answer_stop(stop: Stop<ReadEnd>, unread: Message) -> Answer
     }
 }
 
-/// The answer to `dump ELF`, also with `--full`, or with a debug file, by some workers.
+/// The answer to `dump ELF`, also with `--full` or with a debug file, by a crew of workers.
 #[tactic(auto, using(crate::proofs::SourceLemmas::dump_answered, crate::proofs::SourceLemmas::dump_asked))]
 fn answer_dump<R: Threads + Sync, S: Store, G: Gate + Sync>(
     watched: &WatchedCrew<'_, R, G>,
@@ -114,7 +114,7 @@ fn answer_dump<R: Threads + Sync, S: Store, G: Gate + Sync>(
     answer_source(watched, source, store)
 }
 
-/// The answer to `sample N`, by some workers.
+/// The answer to `sample N`, by a crew of workers.
 #[tactic(auto, using(crate::proofs::SampleLemmas::sample_answered))]
 fn answer_sample<R: Threads + Sync, G: Gate + Sync>(
     watched: &WatchedCrew<'_, R, G>,
@@ -138,7 +138,7 @@ fn answer_usage() -> Answer
     })
 }
 
-/// The answer to the words, over the files of the store. All memory that the program needs is taken here.
+/// The answer to the arguments, given the files of the store. All memory that the program needs is allocated here.
 #[tactic(auto, using(crate::proofs::JudgedLemmas::asks_none, crate::proofs::JudgedLemmas::asks_row, crate::proofs::SampleLemmas::asks_nothing, crate::proofs::RunLemmas::words_answered, crate::proofs::RunLemmas::words_steady))]
 pub fn answer_words<R: Threads + Sync, S: Store, G: Gate + Sync>(
     rt: &R,

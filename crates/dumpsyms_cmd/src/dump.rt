@@ -1,4 +1,4 @@
-//! The symbol file of an image: its records, spelled, and what is said of those that are left out.
+//! The symbol file of an image: the text of its records, and the lines about what is left out.
 ghost use Rattle.std.specs.Prelude.{◌≡◌, ◌≤◌, ◌++◌, ◌∷◌, true, None, Ok, length, map, IfOk, OnOk};
 ghost use Rattle.clean_names.specs.Cleaning.{cleaned};
 ghost use Rattle.sym_records.specs.Canon.{canon, canon_text};
@@ -28,7 +28,7 @@ use sym_records::laws::cleaned_bytes_are_names;
 use sym_records::{ByteText, SymText, TextPieces, add_info, add_module, add_public};
 use unit_workers::Crew;
 
-/// Spells the record of the binary, under its cleaned name.
+/// Spells the MODULE record of the binary, with its cleaned name.
 #[tactic(auto, using(crate::proofs::RecordLemmas::module_valid), unfolding(crate::specs::commands::Dump::module_line))]
 fn put_module(
     alloc: Global,
@@ -45,7 +45,7 @@ fn put_module(
     add_module(text, b"Linux", b"x86_64", &id, name)
 }
 
-/// Spells the record of a build id.
+/// Spells the INFO record of a build id.
 #[tactic(auto, using(crate::proofs::RecordLemmas::info_valid), unfolding(crate::specs::commands::Dump::info_line))]
 fn put_info(alloc: Global, text: &mut Vec<u8>, id: &[u8]) -> Result<(), OutOfMemory>
     requires { length id.now ≤ 64 }
@@ -57,7 +57,7 @@ fn put_info(alloc: Global, text: &mut Vec<u8>, id: &[u8]) -> Result<(), OutOfMem
     add_info(text, &words)
 }
 
-/// Spells the records of the binary and of its build id.
+/// Spells the MODULE record of the binary and the INFO record of its build id.
 #[tactic(auto, using(crate::proofs::RecordLemmas::module_alone, crate::proofs::RecordLemmas::module_and_info, crate::proofs::RecordLemmas::module_fits_first, crate::proofs::RecordLemmas::info_fits_behind))]
 fn put_identity(
     alloc: Global,
@@ -75,7 +75,7 @@ fn put_identity(
     Ok(())
 }
 
-/// Adds the record of an address of function symbols.
+/// Adds the PUBLIC record for an address with function symbols.
 #[tactic(auto, using(sym_records::proofs::MakingLemmas::public_fits))]
 fn add_public_at(text: &mut Vec<u8>, base: u64, at: &PublicAt<'_>) -> Result<(), OutOfMemory>
     ensures text { OnOk result (text.new.items ≡ text.old.items ++ canon (public_line base (public_view at.now))) }
@@ -85,7 +85,7 @@ fn add_public_at(text: &mut Vec<u8>, base: u64, at: &PublicAt<'_>) -> Result<(),
     add_public(text, at.many, at.address.saturating_sub(base), 0, at.name)
 }
 
-/// Adds the records of function symbols that no piece of a function covers.
+/// Adds the PUBLIC records of function symbols that no piece of a function covers.
 fn add_publics(
     alloc: Global,
     base: u64,
@@ -102,7 +102,7 @@ fn add_publics(
     Ok(())
 }
 
-/// Spells the records in front of those of frames, under the file's cleaned name.
+/// Spells the records before the frame records. MODULE has the file's cleaned name.
 fn spell_head<R: Threads + Sync>(
     crew: &Crew<'_, R>,
     image: &Image<'_>,
@@ -130,7 +130,7 @@ struct FileText {
     omitted: Omissions,
 }
 
-/// The records of a file, spelled: those in front, and then those of its frame entries.
+/// Spells the records of a file. The frame records come last.
 fn dump_file<R: Threads + Sync>(
     crew: &Crew<'_, R>,
     image: &Image<'_>,
@@ -157,8 +157,7 @@ fn dump_file<R: Threads + Sync>(
     })
 }
 
-/// A symbol file, what is left out of it as lines of text (units that are skipped, then frame entries), and how many frame
-/// entries these are.
+/// A symbol file; what is left out of it, as lines of text (skipped units, then frame entries); and the number of frame entries that are left out.
 #[derive(Debug, Drop)]
 pub struct Dumped {
     pub file: SymText,
@@ -166,10 +165,9 @@ pub struct Dumped {
     pub omitted: usize,
 }
 
-/// Spells the symbol file of an image under a name, which is cleaned (Breakpad's symbol_files.md): MODULE, INFO, FILE, INLINE_ORIGIN,
-/// each FUNC with its INLINE and line records, PUBLIC, and the records of frames. `debug` is what `read_debug` answered for the image.
-/// Where `full`, what is left out names the units whose entries stand in another file too. It is spelled by a crew of workers,
-/// whose number changes nothing.
+/// Spells the symbol file of an image (Breakpad's symbol_files.md): MODULE, INFO, FILE, INLINE_ORIGIN, each FUNC with its INLINE and line records,
+/// PUBLIC, and the frame records. The name is cleaned. `debug` is what `read_debug` returned for the image. If `full`, the lines about what is left
+/// out also name the units whose entries are in another file. A crew of workers spells the text; their number changes nothing.
 pub fn assemble<R: Threads + Sync>(
     crew: &Crew<'_, R>,
     image: &Image<'_>,

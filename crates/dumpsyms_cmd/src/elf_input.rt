@@ -1,4 +1,4 @@
-//! The files of a dump: an ELF file, and perhaps its separate debug file; `sup_input` has the supplementary file behind them.
+//! The files of a dump: an ELF file, and perhaps its separate debug file. `sup_input` reads the supplementary file.
 ghost use Rattle.std.specs.Prelude.{◌≡◌, ◌≤◌, [], ◌∷◌, Ok, Err, codes};
 ghost use Rattle.std.specs.String.{string_bytes};
 ghost use Rattle.sym_edges.specs.Outside.{MatchStop};
@@ -26,7 +26,7 @@ use std::thread::Threads;
 use sym_edges::{FILE_LIMIT, Stop, Store, read_all};
 use unit_workers::{Crew, Gate};
 
-/// A file whose tables were read, and what its compressed sections give.
+/// A file whose tables were read, and the results of inflating its compressed sections.
 #[derive(Drop)]
 struct Opened<'a> {
     packed: PackedImage<'a>,
@@ -40,7 +40,7 @@ struct Images<'i, 'b, 'd> {
     debug: &'i Image<'d>,
 }
 
-/// Reads the tables of a file, and its compressed sections where `full`.
+/// Reads the tables of a file, and inflates its compressed sections if `full`.
 fn open_file<'a, R: Threads + Sync>(
     crew: &Crew<'_, R>,
     bytes: &'a [u8],
@@ -57,7 +57,7 @@ fn open_file<'a, R: Threads + Sync>(
     }
 }
 
-/// The path of a binary's debug file below a root, or the word of why there is none.
+/// The path of a binary's debug file below a root directory, or the word for why there is none.
 #[tactic(auto, using(crate::proofs::SourceLemmas::placed_below, crate::proofs::SourceLemmas::short_below, crate::proofs::SourceLemmas::none_below))]
 fn find_below(alloc: Global, root: &str, binary: &Image<'_>) -> Result<String, Stop<&'static [u8]>>
     ensures { MatchStop result
@@ -75,7 +75,7 @@ fn find_below(alloc: Global, root: &str, binary: &Image<'_>) -> Result<String, S
     }
 }
 
-/// The path of a binary's debug file, or the word of why there is none.
+/// The path of a binary's debug file, or the word for why there is none.
 fn find_debug(
     alloc: Global,
     debug: DebugPlace<'_>,
@@ -92,7 +92,7 @@ fn find_debug(
     }
 }
 
-/// The answer by a binary and the image of its debug file, which stands at a path.
+/// The answer given a binary and the image of its debug file, which was read from `path`.
 #[tactic(auto, using(crate::proofs::SourceLemmas::pair_answered, crate::proofs::SourceLemmas::pair_asked, crate::proofs::SourceLemmas::pair_refused, crate::proofs::SourceLemmas::no_pair_asked, crate::proofs::SourceLemmas::none_asked, crate::proofs::SteadyLemmas::any_steady))]
 fn answer_pair<R: Threads + Sync, S: Store, G: Gate + Sync>(
     watched: &WatchedCrew<'_, R, G>,
@@ -114,7 +114,7 @@ fn answer_pair<R: Threads + Sync, S: Store, G: Gate + Sync>(
         Err(Stop::NoMemory) => Answer::NoMemory,
     }
 }
-/// The same by a debug file whose tables were read.
+/// The answer given a debug file whose tables were read.
 #[tactic(auto, using(crate::proofs::SourceLemmas::debug_answered, crate::proofs::SourceLemmas::debug_asked, crate::proofs::SourceLemmas::debug_refused, crate::proofs::SourceLemmas::no_debug_asked, crate::proofs::SteadyLemmas::any_steady))]
 fn answer_unpacked<R: Threads + Sync, S: Store, G: Gate + Sync>(
     watched: &WatchedCrew<'_, R, G>,
@@ -147,7 +147,7 @@ fn answer_unpacked<R: Threads + Sync, S: Store, G: Gate + Sync>(
     }
 }
 
-/// The same over the bytes of the debug file.
+/// The answer given the bytes of the debug file.
 #[tactic(auto, using(crate::proofs::SourceLemmas::debug_opened, crate::proofs::SourceLemmas::debug_opened_asked, crate::proofs::SourceLemmas::debug_refused, crate::proofs::SourceLemmas::no_debug_asked, crate::proofs::SourceLemmas::none_asked, crate::proofs::SteadyLemmas::any_steady))]
 fn answer_debug<R: Threads + Sync, S: Store, G: Gate + Sync>(
     watched: &WatchedCrew<'_, R, G>,
@@ -170,8 +170,8 @@ fn answer_debug<R: Threads + Sync, S: Store, G: Gate + Sync>(
     }
 }
 
-/// The answer by a debug file that is still to be read. The line for a file that cannot be read is made before, since no memory is
-/// taken after a file failed.
+/// The answer given the path of a debug file, which is read here. The line for an unreadable file is made before that, since no memory is allocated
+/// after a file failed.
 #[tactic(auto, using(crate::proofs::SourceLemmas::file_unread, crate::proofs::SteadyLemmas::stop_steady, crate::proofs::SteadyLemmas::steady_behind, crate::proofs::SteadyLemmas::any_steady))]
 fn answer_file<R: Threads + Sync, S: Store, G: Gate + Sync>(
     watched: &WatchedCrew<'_, R, G>,
@@ -196,7 +196,7 @@ fn answer_file<R: Threads + Sync, S: Store, G: Gate + Sync>(
     }
 }
 
-/// The answer by a binary whose debug file is still to be found.
+/// The answer given a binary whose debug file is still to be found.
 #[tactic(auto, using(crate::proofs::SourceLemmas::file_answered, crate::proofs::SourceLemmas::file_asked, crate::proofs::SourceLemmas::file_refused, crate::proofs::SourceLemmas::no_file_asked, crate::proofs::SourceLemmas::path_unknown, crate::proofs::SteadyLemmas::any_steady))]
 fn answer_place<R: Threads + Sync, S: Store, G: Gate + Sync>(
     watched: &WatchedCrew<'_, R, G>,
@@ -219,7 +219,7 @@ fn answer_place<R: Threads + Sync, S: Store, G: Gate + Sync>(
     }
 }
 
-/// The answer by the image of the ELF file.
+/// The answer given the image of the ELF file.
 #[tactic(auto, using(crate::proofs::SourceLemmas::none_answered, crate::proofs::SourceLemmas::none_named, crate::proofs::SourceLemmas::some_answered, crate::proofs::SourceLemmas::some_asked))]
 fn answer_binary<R: Threads + Sync, S: Store, G: Gate + Sync>(
     watched: &WatchedCrew<'_, R, G>,
@@ -239,7 +239,7 @@ fn answer_binary<R: Threads + Sync, S: Store, G: Gate + Sync>(
     }
 }
 
-/// The same by the ELF file, whose tables were read.
+/// The answer given the ELF file, whose tables were read.
 #[tactic(auto, using(crate::proofs::SourceLemmas::binary_answered, crate::proofs::SourceLemmas::binary_refused, crate::proofs::SourceLemmas::binary_asked, crate::proofs::SourceLemmas::refused_asked, crate::proofs::SteadyLemmas::any_steady))]
 fn answer_opened<R: Threads + Sync, S: Store, G: Gate + Sync>(
     watched: &WatchedCrew<'_, R, G>,
@@ -261,7 +261,7 @@ fn answer_opened<R: Threads + Sync, S: Store, G: Gate + Sync>(
     }
 }
 
-/// The same over the bytes of the ELF file.
+/// The answer given the bytes of the ELF file.
 #[tactic(auto, using(crate::proofs::SourceLemmas::opened_answered, crate::proofs::SourceLemmas::opened_asked, crate::proofs::SourceLemmas::binary_refused, crate::proofs::SourceLemmas::refused_asked, crate::proofs::SourceLemmas::memory_asked, crate::proofs::SteadyLemmas::any_steady))]
 fn answer_bytes<R: Threads + Sync, S: Store, G: Gate + Sync>(
     watched: &WatchedCrew<'_, R, G>,
@@ -282,8 +282,8 @@ fn answer_bytes<R: Threads + Sync, S: Store, G: Gate + Sync>(
     }
 }
 
-/// The answer by the image that the files of a source give. The ELF file is read first, and the debug file only where that has an image
-/// and says where it is.
+/// The answer for the image that the files of a source give. The ELF file is read first. The debug file is read only if the ELF file has an image and
+/// the place of the debug file is known.
 #[tactic(auto, using(crate::proofs::SourceLemmas::elf_stopped, crate::proofs::SourceLemmas::elf_not_read, crate::proofs::SourceLemmas::nothing_asked, crate::proofs::SteadyLemmas::stop_steady, crate::proofs::SteadyLemmas::steady_behind, crate::proofs::SteadyLemmas::any_steady))]
 pub(crate) fn answer_source<R: Threads + Sync, S: Store, G: Gate + Sync>(
     watched: &WatchedCrew<'_, R, G>,

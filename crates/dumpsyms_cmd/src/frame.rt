@@ -11,7 +11,7 @@ use std::alloc::Global;
 use sym_edges::OutOfMemory;
 use sym_records::SymFile;
 
-/// What the rules at an address evaluate to over a state. One address needs no index: a scan of the records is less work.
+/// What the rules at an address evaluate to, given a state. One address needs no index, since a scan of the records is less work.
 pub(crate) fn judge_frame(
     alloc: Global,
     file: &SymFile,

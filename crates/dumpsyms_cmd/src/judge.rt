@@ -1,4 +1,4 @@
-//! `judge ELF SYM`, by the records of both.
+//! `judge ELF SYM`, given the records of both files.
 ghost use Rattle.std.specs.Prelude.{◌≡◌, IfOk};
 ghost use Rattle.dumpsyms_cmd.specs.Judgement.{judgement_verdict};
 ghost use Rattle.dumpsyms_cmd.specs.commands.Judge.{aspect_word, ruling_verdict, IsRuled};
@@ -10,7 +10,7 @@ use sym_edges::OutOfMemory;
 use sym_judge::{Aspect, Ruling, judge};
 use sym_records::{ByteText, SymFile};
 
-/// The word of what two files say differently.
+/// The word for what differs between two files.
 fn aspect_word(aspect: Aspect) -> &'static [u8]
     ensures { result.now ≡ aspect_word aspect }
 {
@@ -25,7 +25,7 @@ fn aspect_word(aspect: Aspect) -> &'static [u8]
     }
 }
 
-/// The line of an address and what differs there.
+/// The line with an address and the word for what differs there.
 fn unlike_line(alloc: Global, address: u64, aspect: Aspect) -> Result<ByteText, OutOfMemory>
     ensures { IfOk result (λ text. text ≡ (ruling_verdict (Ruling.No address aspect)).out) }
 {
@@ -37,7 +37,7 @@ fn unlike_line(alloc: Global, address: u64, aspect: Aspect) -> Result<ByteText, 
     Ok(ByteText::of(text))
 }
 
-/// The judgement of a ruling.
+/// The judgement for a ruling.
 fn ruled(alloc: Global, ruling: Ruling) -> Result<Judgement, OutOfMemory>
     ensures { IfOk result (λ j. judgement_verdict j ≡ ruling_verdict ruling) }
 {

@@ -1,4 +1,4 @@
-//! What is answered over the files of a dump and a symbol file.
+//! Answers `judge`, which reads the files of a dump and a symbol file.
 ghost use Rattle.std.specs.Prelude.{◌≡◌, ◌≤◌, [], ◌∷◌, Some};
 ghost use Rattle.dumpsyms_cmd.specs.ElfInput.{ElfSource};
 ghost use Rattle.dumpsyms_cmd.specs.Words.{source_view, dumped_told, judge};
@@ -21,8 +21,8 @@ use sym_grammar::read_file;
 use sym_records::SymFile;
 use unit_workers::Gate;
 
-/// The answer to a symbol file, against records. The line for a file that cannot be read, which has its name where `full`, is made
-/// before, since no memory is taken after a file failed.
+/// The answer given records and the name of a symbol file, which is read here. The line for an unreadable file, with its name if `full`, is made
+/// before that, since no memory is allocated after a file failed.
 #[tactic(auto, using(crate::proofs::JudgeLemmas::sym_read, crate::proofs::JudgeLemmas::sym_ended, crate::proofs::AnswerLemmas::asks_symbols, crate::proofs::JudgeLemmas::not_asked, crate::proofs::SteadyLemmas::end_steady, crate::proofs::SteadyLemmas::any_steady))]
 fn answer_sym<S: Store>(
     alloc: Global,
@@ -46,7 +46,7 @@ fn answer_sym<S: Store>(
     }
 }
 
-/// The answer by a dump of the source: the symbol file is read only where that gave a text.
+/// The answer given a dump of the source. The symbol file is read only if the dump gave a text.
 fn answer_dumped<S: Store>(
     alloc: Global,
     dumped: Judgement,
@@ -69,7 +69,7 @@ fn answer_dumped<S: Store>(
     }
 }
 
-/// The answer to `judge ELF SYM`, also with `--full`, or with a debug file. The source is read and dumped first.
+/// The answer to `judge ELF SYM`, also with `--full` or with a debug file. The source is read and dumped first.
 #[tactic(auto, using(crate::proofs::SteadyLemmas::steady_behind))]
 pub(crate) fn answer_judge<R: Threads + Sync, S: Store, G: Gate + Sync>(
     watched: &WatchedCrew<'_, R, G>,

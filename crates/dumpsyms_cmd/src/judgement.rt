@@ -1,4 +1,4 @@
-//! What is found out before anything is written.
+//! What is decided before anything is written.
 use sym_records::{ByteText, SymFile, SymText};
 
 /// What standard output gets.
@@ -8,7 +8,7 @@ pub enum Output {
     /// The canonical text of these records.
     Text(SymText),
     Bytes(ByteText),
-    /// The canonical text of these records, which are spelled when they are written.
+    /// The canonical text of these records, which is made while it is written.
     Records(SymFile),
 }
 
@@ -19,7 +19,7 @@ pub enum Message {
     Made(ByteText),
 }
 
-/// The status 0, 1 or 2, and what both streams get.
+/// The status (0, 1 or 2), and what both streams get.
 #[derive(Debug, Drop)]
 pub struct Judgement {
     pub status: u8,
@@ -31,7 +31,7 @@ pub struct Judgement {
 #[derive(Debug, Drop)]
 pub enum Answer {
     Judged(Judgement),
-    /// A file could not be opened or read, as this line says.
+    /// A file could not be opened or read; this is the line for it.
     Unread(Message),
     NoMemory,
 }

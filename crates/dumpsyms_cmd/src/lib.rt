@@ -1,22 +1,23 @@
-//! The program: words and files in, a status and two texts out.
+//! The program: from arguments and files it makes a status and two texts.
 //!
-//! `dump ELF` reads a file and its debugging information, by as many workers as the words say, makes the records of its symbol file
-//! (Breakpad's symbol_files.md) and writes them, or names the first fault; `dump ELF --debug FILE` and `dump ELF --debug-root DIR` take
-//! the debugging information of a stripped file from a second one of the same build, and `dump --full` reads compressed sections. `check SYM`, `lookup SYM ADDR`, `frame SYM ADDR STATE` and
-//! `walk SYM STATE` read a symbol file of any tool, and print what a checker finds in it, what it names at an address, what its frame rules
-//! evaluate to there, and the frames of a stack by these rules; `stacks CORE STORE` prints the stacks of a core file's threads by the symbol files
-//! in a folder. `sample N` counts what a dump of a made file of N units has.
+//! `dump ELF` reads a file and its debugging information, by as many workers as the arguments say. It writes the records of the symbol file
+//! (Breakpad's symbol_files.md), or it names the first fault. `dump ELF --debug FILE` and `dump ELF --debug-root DIR` take the debugging information
+//! of a stripped file from a second file of the same build. `dump --full` reads compressed sections. `check SYM` prints what a checker finds in a
+//! symbol file of any tool, and `lookup SYM ADDR` what the file names at an address. `frame SYM ADDR STATE` prints what the file's frame rules
+//! evaluate to there, and `walk SYM STATE` the frames of a stack by these rules. `judge ELF SYM` compares a symbol file with what `dump` writes, and
+//! `names SYM` writes it with readable names. `stacks CORE STORE` prints the stacks of a core file's threads by the symbol files in a folder.
+//! `sample N` prints counts for a dump of a generated file with N units.
 //!
-//! The contract of `run` says which status comes, what each text holds, and which names are asked for. Of a dump it says that at every
-//! address of the units that are read the text names DWARF's function, inline chain and line; that evaluating the rules of each written frame
-//! entry gives DWARF's CFA, return address and registers, for all registers and memory; and that the text reads back as the file's records.
+//! The contract of `run` says which status comes, what each text holds, and which names are asked for. It says three things about a dump. At every
+//! address of the units that are read, the text names DWARF's function, inline chain and line. Evaluating the rules of each written frame entry gives
+//! DWARF's CFA, return address and registers, for all registers and memory. The text reads back as the file's records.
 //!
-//! To read: `specs/Program.antt` with `program`, and a page for each command in `specs/commands/`; `words` and `commands`; `dump`, `omissions`,
-//! `split_units` and `refusals`; `symbol_input` with `check`, `lookup` and `names`, and `state_input` with `frame` and
-//! `walk`; `elf_input` with the files of `dump`, and `judge_input` with `judge`.
+//! To read: `specs/Program.antt` with `program`; the module of each command in `specs/commands/`; `words` and `commands`; `dump`, `omissions`,
+//! `split_units` and `refusals`; `symbol_input` with `check`, `lookup` and `names`; `state_input` with `frame` and `walk`; `elf_input` with the files
+//! of `dump`; `judge_input` with `judge`.
 #![tactic(auto)]
 
-// The program, its words, and what is found out before anything is written.
+// The program, its arguments, and what is decided before anything is written.
 mod commands;
 mod judgement;
 mod program;
@@ -37,7 +38,7 @@ mod sup_input;
 mod judge;
 mod judge_input;
 
-// The commands over symbol files.
+// The commands on symbol files.
 mod check;
 mod frame;
 mod lookup;

@@ -9,7 +9,7 @@ use sym_edges::OutOfMemory;
 use sym_lookup::{answer_at, answer_text};
 use sym_records::SymFile;
 
-/// What the records of a file name at an address. One address needs no index: a scan of the records is less work.
+/// What the records of a file name at an address. One address needs no index, since a scan of the records is less work.
 pub(crate) fn judge_address(
     alloc: Global,
     file: &SymFile,

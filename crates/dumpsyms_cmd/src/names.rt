@@ -9,7 +9,7 @@ use std::alloc::Global;
 use sym_edges::OutOfMemory;
 use sym_records::SymFile;
 
-/// The records of a file with the names that their names show.
+/// The records of a file with their names in readable form.
 pub(crate) fn judge_names(alloc: Global, file: SymFile) -> Result<Judgement, OutOfMemory>
     ensures { IfOk result (λ j. judgement_verdict j ≡ records_named file) }
 {

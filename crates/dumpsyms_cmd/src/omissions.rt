@@ -1,4 +1,4 @@
-//! What is left out of a dump: units that are skipped, and frame entries.
+//! What a dump leaves out: skipped units, and frame entries.
 ghost use Rattle.std.specs.Prelude.{◌≡◌, ◌++◌, ◌∷◌, [], length, codes, decimal, OnOk, IfOk};
 ghost use Rattle.std.specs.List.{flat_map, list_any};
 ghost use Rattle.abbrev_units.specs.UnitPlaces.{read_units};
@@ -21,7 +21,7 @@ use std::alloc::{AllocError, Global};
 use sym_edges::OutOfMemory;
 use sym_records::{ByteText, HexText};
 
-/// Adds a line of these words, and of the place of a unit and its version.
+/// Adds a line with these words and the place and the version of a unit.
 fn add_version(text: &mut Vec<u8>, words: &[u8], unit: &Unit) -> Result<(), AllocError>
     ensures { OnOk result (text.new.items ≡ text.old.items ++ line (spaced words.now (hex unit.now.start ∷ codes "version" ∷ decimal unit.now.version ∷ []))) }
 {
@@ -35,7 +35,7 @@ fn add_version(text: &mut Vec<u8>, words: &[u8], unit: &Unit) -> Result<(), Allo
     add_line(text, words, &more)
 }
 
-/// Adds the line of a unit, where it is skipped.
+/// Adds the line for a unit if it is skipped.
 fn add_skipped(text: &mut Vec<u8>, unit: &Unit) -> Result<(), AllocError>
     ensures { OnOk result (text.new.items ≡ text.old.items ++ skipped_of unit.now) }
 {
@@ -46,7 +46,7 @@ fn add_skipped(text: &mut Vec<u8>, unit: &Unit) -> Result<(), AllocError>
     }
 }
 
-/// Adds the lines of the units that are skipped.
+/// Adds the lines for the skipped units.
 #[tactic(auto, using(crate::proofs::FrameLemmas::skipped_end))]
 fn add_units(text: &mut Vec<u8>, units: &[Unit]) -> Result<(), AllocError>
     ensures { OnOk result (text.new.items ≡ text.old.items ++ skipped_text units.now) }
@@ -57,7 +57,7 @@ fn add_units(text: &mut Vec<u8>, units: &[Unit]) -> Result<(), AllocError>
     Ok(())
 }
 
-/// Adds the line of a unit whose entries stand in another file.
+/// Adds the line for a unit whose entries are in another file.
 fn add_split(text: &mut Vec<u8>, unit: &Unit) -> Result<(), AllocError>
     ensures { OnOk result (text.new.items ≡ text.old.items ++ split_line unit.now) }
 {
@@ -66,7 +66,7 @@ fn add_split(text: &mut Vec<u8>, unit: &Unit) -> Result<(), AllocError>
     add_line(text, b"split debug_info", &words)
 }
 
-/// Adds the line of a unit that is skipped, or whose entries stand in another file.
+/// Adds the line for a unit that is skipped, or whose entries are in another file.
 fn add_left(text: &mut Vec<u8>, splits: &mut Splits<'_>, unit: &Unit) -> Result<(), OutOfMemory>
     ensures kept { splits.new ≡ splits.old }
     ensures text { OnOk result (text.new.items ≡ text.old.items ++ unit_left splits.old unit.now) }
@@ -79,7 +79,7 @@ fn add_left(text: &mut Vec<u8>, splits: &mut Splits<'_>, unit: &Unit) -> Result<
     Ok(())
 }
 
-/// Adds the lines of the units that are skipped, and of those whose entries stand in another file.
+/// Adds the lines for the units that are skipped and for those whose entries are in another file.
 #[tactic(auto, using(crate::proofs::FrameLemmas::left_end))]
 fn add_units_left(
     text: &mut Vec<u8>,
@@ -94,14 +94,14 @@ fn add_units_left(
     Ok(())
 }
 
-/// Whether some of the units are skipped.
+/// Whether any of the units is skipped.
 fn has_skipped(units: &[Unit]) -> bool
     ensures { result ≡ list_any is_skipped units.now }
 {
     units.iter().any(|unit| unit.part == UnitPart::Skipped)
 }
 
-/// How many of the units are read.
+/// The number of units that are read.
 fn count_read(units: &[Unit]) -> usize
     ensures { result ≡ length (read_units units.now) }
 {
@@ -114,7 +114,7 @@ fn count_read(units: &[Unit]) -> usize
     count
 }
 
-/// Adds the line of a unit of the supplementary file, where it is skipped and an entry leads into it.
+/// Adds the line for a unit of the supplementary file, if it is skipped and an entry refers to it.
 fn add_sup_skipped(text: &mut Vec<u8>, targets: &SupTargets, unit: &Unit) -> Result<(), AllocError>
     ensures { OnOk result (text.new.items ≡ text.old.items ++ sup_left targets.now unit.now) }
 {
@@ -130,7 +130,7 @@ fn add_sup_skipped(text: &mut Vec<u8>, targets: &SupTargets, unit: &Unit) -> Res
     }
 }
 
-/// Adds the lines of such units.
+/// Adds the lines of `add_sup_skipped` for all of the units.
 fn add_sup_lines(text: &mut Vec<u8>, targets: &SupTargets, units: &[Unit]) -> Result<(), AllocError>
     ensures { OnOk result (text.new.items ≡ text.old.items ++ flat_map (sup_left targets.now) units.now) }
 {
@@ -140,7 +140,7 @@ fn add_sup_lines(text: &mut Vec<u8>, targets: &SupTargets, units: &[Unit]) -> Re
     Ok(())
 }
 
-/// Adds the lines of the units of the supplementary file that are skipped and into which entries of the file lead.
+/// Adds the lines for the skipped units of the supplementary file to which entries of the file refer.
 fn add_sup_units(
     text: &mut Vec<u8>,
     alloc: Global,
@@ -158,7 +158,7 @@ fn add_sup_units(
     Ok(())
 }
 
-/// Adds the lines of the former, and where `full` of both.
+/// Adds the lines for the skipped units; if `full`, also for those whose entries are in another file.
 fn add_own_units(
     text: &mut Vec<u8>,
     alloc: Global,
@@ -176,7 +176,7 @@ fn add_own_units(
     Ok(())
 }
 
-/// Adds the line of an entry that is left out.
+/// Adds the line for a frame entry that is left out.
 fn add_omission(text: &mut Vec<u8>, omission: &Omission) -> Result<(), AllocError>
     ensures { OnOk result (text.new.items ≡ text.old.items ++ omitted_line omission.now) }
 {
@@ -189,7 +189,7 @@ fn add_omission(text: &mut Vec<u8>, omission: &Omission) -> Result<(), AllocErro
     add_line(text, b"omitted", &words)
 }
 
-/// Adds the lines of the entries that are left out.
+/// Adds the lines for the frame entries that are left out.
 #[tactic(auto, using(crate::proofs::FrameLemmas::lines_end))]
 fn add_omissions(text: &mut Vec<u8>, omissions: &[Omission]) -> Result<(), AllocError>
     ensures { OnOk result (text.new.items ≡ text.old.items ++ omitted_text omissions.now) }
@@ -200,8 +200,8 @@ fn add_omissions(text: &mut Vec<u8>, omissions: &[Omission]) -> Result<(), Alloc
     Ok(())
 }
 
-/// The lines of the units that are skipped, where `full` also of those whose entries stand in another file; of the units of the
-/// supplementary file (DWARF 5, 7.3.6) that are skipped and needed; and then of the frame entries that are left out.
+/// The lines about what is left out. First come the skipped units, and if `full` also the units whose entries are in another file; then the skipped
+/// units of the supplementary file (DWARF 5, 7.3.6) to which entries refer; and then the frame entries that are left out.
 pub fn list_left_out(
     alloc: Global,
     full: bool,

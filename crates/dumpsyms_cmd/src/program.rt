@@ -1,4 +1,4 @@
-//! A run of the program: it decides by words and files, and then writes.
+//! A run of the program: it decides what to answer, and then writes.
 ghost use Rattle.std.specs.Prelude.{◌≡◌, true, map, OnOk, OnErr};
 ghost use Rattle.std.specs.String.{string_bytes};
 ghost use Rattle.sym_edges.specs.Outside.{append_told, AddsFront, Rose};
@@ -16,10 +16,10 @@ use sym_edges::{Failed, Sink, Store, write_all};
 use sym_records::write_file;
 use unit_workers::Gate;
 
-/// The status where a write failed.
+/// The status if a write failed.
 const UNWRITTEN: u8 = 4;
 
-/// Writes lines on standard error, and answers the status.
+/// Writes lines to standard error, and returns the status.
 fn say<E: Sink>(err: &mut E, line: &[u8], status: u8) -> u8
     ensures said { Says result status (record { taken = E.taken err.old; taken_after = E.taken err.new; faults = E.faults err.old; faults_after = E.faults err.new }) line.now }
 {
@@ -39,7 +39,7 @@ fn bytes_of(message: &Message) -> &[u8]
     }
 }
 
-/// Writes what standard output gets. Takes no memory.
+/// Writes what standard output gets. Allocates no memory.
 fn write_output<O: Sink>(output: &Output, out: &mut O) -> Result<(), Failed>
     ensures written { OnOk result (O.taken out.new ≡ append_told (O.taken out.old) (out_bytes output.now)) }
     ensures front { OnErr result (AddsFront (O.taken out.old) (O.taken out.new) (out_bytes output.now)) }
@@ -54,7 +54,7 @@ fn write_output<O: Sink>(output: &Output, out: &mut O) -> Result<(), Failed>
     }
 }
 
-/// Writes a judgement, out first, and answers the status. Takes no memory.
+/// Writes a judgement, first to out and then to err, and returns the status. Allocates no memory.
 #[tactic(auto, using(crate::proofs::WriteLemmas::said_behind, crate::proofs::WriteLemmas::not_said))]
 fn write_judgement<O: Sink, E: Sink>(judgement: &Judgement, out: &mut O, err: &mut E) -> u8
     ensures { Writes result (judgement_verdict judgement.now) (is_some_output judgement.now.out)
@@ -67,7 +67,7 @@ fn write_judgement<O: Sink, E: Sink>(judgement: &Judgement, out: &mut O, err: &m
     }
 }
 
-/// Writes an answer, and answers the status. Takes no memory.
+/// Writes an answer, and returns the status. Allocates no memory.
 #[tactic(auto, using(crate::proofs::WriteLemmas::line_said, crate::proofs::WriteLemmas::nothing_said))]
 fn write_answer<O: Sink, E: Sink>(answer: &Answer, out: &mut O, err: &mut E) -> u8
     ensures quiet { answer.now ≡ NoMemory → result ≡ 5 }
@@ -82,12 +82,12 @@ fn write_answer<O: Sink, E: Sink>(answer: &Answer, out: &mut O, err: &mut E) -> 
     }
 }
 
-/// Does all that the program does: reads the files that the words name, writes the two texts, and answers the status.
+/// Does all that the program does: reads the files that the arguments name, writes the two texts, and returns the status.
 ///
-/// 0: the command answered. 1: a file was refused, or a checker found something. 2: the arguments are invalid. 3: a file could not be
-/// read. 4: a text could not be written. 5: memory ran out. Out is written before err, and nothing before all is known. What holds of each status,
-/// `specs/Program.antt` says; it does not depend on how many workers there are. `rt` starts their threads, and `gate` is told
-/// of each unit that they read.
+/// 0: the command answered. 1: a file was refused, a checker found something, or `judge` found a difference. 2: the arguments are invalid. 3: a file
+/// could not be read. 4: a text could not be written. 5: memory ran out. Out is written before err, and nothing is written before everything is
+/// decided. `specs/Program.antt` says what holds for each status. The number of workers does not matter. `rt` starts their threads, and `gate` is
+/// told of each unit that they read.
 #[tactic(auto, using(crate::proofs::RunLemmas::promises))]
 pub fn run<R: Threads + Sync, S: Store, O: Sink, E: Sink, G: Gate + Sync>(
     rt: &R,

@@ -1,4 +1,4 @@
-//! The records of a text that was spelled, as a reader gives them.
+//! The records that a reader gives for a text that was just spelled.
 ghost use Rattle.std.specs.Prelude.{◌≡◌, Ok, IfOk};
 ghost use Rattle.sym_records.specs.Reading.{reading};
 
@@ -7,7 +7,7 @@ use sym_edges::{Failed, OutOfMemory};
 use sym_grammar::Reader;
 use sym_records::{ByteSink, SymFile, SymText};
 
-/// The bytes of a text, which read as its records.
+/// The bytes of a text, which read back as its records.
 fn bytes_of(alloc: Global, text: &SymText) -> Result<Vec<u8>, OutOfMemory>
     ensures { IfOk result (λ bytes. reading bytes.items ≡ Ok text.now) }
 {
@@ -20,7 +20,7 @@ fn bytes_of(alloc: Global, text: &SymText) -> Result<Vec<u8>, OutOfMemory>
     Ok(bytes)
 }
 
-/// The records of a text. It reads, so that only running out of memory can stop the reader.
+/// The records of a text. The text is valid, so the reader stops only if memory runs out.
 pub fn read_back(alloc: Global, text: &SymText) -> Result<SymFile, OutOfMemory>
     ensures { IfOk result (λ file. file ≡ text.now) }
 {

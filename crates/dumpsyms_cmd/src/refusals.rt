@@ -1,4 +1,4 @@
-//! The lines by which files are refused.
+//! The lines with which files are refused.
 ghost use Rattle.std.specs.Prelude.{◌≡◌, ◌++◌, ◌∷◌, [], codes, IfOk};
 ghost use Rattle.sym_records.specs.Canon.{spaced};
 ghost use Rattle.elf_sections.specs.FaultWords.{fault_word};
@@ -24,16 +24,16 @@ use sym_edges::{OutOfMemory, Sect};
 use sym_records::{ByteText, HexText};
 use sym_rules::TextFault;
 
-/// The file passes the limit.
+/// The line for a file above the size limit.
 pub const TOO_LONG: &[u8] = b"refused input too-long\n";
 
-/// A file could not be read.
+/// The line for a file that could not be read.
 pub const UNREAD: &[u8] = b"cannot read input\n";
 
-/// A state has no rip, at which a walk begins.
+/// The line for a state without rip, at which a walk begins.
 pub const NO_RIP: &[u8] = b"refused walk no-rip\n";
 
-/// The line where the file of a name could not be read; under `--full` it has the cleaned name.
+/// The line if the file `name` could not be read. Under `--full` it has the cleaned name.
 pub fn unread_line(alloc: Global, full: bool, name: &[u8]) -> Result<Message, OutOfMemory>
     ensures { IfOk result (λ message. err_bytes message ≡ unread_lines full name.now) }
 {
@@ -46,7 +46,7 @@ pub fn unread_line(alloc: Global, full: bool, name: &[u8]) -> Result<Message, Ou
     Ok(Message::Made(ByteText::of(text)))
 }
 
-/// A line of what is refused and of a word, which may have a number behind it.
+/// A line with what is refused and a word, which may have a number after it.
 fn word_line(
     alloc: Global,
     refused: &'static [u8],
@@ -65,7 +65,7 @@ fn word_line(
     Ok(ByteText::of(text))
 }
 
-/// A line of what is refused and of an image fault.
+/// A line with what is refused and the fault of an image.
 fn image_line(
     alloc: Global,
     refused: &'static [u8],
@@ -77,14 +77,14 @@ fn image_line(
     word_line(alloc, refused, word, index)
 }
 
-/// The line that names the fault of the image of an ELF file.
+/// The line that names the fault in the image of an ELF file.
 pub fn fault_line(alloc: Global, fault: ElfFault) -> Result<ByteText, AllocError>
     ensures { IfOk result (λ text. text ≡ elf_line fault) }
 {
     image_line(alloc, b"refused elf ", fault)
 }
 
-/// The line that names the fault of a core file.
+/// The line that names the fault in a core file.
 pub fn core_line(alloc: Global, fault: CoreFault) -> Result<ByteText, AllocError>
     ensures { IfOk result (λ text. text ≡ core_line fault) }
 {
@@ -92,14 +92,14 @@ pub fn core_line(alloc: Global, fault: CoreFault) -> Result<ByteText, AllocError
     word_line(alloc, b"refused core ", word, index)
 }
 
-/// The line that names the fault of the image of a separate debug file.
+/// The line that names the fault in the image of a separate debug file.
 pub fn debug_fault_line(alloc: Global, fault: ElfFault) -> Result<ByteText, AllocError>
     ensures { IfOk result (λ text. text ≡ debug_elf_line fault) }
 {
     image_line(alloc, b"refused debug ", fault)
 }
 
-/// The line that names the fault of the image of a supplementary file.
+/// The line that names the fault in the image of a supplementary file.
 pub fn sup_fault_line(alloc: Global, fault: ElfFault) -> Result<ByteText, AllocError>
     ensures { IfOk result (λ text. text ≡ sup_elf_line fault) }
 {
@@ -116,7 +116,7 @@ pub fn sup_line(alloc: Global, fault: SupFault) -> Result<ByteText, AllocError>
     Ok(ByteText::of(text))
 }
 
-/// The line that says by a word why a binary and a debug file are no pair.
+/// The line with the word for why a binary and a debug file are no pair.
 pub fn pair_line(alloc: Global, word: &'static [u8]) -> Result<ByteText, AllocError>
     ensures { IfOk result (λ text. text ≡ line (spaced (codes "refused pair") (word.now ∷ []))) }
 {
@@ -143,7 +143,7 @@ fn located_line(
     Ok(ByteText::of(text))
 }
 
-/// The line that names a fault of debugging information, behind what is refused.
+/// The line with what is refused and a fault in debugging information.
 fn dwarf_line(
     alloc: Global,
     refused: &'static [u8],
@@ -154,7 +154,7 @@ fn dwarf_line(
     located_line(alloc, refused, fault.kind.word(), fault.section, fault.at)
 }
 
-/// The line that names a fault of a section of frame entries.
+/// The line that names a fault in a section of frame entries.
 fn frame_line(alloc: Global, fault: FrameFault) -> Result<ByteText, AllocError>
     ensures { IfOk result (λ text. text ≡ frame_line fault) }
 {
@@ -167,7 +167,7 @@ fn frame_line(alloc: Global, fault: FrameFault) -> Result<ByteText, AllocError>
     )
 }
 
-/// The line that names a fault of a text and the line that has it.
+/// The line that names a fault in a text, with the number of the bad line.
 fn text_fault_line(
     alloc: Global,
     refused: &'static [u8],
@@ -183,21 +183,21 @@ fn text_fault_line(
     Ok(ByteText::of(text))
 }
 
-/// The line that names the first fault of a symbol file.
+/// The line that names the first fault in a symbol file.
 pub fn text_line(alloc: Global, fault: TextFault) -> Result<ByteText, AllocError>
     ensures { IfOk result (λ text. text ≡ text_line fault) }
 {
     text_fault_line(alloc, b"refused text", fault.kind.word(), fault.line)
 }
 
-/// The line that names the first fault of a state file.
+/// The line that names the first fault in a state file.
 pub fn state_line(alloc: Global, fault: StateFault) -> Result<ByteText, AllocError>
     ensures { IfOk result (λ text. text ≡ state_line fault) }
 {
     text_fault_line(alloc, b"refused state", fault.kind.word(), fault.line)
 }
 
-/// The line that names a fault after the image.
+/// The line that names a fault in what is read after the image.
 pub fn debug_line(alloc: Global, fault: DebugFault) -> Result<ByteText, AllocError>
     ensures { IfOk result (λ text. text ≡ debug_line fault) }
 {

@@ -1,4 +1,4 @@
-//! `sample N`: a dump of a made file, counted.
+//! `sample N`: the counts for a dump of a generated file.
 ghost use Rattle.std.specs.Prelude.{◌≡◌, ◌≤◌, ◌++◌, length, decimal, IfOk, OnOk};
 ghost use Rattle.debug_read.specs.DebugSays.{IsDebugRead};
 ghost use Rattle.dumpsyms_cmd.specs.Verdict.{LIMIT};
@@ -21,7 +21,7 @@ use sym_edges::{OutOfMemory, Stop};
 use sym_records::{ByteText, SymFile, SymLine};
 use unit_workers::{Crew, Gate};
 
-/// The records that are counted.
+/// The kinds of records that are counted.
 #[derive(Clone, Copy, Debug)]
 pub enum Counted {
     Funcs,
@@ -43,7 +43,7 @@ fn is_counted(kind: Counted, line: &SymLine) -> bool
     }
 }
 
-/// How many records are of a kind.
+/// The number of records of a kind.
 #[tactic(auto, unfolding(crate::specs::commands::Sample::count_of))]
 fn count(kind: Counted, lines: &[SymLine]) -> usize
     ensures { result ≡ count_of kind lines.now }
@@ -60,7 +60,7 @@ fn add_count(text: &mut Vec<u8>, word: &[u8], count: usize) -> Result<(), AllocE
     text.extend_from_slice(buffer.format(count).as_bytes())
 }
 
-/// The line of counts.
+/// The line with the counts.
 #[tactic(auto, unfolding(crate::specs::commands::Sample::counts_line))]
 fn counts_line(
     alloc: Global,
@@ -82,7 +82,7 @@ fn counts_line(
     Ok(text)
 }
 
-/// The counts of an image without faults after it.
+/// The counts for an image, given its debugging information.
 fn count_records<R: Threads + Sync>(
     crew: &Crew<'_, R>,
     image: &Image<'_>,
@@ -103,7 +103,7 @@ fn count_records<R: Threads + Sync>(
     })
 }
 
-/// The counts of an image.
+/// The counts for an image.
 fn count_image<R: Threads + Sync, G: Gate + Sync>(
     watched: &WatchedCrew<'_, R, G>,
     image: &Image<'_>,
@@ -120,7 +120,7 @@ fn count_image<R: Threads + Sync, G: Gate + Sync>(
     }
 }
 
-/// The counts of a file's bytes.
+/// The counts for a file's bytes.
 #[tactic(auto, using(crate::proofs::SampleLemmas::parts_counted, crate::proofs::SampleLemmas::fault_counted))]
 fn count_bytes<R: Threads + Sync, G: Gate + Sync>(
     watched: &WatchedCrew<'_, R, G>,
@@ -137,7 +137,7 @@ fn count_bytes<R: Threads + Sync, G: Gate + Sync>(
     }
 }
 
-/// The counts of a made file of so many units.
+/// The counts for a generated file with this many units.
 #[tactic(auto, using(crate::proofs::SampleLemmas::sample_counted))]
 pub fn judge_sample<R: Threads + Sync, G: Gate + Sync>(
     watched: &WatchedCrew<'_, R, G>,

@@ -1,4 +1,4 @@
-//! Units whose entries stand in another file (DWARF 5, 3.1.2 and 7.5.1.2; in version 4 GNU's split DWARF).
+//! Units whose entries are in another file (DWARF 5, 3.1.2 and 7.5.1.2; in version 4 GNU's split DWARF).
 ghost use Rattle.std.specs.Prelude.{◌≡◌, ◌≤◌, ◌+◌, true, length, List, Some, Ok, IfOk};
 ghost use Rattle.std.specs.List.{list_any};
 ghost use Rattle.leb_cursor.specs.Readings.{uleb_at};
@@ -23,14 +23,14 @@ const SKELETON: u8 = 4;
 /// DW_AT_GNU_dwo_name, of GNU's split DWARF.
 const DWO_NAME: u64 = 0x2130;
 
-/// The bytes of a unit's length and of its version.
+/// The number of bytes of a unit's length and version.
 fn type_offset(wide: bool) -> usize
     ensures { result ≡ length_width wide + 2 }
 {
     if wide { 14 } else { 6 }
 }
 
-/// The type of a unit of version 5, or 0 where the section ends before it.
+/// The type of a unit of version 5, or 0 if the section ends before it.
 #[tactic(auto, using(crate::proofs::SplitLemmas::type_beyond))]
 fn unit_type(info: &[u8], unit: &Unit) -> u8
     ensures { result ≡ unit_type info.now unit.now }
@@ -44,7 +44,7 @@ fn unit_type(info: &[u8], unit: &Unit) -> u8
     }
 }
 
-/// Reads a code.
+/// Reads the code of an abbreviation.
 fn read_code(cursor: &mut Cursor<'_>) -> Option<u64>
     ensures { result ≡ read_or_none (uleb_at cursor.old) }
 {
@@ -54,7 +54,7 @@ fn read_code(cursor: &mut Cursor<'_>) -> Option<u64>
     }
 }
 
-/// The code of the abbreviation of a unit's first entry.
+/// The abbreviation code of a unit's first entry.
 #[tactic(auto, using(crate::proofs::SplitLemmas::code_beyond, crate::proofs::SplitLemmas::code_inside))]
 fn root_code(info: &[u8], unit: &Unit) -> Option<u64>
     ensures { result ≡ root_code info.now unit.now }
@@ -74,7 +74,7 @@ fn has_name(root: &Abbrev<'_>) -> bool
     root.specs().iter().any(|spec| spec.attribute() == DWO_NAME)
 }
 
-/// The same of the first entry, by its code.
+/// `has_name` for the abbreviation with this code.
 fn code_has_name(scratch: &AbbrevScratch, code: u64) -> bool
     ensures { result ≡ root_by (Some code) (Ok scratch.now) }
 {
@@ -84,7 +84,7 @@ fn code_has_name(scratch: &AbbrevScratch, code: u64) -> bool
     }
 }
 
-/// Whether two units name the same abbreviations, which stand in the section.
+/// Whether two units have the same abbreviations, at a place inside the section.
 fn is_same_table(sections: &Sections<'_>, one: &Unit, unit: &Unit) -> bool
     ensures { result ≡ true → (one.now.abbrev_at ≡ unit.now.abbrev_at) × (one.now.wide ≡ unit.now.wide) × (unit.now.abbrev_at ≤ length sections.now.abbrevs) }
 {
@@ -93,7 +93,7 @@ fn is_same_table(sections: &Sections<'_>, one: &Unit, unit: &Unit) -> bool
         && unit.abbrev_at <= sections.abbrevs.len() as u64
 }
 
-/// Whether a unit is held whose abbreviations are those of the unit.
+/// Whether the cached abbreviations are those of the unit.
 #[tactic(auto, using(crate::proofs::SplitLemmas::held_same))]
 fn is_held(sections: &Sections<'_>, held: Option<Unit>, unit: &Unit) -> bool
     ensures { (abbrevs : List Abbrev) → IsHeld sections.now held abbrevs → result ≡ true → abbrevs_of sections.now unit.now ≡ Ok abbrevs }
@@ -104,8 +104,8 @@ fn is_held(sections: &Sections<'_>, held: Option<Unit>, unit: &Unit) -> bool
     }
 }
 
-/// The units of a file whose entries stand in another one. The abbreviations of the unit that was asked for last are held, since
-/// units that follow one another often share them.
+/// The units of a file whose entries are in another file. The abbreviations of the unit that was asked for last are cached, since successive units
+/// often share them.
 #[derive(Drop)]
 pub struct Splits<'a> {
     alloc: Global,
@@ -160,7 +160,7 @@ impl<'a> Splits<'a> {
         }
     }
 
-    /// Whether the entries of a unit stand in another file.
+    /// Whether the entries of a unit are in another file.
     pub fn is_split(&mut self, unit: &Unit) -> Result<bool, OutOfMemory>
         ensures kept { self.new ≡ self.old }
         ensures is { IfOk result (λ split. split ≡ is_split self.old unit.now) }

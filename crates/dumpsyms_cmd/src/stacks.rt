@@ -9,7 +9,7 @@ use stack_text::spell_stacks;
 use std::alloc::Global;
 use sym_edges::{OutOfMemory, Store};
 
-/// The stacks of the threads of a core, by the symbol files in a folder.
+/// The stacks of a core file's threads, by the symbol files in a folder.
 #[tactic(auto, using(crate::proofs::StacksLemmas::nothing_asked))]
 pub(crate) fn judge_stacks<S: Store>(
     alloc: Global,

@@ -1,4 +1,4 @@
-//! What is answered over a core file and a folder of symbol files.
+//! Answers `stacks`, which reads a core file and a folder of symbol files.
 ghost use Rattle.std.specs.Prelude.{◌≡◌, ◌≤◌, false, Some};
 ghost use Rattle.core_file.specs.HeldBlocks.{is_too_long};
 ghost use Rattle.dumpsyms_cmd.specs.Words.{stacks};

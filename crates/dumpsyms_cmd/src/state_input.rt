@@ -1,4 +1,4 @@
-//! What is answered over a symbol file and a state file.
+//! Answers the commands on a symbol file and a state file.
 ghost use Rattle.std.specs.Prelude.{◌≡◌, ◌≤◌, [], ◌∷◌, Some, IfOk, length};
 ghost use Rattle.dumpsyms_cmd.specs.Words.{second_told, state_command};
 ghost use Rattle.dumpsyms_cmd.specs.Judgement.{judgement_verdict};
@@ -22,7 +22,7 @@ use sym_records::SymFile;
 /// The greatest length of a state file: 2^24 bytes.
 const STATE_LIMIT: usize = 0x100_0000;
 
-/// The answer of the records and the state.
+/// The answer given the records and the state.
 fn judge_query(
     alloc: Global,
     file: &SymFile,
@@ -37,7 +37,7 @@ fn judge_query(
     }
 }
 
-/// The same over the bytes of a state file.
+/// The answer given the bytes of a state file.
 #[tactic(auto, using(crate::proofs::AnswerLemmas::state_judged, crate::proofs::AnswerLemmas::state_refused))]
 fn judge_state(
     alloc: Global,
@@ -55,7 +55,7 @@ fn judge_state(
     }
 }
 
-/// The same over a state file that is still to be read.
+/// The answer given the name of a state file, which is read here.
 #[tactic(auto, using(crate::proofs::AnswerLemmas::state_read, crate::proofs::AnswerLemmas::state_stopped, crate::proofs::AnswerLemmas::asks_state, crate::proofs::SteadyLemmas::stop_steady, crate::proofs::SteadyLemmas::any_steady))]
 fn answer_state<S: Store>(
     alloc: Global,
@@ -76,7 +76,7 @@ fn answer_state<S: Store>(
     }
 }
 
-/// The answer to a command over a symbol file and a state file, of which the symbol file is read first.
+/// The answer to a command on a symbol file and a state file. The symbol file is read first.
 #[tactic(auto, using(crate::proofs::AnswerLemmas::query_read, crate::proofs::AnswerLemmas::query_ended, crate::proofs::AnswerLemmas::asks_symbols, crate::proofs::AnswerLemmas::asks_both, crate::proofs::SteadyLemmas::end_steady, crate::proofs::SteadyLemmas::steady_behind))]
 pub fn answer_query<S: Store>(
     alloc: Global,

@@ -1,4 +1,4 @@
-//! The supplementary file to which the file with the debugging information links (DWARF 5, 7.3.6). It is read where `full`.
+//! The supplementary file to which the file with the debugging information links (DWARF 5, 7.3.6). It is read only if `full`.
 ghost use Rattle.std.specs.Prelude.{◌≡◌, ◌≤◌, ◌∷◌, [], true, Ok, Err, IfOk};
 ghost use Rattle.std.specs.Option.{option_copied, option_map};
 ghost use Rattle.std.specs.String.{string_bytes};
@@ -33,14 +33,14 @@ struct Linked<'a> {
     link: SupLink<'a>,
 }
 
-/// A supplementary file whose tables were read, and what its compressed sections give.
+/// A supplementary file whose tables were read, and the results of inflating its compressed sections.
 #[derive(Drop)]
 struct OpenedSup<'a> {
     packed: PackedSup<'a>,
     inflated: Inflations,
 }
 
-/// Reads the tables of a supplementary file, and its compressed sections.
+/// Reads the tables of a supplementary file, and inflates its compressed sections.
 fn open_sup<'a, R: Threads + Sync>(
     crew: &Crew<'_, R>,
     bytes: &'a [u8],
@@ -56,7 +56,7 @@ fn open_sup<'a, R: Threads + Sync>(
     }
 }
 
-/// A dump of an image with that of its supplementary file.
+/// A dump of an image joined with that of its supplementary file.
 #[tactic(auto, using(crate::proofs::SupLemmas::joined_judged, crate::proofs::SupLemmas::joined_refused))]
 fn judge_joined<R: Threads + Sync, G: Gate + Sync>(
     watched: &WatchedCrew<'_, R, G>,
@@ -74,7 +74,7 @@ fn judge_joined<R: Threads + Sync, G: Gate + Sync>(
     }
 }
 
-/// The same by a supplementary file whose tables were read.
+/// A dump given a supplementary file whose tables were read.
 #[tactic(auto, using(crate::proofs::SupLemmas::sup_judged, crate::proofs::SupLemmas::sup_refused))]
 fn judge_opened<R: Threads + Sync, G: Gate + Sync>(
     watched: &WatchedCrew<'_, R, G>,
@@ -92,7 +92,7 @@ fn judge_opened<R: Threads + Sync, G: Gate + Sync>(
     }
 }
 
-/// The same over the bytes of the supplementary file.
+/// A dump given the bytes of the supplementary file.
 #[tactic(auto, using(crate::proofs::SupLemmas::sup_opened, crate::proofs::SupLemmas::sup_refused))]
 fn judge_sup<R: Threads + Sync, G: Gate + Sync>(
     watched: &WatchedCrew<'_, R, G>,
@@ -112,7 +112,7 @@ fn judge_sup<R: Threads + Sync, G: Gate + Sync>(
     }
 }
 
-/// The root below which debug files are looked for, where it is given.
+/// The root directory below which debug files are looked for, if it is given.
 fn given_root<'w>(debug: Option<DebugPlace<'w>>) -> Option<&'w str>
     ensures { option_copied result ≡ root_of (option_map debug_view debug.entry) }
 {
@@ -123,7 +123,7 @@ fn given_root<'w>(debug: Option<DebugPlace<'w>>) -> Option<&'w str>
     }
 }
 
-/// The path of the supplementary file to which the file of a name links.
+/// The path of the supplementary file to which the file `name` links.
 #[tactic(auto, using(crate::proofs::SupLemmas::placed, crate::proofs::SupLemmas::nowhere))]
 fn find_sup(
     alloc: Global,
@@ -139,8 +139,8 @@ fn find_sup(
     sup_path(alloc, given_root(source.debug), name, link.path)
 }
 
-/// The answer by a supplementary file that is still to be read. The line for a file that cannot be read is made before, since no
-/// memory is taken after a file failed.
+/// The answer given the path of a supplementary file, which is read here. The line for an unreadable file is made before that, since no memory is
+/// allocated after a file failed.
 #[tactic(auto, using(crate::proofs::SupLemmas::sup_read, crate::proofs::SupLemmas::sup_stopped, crate::proofs::SourceLemmas::all_asked, crate::proofs::SourceLemmas::stop_asked, crate::proofs::SourceLemmas::none_asked, crate::proofs::SteadyLemmas::stop_steady, crate::proofs::SteadyLemmas::any_steady))]
 fn answer_sup_file<R: Threads + Sync, S: Store, G: Gate + Sync>(
     watched: &WatchedCrew<'_, R, G>,
@@ -165,7 +165,7 @@ fn answer_sup_file<R: Threads + Sync, S: Store, G: Gate + Sync>(
     }
 }
 
-/// The answer by an image whose supplementary file is still to be found.
+/// The answer given an image whose supplementary file is still to be found.
 #[tactic(auto, using(crate::proofs::SupLemmas::place_answered, crate::proofs::SourceLemmas::path_asked, crate::proofs::SupLemmas::place_refused, crate::proofs::SourceLemmas::no_path_asked, crate::proofs::SourceLemmas::none_asked, crate::proofs::SteadyLemmas::any_steady))]
 fn answer_link<R: Threads + Sync, S: Store, G: Gate + Sync>(
     watched: &WatchedCrew<'_, R, G>,
@@ -188,8 +188,8 @@ fn answer_link<R: Threads + Sync, S: Store, G: Gate + Sync>(
     }
 }
 
-/// The answer by the image that has the debugging information, which is read from the file of a name. Where that links to a
-/// supplementary file, it is read too.
+/// The answer given the image with the debugging information, which was read from the file `name`. If this file links to a supplementary file, the
+/// supplementary file is read too.
 #[tactic(auto, using(crate::proofs::SupLemmas::plain_answered, crate::proofs::SupLemmas::plain_asked, crate::proofs::SupLemmas::alone_answered, crate::proofs::SupLemmas::alone_asked, crate::proofs::SupLemmas::link_answered, crate::proofs::SupLemmas::link_asked, crate::proofs::SupLemmas::link_refused, crate::proofs::SupLemmas::bad_link_asked, crate::proofs::SteadyLemmas::any_steady))]
 pub fn answer_image<R: Threads + Sync, S: Store, G: Gate + Sync>(
     watched: &WatchedCrew<'_, R, G>,

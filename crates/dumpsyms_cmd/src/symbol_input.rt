@@ -1,4 +1,4 @@
-//! What is answered over a symbol file.
+//! Answers the commands on a symbol file alone.
 ghost use Rattle.std.specs.Prelude.{◌≡◌, ◌≤◌, ℕ, List, [], ◌∷◌, Option, Some, Ok, IfOk};
 ghost use Rattle.sym_edges.specs.Outside.{Files};
 ghost use Rattle.sym_edges.specs.WholeFile.{HoldsFile};
@@ -35,7 +35,7 @@ fn answer_refusal(alloc: Global, why: SymRefusal) -> Answer
     }
 }
 
-/// The answer where a symbol file has no records; `unread` is the line for one that could not be opened or read.
+/// The answer if a symbol file has no records; `unread` is the line for a file that could not be opened or read.
 pub fn answer_end(alloc: Global, end: Stop<SymEnd>, unread: Message) -> Answer
     ensures { AnswersEnd result (err_bytes unread) end }
 {
@@ -46,7 +46,7 @@ pub fn answer_end(alloc: Global, end: Stop<SymEnd>, unread: Message) -> Answer
     }
 }
 
-/// The answer by a judgement.
+/// The answer given a judgement, or if memory ran out.
 pub fn answer_judged(judged: Result<Judgement, OutOfMemory>) -> Answer
     ensures { AnswersJudged result judged }
 {
@@ -56,7 +56,7 @@ pub fn answer_judged(judged: Result<Judgement, OutOfMemory>) -> Answer
     }
 }
 
-/// The answer of the records.
+/// The answer given the records.
 fn judge_symbols(alloc: Global, file: SymFile, query: SymQuery) -> Result<Judgement, OutOfMemory>
     ensures { IfOk result (λ j. judgement_verdict j ≡ sym_answer query file) }
 {
@@ -71,12 +71,12 @@ fn judge_symbols(alloc: Global, file: SymFile, query: SymQuery) -> Result<Judgem
 fn answer_file(alloc: Global, file: SymFile, query: SymQuery) -> Answer
     ensures { (files : Option Files) (name : List ℕ) (asked : List (List ℕ)) (before after : ℕ) → HoldsFile files name (IsReading LIMIT (Ok file)) → AnswersCommand result (Some (sym_command query name)) files asked before after }
 {
-    // `as_slice` says that the records are valid.
+    // The contract of `as_slice` says that the records are valid.
     let _lines = file.as_slice();
     answer_judged(judge_symbols(alloc, file, query))
 }
 
-/// The answer to a command over a symbol file alone.
+/// The answer to a command on a symbol file alone.
 #[tactic(auto, using(crate::proofs::AnswerLemmas::sym_ended, crate::proofs::AnswerLemmas::asks_symbols, crate::proofs::SteadyLemmas::end_steady, crate::proofs::SteadyLemmas::any_steady))]
 pub fn answer_symbols<S: Store>(alloc: Global, sym: &str, query: SymQuery, store: &mut S) -> Answer
     ensures asked { Asks (sym.now ∷ []) (S.asked store.old) (S.asked store.new) }

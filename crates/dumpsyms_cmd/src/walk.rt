@@ -15,7 +15,7 @@ use sym_edges::{OutOfMemory, Stop};
 use sym_lookup::Index;
 use sym_records::SymFile;
 
-/// The index of a file. One of 2^32 records is longer than a file may be.
+/// The index of a file. No file within the size limit has 2^32 records.
 fn index_of(alloc: Global, file: &SymFile) -> Result<Index, OutOfMemory>
     ensures { IfOk result (λ index. IsIndexOf file.now index) }
 {
@@ -25,7 +25,7 @@ fn index_of(alloc: Global, file: &SymFile) -> Result<Index, OutOfMemory>
     Index::of(alloc, file)
 }
 
-/// The frames of the stack from a state. Each asks the index of the file, so that no frame costs a pass over the file.
+/// The frames of the stack from a state. Each frame is looked up in the index, so no frame costs a pass over the file.
 #[tactic(auto, using(crate::proofs::WalkLemmas::walk_judged, crate::proofs::WalkLemmas::no_rip_judged))]
 pub(crate) fn judge_walk(
     alloc: Global,

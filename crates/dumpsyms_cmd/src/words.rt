@@ -1,4 +1,4 @@
-//! The words of a command line.
+//! Parses the command-line arguments.
 ghost use Rattle.std.specs.Prelude.{◌≡◌, ◌≤◌, ◌↔◌, ℕ, IsTrue, map, slice_index};
 ghost use Rattle.std.specs.String.{string_bytes};
 ghost use Rattle.std.specs.Option.{option_map};
@@ -7,27 +7,27 @@ ghost use Rattle.dumpsyms_cmd.specs.Words.{source_view, command_view, command_of
 use memchr::memrchr;
 use state_file::hex_value;
 
-/// The workers of a dump, where the words name no number of them, and of `judge`.
+/// The number of workers if the arguments name none, and always for `judge`.
 pub const USUAL_WORKERS: usize = 4;
 
-/// The most workers that words may name.
+/// The most workers that the arguments may name.
 const MOST_WORKERS: usize = 64;
 
-/// The most units of a made file.
+/// The most units of a generated file.
 const MOST_UNITS: usize = 20000;
 
-/// The line that answers other words.
+/// The line for invalid arguments.
 pub const USAGE: &[u8] =
     b"usage: dumpsyms dump ELF, check SYM, lookup SYM ADDR, frame SYM ADDR STATE, sample N, walk SYM STATE, judge ELF SYM, names SYM, dump --full ELF, stacks CORE STORE\n";
 
-/// Where the separate debug file of a binary is: at a path, or below a root by the binary's build id.
+/// Where the separate debug file of a binary is: at a path, or below a root directory, at a place that the binary's build id gives.
 #[derive(Clone, Copy, Debug)]
 pub enum DebugPlace<'w> {
     File { path: &'w str },
     Root { root: &'w str },
 }
 
-/// Which image is dumped: of an ELF file, with a debug file or without one; with their compressed sections where `full`.
+/// Which image is dumped: that of an ELF file, with a debug file or without one. Compressed sections are read if `full`.
 #[derive(Clone, Copy, Debug)]
 pub struct ElfPlace<'w> {
     pub full: bool,
@@ -40,9 +40,9 @@ pub struct ElfPlace<'w> {
 pub enum SymQuery {
     /// `check SYM`: what a checker finds.
     Check,
-    /// `lookup SYM ADDR`: what it names at an address.
+    /// `lookup SYM ADDR`: what the file names at an address.
     Lookup { address: u64 },
-    /// `names SYM`: the file with its names shown.
+    /// `names SYM`: the file with its names in readable form.
     Names,
 }
 
@@ -55,7 +55,7 @@ pub enum StateQuery {
     Walk,
 }
 
-/// What the words ask for.
+/// What the arguments ask for.
 #[derive(Clone, Copy, Debug)]
 pub enum Command<'w> {
     /// `dump ELF`, also with `--full`, with `--workers N`, or with a debug file.
@@ -63,12 +63,12 @@ pub enum Command<'w> {
         source: ElfPlace<'w>,
         workers: usize,
     },
-    /// A command over a symbol file.
+    /// A command on a symbol file.
     Symbols {
         sym: &'w str,
         query: SymQuery,
     },
-    /// A command over a symbol file and a state file.
+    /// A command on a symbol file and a state file.
     States {
         sym: &'w str,
         query: StateQuery,
@@ -91,7 +91,7 @@ pub enum Command<'w> {
     },
 }
 
-/// Whether a word begins with a digit from 1 to 9.
+/// Whether an argument begins with a digit from 1 to 9.
 fn begins_number(word: &[u8]) -> bool
     ensures { IsTrue result ↔ ((49 ≤ slice_index word.now 0) × (slice_index word.now 0 ≤ 57)) }
 {
@@ -101,7 +101,7 @@ fn begins_number(word: &[u8]) -> bool
     b'1' <= word[0] && word[0] <= b'9'
 }
 
-/// The number that a word writes, where it is at most `most`.
+/// The number that an argument spells, if it is at most `most`.
 #[tactic(auto, using(crate::proofs::WordLemmas::number_fits, crate::proofs::WordLemmas::number_passes, crate::proofs::WordLemmas::number_fails, crate::proofs::WordLemmas::number_other))]
 fn parse_number(word: &str, most: usize) -> Option<usize>
     ensures { result ≡ number_upto most word.now }
@@ -120,7 +120,7 @@ fn parse_number(word: &str, most: usize) -> Option<usize>
     }
 }
 
-/// The address that a word writes: 1 to 16 hexadecimal digits.
+/// The address that an argument spells: 1 to 16 hexadecimal digits.
 #[tactic(auto, using(crate::proofs::WordLemmas::no_address, crate::proofs::WordLemmas::some_address))]
 fn parse_address(word: &str) -> Option<u64>
     ensures { result ≡ address_of word.now }
@@ -132,7 +132,7 @@ fn parse_address(word: &str) -> Option<u64>
     hex_value(digits)
 }
 
-/// The rows of a sample, by both numbers.
+/// The `sample` command, given both numbers.
 fn parse_sample<'w>(units: &str, workers: Option<usize>) -> Option<Command<'w>>
     ensures { option_map command_view result ≡ sample_of (number_upto MOST_UNITS units.now) workers }
 {
@@ -166,7 +166,7 @@ fn dump_usual<'w>(source: ElfPlace<'w>) -> Command<'w>
     }
 }
 
-/// The words `--debug FILE` and `--debug-root DIR` behind an ELF file.
+/// The arguments `--debug FILE` or `--debug-root DIR` after an ELF file.
 fn parse_debug<'w>(full: bool, elf: &'w str, word: &str, place: &'w str) -> Option<ElfPlace<'w>>
     ensures { option_map source_view result ≡ debug_words full elf.now word.now place.now }
 {
@@ -187,7 +187,7 @@ fn parse_debug<'w>(full: bool, elf: &'w str, word: &str, place: &'w str) -> Opti
     None
 }
 
-/// The row of a dump with `--workers N`.
+/// The `dump` command with `--workers N`.
 fn parse_workers<'w>(full: bool, elf: &'w str, number: &str) -> Option<Command<'w>>
     ensures { option_map command_view result ≡ option_map (dump (alone full elf.now)) (number_upto MOST_WORKERS number.now) }
 {
@@ -200,7 +200,7 @@ fn parse_workers<'w>(full: bool, elf: &'w str, number: &str) -> Option<Command<'
     }
 }
 
-/// The row of a dump with two words behind the ELF file.
+/// The `dump` command with two arguments after the ELF file.
 fn parse_dump<'w>(full: bool, elf: &'w str, word: &str, value: &'w str) -> Option<Command<'w>>
     ensures { option_map command_view result ≡ dump_words full elf.now word.now value.now }
 {
@@ -213,7 +213,7 @@ fn parse_dump<'w>(full: bool, elf: &'w str, word: &str, value: &'w str) -> Optio
     }
 }
 
-/// The row of `judge` with two words behind the symbol file.
+/// The `judge` command with two arguments after the symbol file.
 fn parse_judge<'w>(
     full: bool,
     elf: &'w str,
@@ -229,7 +229,7 @@ fn parse_judge<'w>(
     }
 }
 
-/// The address of the row `lookup SYM ADDR`.
+/// The command `lookup SYM ADDR`.
 fn parse_lookup<'w>(sym: &'w str, address: &str) -> Option<Command<'w>>
     ensures { option_map command_view result ≡ option_map (lookup sym.now) (address_of address.now) }
 {
@@ -242,7 +242,7 @@ fn parse_lookup<'w>(sym: &'w str, address: &str) -> Option<Command<'w>>
     }
 }
 
-/// The row `frame SYM ADDR STATE`.
+/// The command `frame SYM ADDR STATE`.
 fn parse_frame<'w>(sym: &'w str, address: &str, state: &'w str) -> Option<Command<'w>>
     ensures { option_map command_view result ≡ option_map (λ a. frame sym.now a state.now) (address_of address.now) }
 {
@@ -256,7 +256,7 @@ fn parse_frame<'w>(sym: &'w str, address: &str, state: &'w str) -> Option<Comman
     }
 }
 
-/// The rows `dump ELF`, `check SYM`, `sample N` and `names SYM`.
+/// Two arguments: `dump ELF`, `check SYM`, `sample N` and `names SYM`.
 fn parse_two<'w>(word: &str, name: &'w str) -> Option<Command<'w>>
     ensures { option_map command_view result ≡ two_words word.now name.now }
 {
@@ -281,7 +281,7 @@ fn parse_two<'w>(word: &str, name: &'w str) -> Option<Command<'w>>
     None
 }
 
-/// The rows `lookup SYM ADDR`, `walk SYM STATE`, `judge ELF SYM`, `stacks CORE STORE` and `dump --full ELF`.
+/// Three arguments: `lookup SYM ADDR`, `walk SYM STATE`, `judge ELF SYM`, `stacks CORE STORE` and `dump --full ELF`.
 fn parse_three<'w>(word: &str, name: &'w str, third: &'w str) -> Option<Command<'w>>
     ensures { option_map command_view result ≡ three_words word.now name.now third.now }
 {
@@ -313,7 +313,7 @@ fn parse_three<'w>(word: &str, name: &'w str, third: &'w str) -> Option<Command<
     None
 }
 
-/// The rows of `dump ELF` with two words behind it, `sample N --workers W`, `frame SYM ADDR STATE` and `judge --full ELF SYM`.
+/// Four arguments: `dump ELF` with two more, `sample N --workers W`, `frame SYM ADDR STATE` and `judge --full ELF SYM`.
 fn parse_four<'w>(word: &str, name: &'w str, third: &'w str, fourth: &'w str) -> Option<Command<'w>>
     ensures { option_map command_view result ≡ four_words word.now name.now third.now fourth.now }
 {
@@ -335,7 +335,7 @@ fn parse_four<'w>(word: &str, name: &'w str, third: &'w str, fourth: &'w str) ->
     None
 }
 
-/// The rows of `dump --full ELF` and of `judge ELF SYM` with two words behind them.
+/// Five arguments: `dump --full ELF` with two more, and `judge ELF SYM` with two more.
 fn parse_five<'w>(
     word: &str,
     name: &'w str,
@@ -354,7 +354,7 @@ fn parse_five<'w>(
     None
 }
 
-/// The rows of `judge --full ELF SYM` with two words behind it. `words` has the first two.
+/// Six arguments: `judge --full ELF SYM` with two more. `words` has the first two.
 fn parse_six<'w>(
     words: (&str, &str),
     third: &'w str,
@@ -370,7 +370,7 @@ fn parse_six<'w>(
     None
 }
 
-/// The command of words that are a row, and none of other words.
+/// The command that the arguments ask for, or none if they are invalid.
 #[tactic(auto, using(crate::proofs::WordLemmas::two_few, crate::proofs::WordLemmas::three_few, crate::proofs::WordLemmas::four_few, crate::proofs::WordLemmas::five_few, crate::proofs::WordLemmas::six_few))]
 pub fn parse_words(words: &[String]) -> Option<Command<'_>>
     ensures command { option_map command_view result ≡ command_of (map string_bytes words.now) }
@@ -388,7 +388,7 @@ pub fn parse_words(words: &[String]) -> Option<Command<'_>>
     }
 }
 
-/// What follows the last slash of a path, or all of it.
+/// The part of a path after its last slash, or the whole path if it has no slash.
 #[tactic(auto, using(crate::proofs::WordLemmas::last_slash, crate::proofs::WordLemmas::no_slash))]
 pub fn name_of(path: &[u8]) -> &[u8]
     ensures { result.now ≡ module_name path.now }

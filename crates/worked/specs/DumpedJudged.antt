@@ -1,4 +1,4 @@
--- Two runs of which the first dumps a source, an ELF file or one with its debug file, and the second judges the text that the first wrote.
+-- Two runs: the first dumps a source (an ELF file, alone or with its debug file), and the second judges the text that the first wrote.
 use Rattle.std.specs.Prelude.{◌≡◌, ℕ, ◌≤◌, List, [], codes, length, Some}
 use Rattle.sym_edges.specs.Outside.{Files, append_told}
 use Rattle.dumpsyms_cmd.specs.Words.{dump, judge}
@@ -6,8 +6,8 @@ use Rattle.dumpsyms_cmd.specs.Verdict.{LIMIT}
 use Rattle.dumpsyms_cmd.specs.ElfInput.{ElfSource, given_image}
 use Rattle.dumpsyms_cmd.specs.Program.{Run, command}
 
--- a run that dumped a source with status 0, and a run that is asked to judge the same, where the store still gives the same image, and a symbol
--- file; its bytes are the text that the first wrote, at most 2^29 of them
+-- the first run dumped a source with status 0. The second run is asked to judge the same source and a symbol file. The store still gives the same
+-- image. The bytes of the symbol file are the text that the first run wrote, at most 2^29 of them
 pub record JudgesWhatWasDumped (dumping judging : Run) : Type 0 where
   pub source : ElfSource
   pub sym : List ℕ

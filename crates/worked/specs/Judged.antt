@@ -1,4 +1,4 @@
--- What a symbol file of any origin says for which `judge` answers yes: what DWARF says in the ELF file.
+-- What a symbol file of any origin says if `judge` answers yes: what DWARF says in the ELF file.
 use Rattle.std.specs.Prelude.{◌≡◌, ℕ, ◌+◌, ◌-◌, ◌<◌, ◌^◌, true, List, map, None, Some, Ok}
 use Rattle.std.specs.List.{AllByRecursion}
 use Rattle.std.specs.Option.{option_map}
@@ -27,8 +27,8 @@ use Rattle.dumpsyms_cmd.specs.ElfInput.{ElfSource, given_image}
 use Rattle.dumpsyms_cmd.specs.Verdict.{LIMIT}
 use Rattle.dumpsyms_cmd.specs.commands.Dump.{written_of}
 
--- a look-up of an address names the function that owns it in the ELF file, and none where none owns it; the calls of its chain, each by the
--- called function's name and the path and the line of the call; and its line
+-- a look-up of an address names the function that owns it in the ELF file, or none if no function owns it; the calls of the address's chain, each by
+-- the called function's name and the path and the line of the call; and the address's line
 pub record NamesAsFile (base : ℕ) (units : List UnitRead) (lines : List SymLine) (x : ℕ) : Type 0 where
   pub function : text_owner lines x ≡ option_map (name_of units) (owner units (x + base))
   pub chain : map said (text_chain lines x) ≡ map said (map (call_in units) (chain units (x + base)))
@@ -39,12 +39,12 @@ pub record KeepsRowsOfWords (base : ℕ) (lines : List SymLine) (e : FdeFields) 
   pub at : (a : ℕ) (regs : Regs) (memory : List MemRun) → a - base < 2 ^ 64 → holds_address a e ≡ true → AreWords regs → AreBytes memory →
       SaysFrame (row_at e a) (row_frame e (row_at e a) regs memory) (text_frame lines (a - base) regs memory)
 
--- so of each written entry, and no rule stands at an address of no entry
+-- `KeepsRowsOfWords` holds for each written entry, and no rule applies at an address outside all entries
 pub record KeepsFramesOfWords (base : ℕ) (entries : List FdeFields) (lines : List SymLine) : Type 0 where
   pub rows : AllByRecursion (KeepsRowsOfWords base lines) entries
   pub nothing_else : (x : ℕ) (regs : Regs) (memory : List MemRun) → x < 2 ^ 64 → entries_at entries (x + base) ≡ 0 → text_frame lines x regs memory ≡ None
 
--- the files are there and read; the symbol file names at each address what DWARF says there, and its frame rules give what DWARF's rows give
+-- the files are there and were read. The symbol file names at each address what DWARF says there, and its frame rules give what DWARF's rows give
 pub record SaysAsFile (source : ElfSource) (sym : List ℕ) (files : Files) : Type 0 where
   pub parts : ImageParts
   pub image_is : given_image source files ≡ Ok parts

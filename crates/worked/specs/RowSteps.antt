@@ -15,28 +15,28 @@ use Rattle.stack_walk.specs.declared.steps.WalkEnd.{WalkEnd}
 use Rattle.stack_walk.specs.declared.steps.WalkEnd.TheVariants.{NoRules}
 use Rattle.stack_walk.specs.Walk.{caller_regs}
 
--- the frame of a step, where rules stand there
+-- the frame of a step, if rules apply there
 abbrev pub frame_said : Result Frame WalkEnd → Option Frame
 frame_said (Err end) = None
 frame_said (Ok frame) = Some frame
 
--- where an entry holds the address x of the file at which a step is looked up, the step has the frame of the entry's row there, over the
+-- a step is looked up at the address `x` of the file. If the entry covers `x`, the step has the frame of the entry's row there, evaluated with the
 -- registers of the step
 pub record HasRow (x : ℕ) (regs : Regs) (memory : List MemRun) (step : WalkStep) (e : FdeFields) : Type 0 where
   pub row : holds_address x e ≡ true → SaysFrame (row_at e x) (row_frame e (row_at e x) regs memory) (frame_said step.frame)
 
--- so for each entry, and where none holds it there is no frame
+-- `HasRow` holds for each entry; if no entry covers `x`, the step has no frame
 pub record IsRowStep (x : ℕ) (entries : List FdeFields) (regs : Regs) (memory : List MemRun) (step : WalkStep) : Type 0 where
   pub rows : AllByRecursion (HasRow x regs memory step) entries
   pub nothing_else : entries_at entries x ≡ 0 → step.frame ≡ Err NoRules
 
--- the registers that a frame hands on
+-- the registers that a frame passes on
 abbrev pub regs_behind : Result Frame WalkEnd → Regs
 regs_behind (Err end) = no_registers
 regs_behind (Ok frame) = caller_regs frame
 
--- steps by the text of one file, whose addresses count from its base: the first has these registers, and each other those that the frame of the
--- step before hands on
+-- steps by the text of one file, whose addresses count from its base. The first step has these registers, and each other step has those that the
+-- frame of the step before passes on
 abbrev pub AreRowSteps : ℕ → List FdeFields → List MemRun → Regs → List WalkStep → Type 0
 AreRowSteps base entries memory regs [] = Prim.Unit {0}
 AreRowSteps base entries memory regs (step ∷ steps) = IsRowStep (step.at + base) entries regs memory step × AreRowSteps base entries memory (regs_behind step.frame) steps

@@ -11,19 +11,19 @@ by_one_worker (dump source workers) = dump source 1
 by_one_worker (sample units workers) = sample units 1
 by_one_worker other = other
 
--- two commands that ask for the same, by any numbers of workers
+-- two commands ask for the same, by any numbers of workers
 abbrev pub AskAlike : Option Asked → Option Asked → Type 0
 AskAlike None None = Prim.Unit {0}
 AskAlike None (Some d) = ⊥
 AskAlike (Some c) None = ⊥
 AskAlike (Some c) (Some d) = by_one_worker c ≡ by_one_worker d
 
--- where `stacks` is asked for no call of the store failed, since a symbol file that cannot be read counts as missing
+-- if `stacks` is asked for, no call of the store failed: a symbol file that cannot be read would count as missing
 abbrev pub IsCalm : Option Asked → StoreSeen → Type 0
 IsCalm (Some (stacks core folder)) store = StoreStood store
 IsCalm command store = Unit {0}
 
--- two runs that ask for the same of stores with the same files, and whose sinks held the same
+-- two runs ask for the same. Their stores have the same known files, and their sinks held the same
 pub record RunAlike (one other : Run) : Type 0 where
   pub files : Files
   pub one_tells : one.store.files ≡ Some files
@@ -34,7 +34,7 @@ pub record RunAlike (one other : Run) : Type 0 where
   pub out : one.out.taken ≡ other.out.taken
   pub err : one.err.taken ≡ other.err.taken
 
--- they answer the same status, and their sinks hold the same
+-- both runs return the same status, and their sinks hold the same
 pub record EndAlike (one other : Run) : Type 0 where
   pub status : one.status ≡ other.status
   pub out : one.out.taken_after ≡ other.out.taken_after

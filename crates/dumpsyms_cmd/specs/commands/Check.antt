@@ -1,5 +1,5 @@
--- `check SYM`: what a checker finds in the records of a symbol file, a line each on standard output with status 1, or `no findings` with
--- status 0.
+-- `check SYM` writes to standard output what a checker finds in the records of a symbol file: a line for each finding, with status 1; or
+-- `no findings`, with status 0.
 use Rattle.std.specs.Prelude.{ℕ, ◌+◌, List, [], ◌∷◌, codes, decimal}
 use Rattle.std.specs.List.{flat_map}
 use Rattle.sym_records.specs.Canon.{spaced}
@@ -11,7 +11,7 @@ use Rattle.stack_text.specs.Lines.{line}
 use Rattle.dumpsyms_cmd.specs.Verdict.{Verdict}
 use Rattle.dumpsyms_cmd.specs.SymbolInput.{symbol_verdict}
 
--- a finding: its kind, and the number of the record, counted from 1
+-- the line for a finding: its kind, and the number of the record, from 1 on
 abbrev pub finding_line : Finding → List ℕ
 finding_line f = line (spaced (kind_word f.kind) (codes "record" ∷ decimal (f.index + 1) ∷ []))
 
@@ -21,7 +21,7 @@ findings_text found = flat_map finding_line found
 abbrev pub no_findings_line : List ℕ
 no_findings_line = line (codes "no findings")
 
--- by the findings
+-- the verdict on the findings
 abbrev pub findings_verdict : List Finding → Verdict
 findings_verdict [] = record { status = 0; out = no_findings_line; err = [] }
 findings_verdict (f ∷ found) = record { status = 1; out = findings_text (f ∷ found); err = [] }
@@ -29,6 +29,6 @@ findings_verdict (f ∷ found) = record { status = 1; out = findings_text (f ∷
 abbrev pub records_checked : List SymLine → Verdict
 records_checked lines = findings_verdict (findings lines)
 
--- by the bytes of the file
+-- the verdict on the bytes of the file
 unfoldable pub check_answer : List ℕ → Verdict
 check_answer bytes = symbol_verdict records_checked bytes

@@ -1,6 +1,6 @@
--- `judge ELF SYM`, also with `--full`, and with `--debug FILE` or `--debug-root DIR`: whether a symbol file says what `dump` writes: `yes`; or `no`,
--- the least address at which they differ, and what differs there first: `func`, `chain`, `line`, `init`, `cfa`, `ra` or a register's name. Where
--- `dump` refuses so does `judge`, and then the symbol file is not asked for.
+-- `judge ELF SYM`, also with `--full`, and with `--debug FILE` or `--debug-root DIR`: whether a symbol file says the same as what `dump` writes. The
+-- answer is `yes`; or it is `no`, the least address at which they differ, and what differs there first: `func`, `chain`, `line`, `init`, `cfa`, `ra`
+-- or a register's name. If `dump` refuses, `judge` refuses too, and it does not ask for the symbol file.
 use Rattle.std.specs.Prelude.{◌≡◌, ◌⊎◌, ℕ, zero, suc, Bool, List, [], ◌∷◌, ◌++◌, codes, Option, Some, None, Result, Ok, Err}
 use Rattle.sym_edges.specs.Outside.{Files, Tells}
 use Rattle.sym_rules.specs.declared.text_fault.TextFault.{TextFault}
@@ -43,45 +43,45 @@ pub record IsRuled (own other : List SymLine) (v : Verdict) : Type 0 where
   pub ruling_is : IsRuling own other ruling
   pub is : v ≡ ruling_verdict ruling
 
--- on records and a symbol file, by its reading and by the file, which may not be there
+-- the verdict on records and on the result of reading a symbol file
 abbrev pub IsReadVerdict : List SymLine → Result (List SymLine) SymRefusal → Verdict → Type 0
 IsReadVerdict own (Ok other) v = IsRuled own other v
 IsReadVerdict own (Err why) v = v ≡ refused (refusal_line why)
 
--- by its name and the file, which may not be there; that is named where `full`
+-- the verdict on records and a symbol file. For a missing file, the line names it if `full`
 abbrev pub IsSymVerdict : Bool → List ℕ → List SymLine → Option (List ℕ) → Verdict → Type 0
 IsSymVerdict full sym own None v = v ≡ unread_file full sym
 IsSymVerdict full sym own (Some bytes) v = IsReadVerdict own (file_reading LIMIT bytes) v
 
--- on the text that `dump` writes, which always reads
+-- the verdict on the text that `dump` writes, which reads without a fault
 abbrev pub IsTextVerdict : Bool → List ℕ → Result (List SymLine) TextFault → Option (List ℕ) → Verdict → Type 0
 IsTextVerdict full sym (Ok own) file v = IsSymVerdict full sym own file v
 IsTextVerdict full sym (Err fault) file v = ⊥
 
--- by the verdict of `dump`: one of another status than 0 is that of `judge`
+-- the verdict, given that of `dump`: if its status is not 0, `judge` has the same verdict
 abbrev pub IsDumpedVerdict : Bool → List ℕ → ℕ → Verdict → Option (List ℕ) → Verdict → Type 0
 IsDumpedVerdict full sym zero dumped file v = IsTextVerdict full sym (reading dumped.out) file v
 IsDumpedVerdict full sym (suc status) dumped file v = v ≡ dumped
 
--- the verdict of `judge`, by the files
+-- the verdict of `judge` on the files
 pub record IsJudgeVerdict (source : ElfSource) (sym : List ℕ) (files : Files) (v : Verdict) : Type 0 where
   pub dumped : Verdict
   pub dumped_is : IsSourceVerdict source files dumped
   pub is : IsDumpedVerdict source.full sym dumped.status dumped (files sym) v
 
--- a judgement on records and the bytes of a symbol file; where the store tells its files these are that file's
+-- a judgement on records and the bytes of a symbol file. If the store's files are known, these are the bytes of that file
 pub record JudgesSym (own : List SymLine) (sym : List ℕ) (files : Option Files) (j : Judgement) : Type 0 where
   pub bytes : List ℕ
   pub there : Tells files (λ f. f sym ≡ Some bytes)
   pub is : IsReadVerdict own (file_reading LIMIT bytes) (judgement_verdict j)
 
--- a judgement by which `dump` refuses
+-- a judgement with which `dump` refuses
 pub record RefusesElf (source : ElfSource) (files : Option Files) (j : Judgement) : Type 0 where
   pub err : List ℕ
   pub is : judgement_verdict j ≡ refused err
   pub told : Tells files (λ f. IsSourceVerdict source f (refused err))
 
--- a judgement on the symbol file, by the records of the image: these are what `dump` writes for it, and mean what it promises
+-- a judgement on the symbol file, given the records of the image. These are the records that `dump` writes, and they keep the promises of `dump`
 pub record JudgesBoth (source : ElfSource) (sym : List ℕ) (files : Option Files) (j : Judgement) : Type 0 where
   pub own : List SymLine
   pub err : List ℕ
@@ -89,6 +89,6 @@ pub record JudgesBoth (source : ElfSource) (sym : List ℕ) (files : Option File
   pub dumps : Tells files (λ f. DumpsSource source f own err)
   pub judged : JudgesSym own sym files j
 
--- what `judge` promises of its judgement
+-- what `judge` promises about its judgement
 abbrev pub JudgePromises : ElfSource → List ℕ → Option Files → Judgement → Type 0
 JudgePromises source sym files j = RefusesElf source files j ⊎ JudgesBoth source sym files j

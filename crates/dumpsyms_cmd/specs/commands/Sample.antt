@@ -1,4 +1,4 @@
--- `sample N`: what a dump of the made ELF file of N units has, counted.
+-- `sample N` writes counts for a dump of the generated ELF file with N units.
 use Rattle.std.specs.Prelude.{◌≡◌, ℕ, Bool, true, false, length, List, [], ◌++◌, Result, Ok, Err, codes, decimal}
 use Rattle.std.specs.List.{filter}
 use Rattle.elf_sections.specs.Image.{ImageParts, image}
@@ -16,7 +16,7 @@ use Rattle.dumpsyms_cmd.specs.commands.Dump.{CanonFile}
 use Rattle.dumpsyms_cmd.specs.declared.sample.Counted.{Counted}
 use Rattle.dumpsyms_cmd.specs.declared.sample.Counted.TheVariants.{Funcs, Inlines, Lines, Inits}
 
--- the record is of the kind that is counted: FUNC, INLINE, a line record, STACK CFI INIT
+-- whether a record is of the counted kind: FUNC, INLINE, a line record or STACK CFI INIT
 abbrev pub is_counted : Counted → SymLine → Bool
 is_counted Funcs (record_of.Func many address size params name) = true
 is_counted Inlines (record_of.Inline level call_line call_file origin ranges) = true
@@ -27,27 +27,28 @@ is_counted _ _ = false
 unfoldable pub count_of : Counted → List SymLine → ℕ
 count_of kind lines = length (filter (is_counted kind) lines)
 
--- `units U funcs F inlines I lines L inits S omitted O`: the units that were read, the records of each kind, and the frame entries that were left out
+-- `units U funcs F inlines I lines L inits S omitted O`: the number of units that were read, of records of each kind, and of frame entries that were
+-- left out
 unfoldable pub counts_line : ℕ → List SymLine → ℕ → List ℕ
 counts_line units lines left = codes "units " ++ decimal units ++ codes " funcs " ++ decimal (count_of Funcs lines) ++ codes " inlines " ++ decimal (count_of Inlines lines) ++
     codes " lines " ++ decimal (count_of Lines lines) ++ codes " inits " ++ decimal (count_of Inits lines) ++ codes " omitted " ++ decimal left ++ codes "\n"
 
--- the counts of a file without fault
+-- the counts for a file without fault
 pub record GivesCounts (parts : ImageParts) (found : DebugSays) (v : Verdict) : Type 0 where
   pub lines : List SymLine
   pub canon : CanonFile parts [] found lines
   pub is : v ≡ record { status = 0; out = counts_line (length found.units) lines (length (omitted parts.code found.first found.second)); err = [] }
 
--- by what stands after the image: the first fault, or the counts
+-- the verdict on what is read after the image: the first fault, or the counts
 abbrev pub IsCountsVerdict : Result DebugSays DebugFault → ImageParts → Verdict → Type 0
 IsCountsVerdict (Err fault) parts v = v ≡ refused (debug_line fault)
 IsCountsVerdict (Ok found) parts v = GivesCounts parts found v
 
--- by the image
+-- the verdict on the image
 abbrev pub IsImageCounts : Result ImageParts ElfFault → Verdict → Type 0
 IsImageCounts (Err fault) v = v ≡ refused (elf_line fault)
 IsImageCounts (Ok parts) v = IsCountsVerdict (debug_says parts) parts v
 
--- of the file of so many units: no other file is read
+-- the verdict for this many units; no file is read
 abbrev pub IsSampleVerdict : ℕ → Verdict → Type 0
 IsSampleVerdict units v = IsImageCounts (image (made units)) v

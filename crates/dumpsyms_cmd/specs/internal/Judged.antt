@@ -1,4 +1,4 @@
--- What the functions that judge say of their judgements and answers.
+-- What the functions that judge guarantee about their judgements and answers.
 use Rattle.std.specs.List.{AllByRecursion, list_any}
 use Rattle.std.specs.Str.{bytes_eq}
 use Rattle.std.specs.Prelude.{◌≡◌, ℕ, ◌<◌, Bool, true, false, List, [], ◌∷◌, ◌++◌, Option, Some, None, IsSome, Result, Ok, Err}
@@ -46,7 +46,7 @@ use Rattle.dumpsyms_cmd.specs.declared.judgement.Judgement.{Judgement}
 use Rattle.dumpsyms_cmd.specs.declared.judgement.Answer.{Answer}
 use Rattle.dumpsyms_cmd.specs.declared.judgement.Answer.TheVariants.{Judged, Unread, NoMemory}
 
--- the verdict that an answer gives
+-- the verdict of an answer
 abbrev pub answer_verdict : Answer → Verdict
 answer_verdict (Judged j) = judgement_verdict j
 answer_verdict (Unread line) = unread_by (err_bytes line)
@@ -57,7 +57,7 @@ has_output (Judged j) = is_some_output j.out
 has_output (Unread line) = false
 has_output NoMemory = false
 
--- a judgement that refuses with this line
+-- the judgement refuses with this line
 pub record Refuses (j : Judgement) (text : List ℕ) : Type 0 where
   pub status : j.status ≡ 1
   pub out : j.out ≡ Nothing
@@ -67,29 +67,29 @@ pub record Refuses (j : Judgement) (text : List ℕ) : Type 0 where
 abbrev pub JudgesParts : Judgement → Bool → List ℕ → ImageParts → Type 0
 JudgesParts j full name parts = Judges j (λ err. IsPartsVerdict full parts name (refused err)) (DumpsParts full parts name)
 
--- a judgement on an image that is given for a source, or on the verdict where none is
+-- a judgement on the image that is given for a source, or on the verdict if none is given
 abbrev pub JudgesGiven : Judgement → ElfSource → Result ImageParts Verdict → Type 0
 JudgesGiven j source given = Judges j (λ err. IsGivenVerdict source given (refused err)) (DumpsGiven source given)
 
--- one on an image and the bytes of the file to which it links
+-- a judgement on an image and the supplementary file to which it links
 abbrev pub JudgesSup : Judgement → ElfSource → ImageParts → SupLink → Result ImageParts ElfFault → Type 0
 JudgesSup j source image link read = JudgesGiven j source (or_refused sup_elf_line read >>= joined image link)
 
--- what is known of a judgement: it has status 0, 1 or 2, the last for invalid arguments alone; it is the verdict where the store
--- tells its files; and it keeps the command's promises
+-- what is known of a judgement. Its status is 0, 1 or 2, and 2 only for invalid arguments. If the store's files are known, it is the verdict for
+-- these files. It keeps the command's promises
 pub record IsJudged (j : Judgement) (command : Option Asked) (files : Option Files) : Type 0 where
   pub low : j.status < 3
   pub row : IsSome command → j.status < 2
   pub told : Tells files (λ f. IsVerdict command f [] (judgement_verdict j))
   pub kept : CommandPromises command files j
 
--- what an answer says of a command, the files, the names that were asked for and the store's count of faults
+-- what an answer guarantees about a command, the files, the names that were asked for and the store's count of faults
 abbrev pub AnswersCommand : Answer → Option Asked → Option Files → List (List ℕ) → ℕ → ℕ → Type 0
 AnswersCommand (Judged j) command files asked before after = IsJudged j command files
 AnswersCommand (Unread line) command files asked before after = ReadsFiles command × Rose before after × (err_bytes line ≡ not_read_line command asked)
 AnswersCommand NoMemory command files asked before after = IsSome command
 
--- the same of a command that may go on without files that cannot be read
+-- what is known of a judgement of a command that may go on without unreadable files
 pub record JudgesWords (j : Judgement) (command : Option Asked) (store : StoreSeen) : Type 0 where
   pub low : j.status < 3
   pub row : IsSome command → j.status < 2
@@ -103,25 +103,25 @@ AnswersWords (Judged j) command store = JudgesWords j command store
 AnswersWords (Unread line) command store = ReadsFiles command × Rose store.faults store.faults_after × (err_bytes line ≡ not_read_line command store.asked_after)
 AnswersWords NoMemory command store = IsSome command × IsSteady command store
 
--- the store's count of faults stands still, unless a file could not be opened or read
+-- the store's count of faults does not change, unless a file could not be opened or read
 abbrev pub IsSteadyAnswer : Answer → ℕ → ℕ → Type 0
 IsSteadyAnswer (Judged j) before after = after ≡ before
 IsSteadyAnswer (Unread line) before after = Unit {0}
 IsSteadyAnswer NoMemory before after = after ≡ before
 
--- what an answer says of the image that files give for a source
+-- what an answer guarantees about the image that files give for a source
 abbrev pub AnswersImage : Answer → (Files → Result ImageParts Verdict) → ElfSource → Option Files → List (List ℕ) → ℕ → ℕ → Type 0
 AnswersImage (Judged j) given source files asked before after = ImagePromises given source files j
 AnswersImage (Unread line) given source files asked before after = Rose before after × (err_bytes line ≡ unread_lines source.full (last_name asked))
 AnswersImage NoMemory given source files asked before after = Unit {0}
 
--- the names that were asked for: all of them where there is a judgement, and else a front
+-- the names that were asked for: all of these if there is a judgement, else a prefix of them
 abbrev pub AsksAll : Answer → List (List ℕ) → List (List ℕ) → List (List ℕ) → Type 0
 AsksAll (Judged j) names before after = after ≡ before ++ names
 AsksAll (Unread line) names before after = Asks names before after
 AsksAll NoMemory names before after = Asks names before after
 
--- an answer without the text of records
+-- the answer has no text of records
 abbrev pub IsNoText : Output → Type 0
 IsNoText Nothing = Unit {0}
 IsNoText (Text lines) = ⊥
@@ -133,13 +133,13 @@ HasNoText (Judged j) = IsNoText j.out
 HasNoText (Unread line) = Unit {0}
 HasNoText NoMemory = Unit {0}
 
--- the names behind a debug file's own, by what is read of it, which is what files that are told give
+-- the debug file's own name, and the names that follow from what is read of it (`read`). If the store's files are known, they give `read`
 pub record AsksFile (answer : Answer) (source : ElfSource) (binary : ImageParts) (path : List ℕ) (files : Option Files) (before after : List (List ℕ)) : Type 0 where
   pub read : Result ImageParts Verdict
   pub told : Tells files (λ f. file_pair source binary path f ≡ read)
   pub asks : AsksAll answer (path ∷ read_names source path read) before after
 
--- the same by its path, where it has one
+-- the names from the debug file on, if it has a path
 abbrev pub AsksPath : Answer → ElfSource → ImageParts → Result (List ℕ) Verdict → Option Files → List (List ℕ) → List (List ℕ) → Type 0
 AsksPath answer source binary (Ok path) files before after = AsksFile answer source binary path files before after
 AsksPath answer source binary (Err ended) files before after = AsksAll answer [] before after
@@ -148,12 +148,12 @@ abbrev pub AsksDebug : Answer → ElfSource → Option DebugFile → ImageParts 
 AsksDebug answer source None binary files before after = AsksAll answer (sup_names source source.elf binary) before after
 AsksDebug answer source (Some debug) binary files before after = AsksPath answer source binary (path_of debug binary) files before after
 
--- the names behind that of the ELF file, by its image; where it has none nothing is asked for, and there is no text
+-- the names after the ELF file's own, by its image. If it has no image, nothing is asked for, and there is no text of records
 abbrev pub AsksBehind : Answer → ElfSource → Result ImageParts Verdict → Option Files → List (List ℕ) → List (List ℕ) → Type 0
 AsksBehind answer source (Ok binary) files before after = AsksDebug answer source source.debug binary files before after
 AsksBehind answer source (Err ended) files before after = (after ≡ before) × HasNoText answer
 
--- the names of a source, by what is not told: all of them where there is a text, and else a front
+-- the names of a source's files, for some build id and link: all of them if there is a text of records, else a prefix
 abbrev pub AsksBy : Output → List (List ℕ) → List (List ℕ) → List (List ℕ) → Type 0
 AsksBy Nothing names before after = Asks names before after
 AsksBy (Text lines) names before after = after ≡ before ++ names
@@ -169,21 +169,21 @@ pub record AsksSource (answer : Answer) (source : ElfSource) (files : Option Fil
   pub untold : Untold
   pub asks : AsksNames answer (elf_names files source untold) before after
 
--- the names that are asked for behind a dump: none where it gave no text
+-- the names that are asked for after a dump: none if it gave no text of records
 abbrev pub AsksThen : Output → List (List ℕ) → List (List ℕ) → List (List ℕ) → Type 0
 AsksThen Nothing names before after = after ≡ before
 AsksThen (Text lines) names before after = Asks names before after
 AsksThen (Bytes text) names before after = after ≡ before
 AsksThen (Records lines) names before after = after ≡ before
 
--- an answer is a refusal with a line that was made, or memory ran out
+-- the answer refuses with the line that was made, or memory ran out
 abbrev pub AnswersMade : {F : Type 0} → Answer → Result (List ℕ) F → Type 0
 AnswersMade (Judged j) (Ok line) = Refuses j line
 AnswersMade (Judged j) (Err e) = ⊥
 AnswersMade (Unread line) made = ⊥
 AnswersMade NoMemory made = Unit {0}
 
--- what an answer says of a file that could not be read whole, for which this line stands
+-- what an answer guarantees if a file could not be read whole; `text` is the line for an unreadable file
 abbrev pub AnswersStop : Answer → List ℕ → Stop ReadEnd → Type 0
 AnswersStop (Judged j) text (Fault CantOpen) = ⊥
 AnswersStop (Judged j) text (Fault CantRead) = ⊥
@@ -196,7 +196,7 @@ AnswersStop (Unread line) text stop.NoMemory = ⊥
 AnswersStop NoMemory text (Fault why) = ⊥
 AnswersStop NoMemory text stop.NoMemory = Unit {0}
 
--- what an answer says of a symbol file that has no records, for which this line stands
+-- what an answer guarantees if a symbol file has no records; `text` is the line for an unreadable file
 abbrev pub AnswersEnd : Answer → List ℕ → Stop SymEnd → Type 0
 AnswersEnd (Judged j) text (Fault end.Unread) = ⊥
 AnswersEnd (Judged j) text (Fault (end.Refused why)) = judgement_verdict j ≡ refused (refusal_line why)
@@ -208,46 +208,46 @@ AnswersEnd NoMemory text (Fault end.Unread) = ⊥
 AnswersEnd NoMemory text (Fault (end.Refused why)) = Unit {0}
 AnswersEnd NoMemory text stop.NoMemory = Unit {0}
 
--- a judgement is an answer, and so is that memory ran out
+-- the answer is the judgement; if there is none, memory ran out
 abbrev pub AnswersJudged : {F : Type 0} → Answer → Result Judgement F → Type 0
 AnswersJudged answer (Ok j) = answer ≡ Judged j
 AnswersJudged answer (Err e) = answer ≡ NoMemory
 
--- what answers a symbol file
+-- the verdict of a query on a symbol file
 abbrev pub sym_answer : SymQuery → List SymLine → Verdict
 sym_answer Check = records_checked
 sym_answer (Lookup address) = records_looked_up address
 sym_answer Names = records_named
 
--- what answers a symbol file and a state
+-- the verdict of a query on a symbol file and a state
 abbrev pub query_answer : StateQuery → List SymLine → State → Verdict
 query_answer (Frame address) = frame_answer address
 query_answer Walk = walk_answer
 
--- a judgement is what the command answers to the bytes of a state file, over the records of a symbol file
+-- a judgement is what the command answers to the bytes of a state file, given the records of a symbol file
 pub record AnswersBytesOf (lines : List SymLine) (answer : List SymLine → State → Verdict) (name : List ℕ) (files : Option Files) (j : Judgement) : Type 0 where
   pub bytes : List ℕ
   pub there : Tells files (λ f. f name ≡ Some bytes)
   pub is : judgement_verdict j ≡ state_answer answer lines bytes
 
--- what an answer says of a state file
+-- what an answer guarantees about a state file
 abbrev pub AnswersState : Answer → List SymLine → (List SymLine → State → Verdict) → List ℕ → Option Files → ℕ → ℕ → Type 0
 AnswersState (Judged j) lines answer name files before after = AnswersBytesOf lines answer name files j
 AnswersState (Unread line) lines answer name files before after = Rose before after × (err_bytes line ≡ unread_line)
 AnswersState NoMemory lines answer name files before after = Unit {0}
 
--- what an answer says of a symbol file that is judged against records, and that is named where `full`
+-- what an answer guarantees about a symbol file that is compared with records; an unreadable one is named if `full`
 abbrev pub AnswersSym : Answer → List SymLine → Bool → List ℕ → Option Files → List (List ℕ) → ℕ → ℕ → Type 0
 AnswersSym (Judged j) own full sym files asked before after = JudgesSym own sym files j
 AnswersSym (Unread line) own full sym files asked before after = Rose before after × (err_bytes line ≡ unread_lines full (last_name asked))
 AnswersSym NoMemory own full sym files asked before after = Unit {0}
 
--- symbol files in a folder were asked for, each once
+-- only symbol files in the folder were asked for, each at most once
 abbrev pub AsksSymbols : List ℕ → List (List ℕ) → List (List ℕ) → Type 0
 AsksSymbols folder before after = (names : List (List ℕ)) × ((after ≡ before ++ names) × (AreOnce names × AllByRecursion (IsSymbolFile folder) names))
 
--- a judgement is the verdict of a core, or of its fault, by some files: by those that the store tells, without the names at which a call failed,
--- each of which was asked for
+-- a judgement is the verdict on a core or its fault, by some files. If the store's files are known, these are the store's files without the names at
+-- which a call failed. Each such name was asked for
 pub record JudgesCore (j : Judgement) (folder : List ℕ) (found : Result CoreParts CoreFault) (files : Option Files) (asked : List (List ℕ)) (before after : ℕ) : Type 0 where
   pub got : Files
   pub missed : List (List ℕ)
@@ -256,7 +256,7 @@ pub record JudgesCore (j : Judgement) (folder : List ℕ) (found : Result CorePa
   pub asked_for : (name : List ℕ) → list_any (bytes_eq name) missed ≡ true → list_any (bytes_eq name) asked ≡ true
   pub is : judgement_verdict j ≡ core_or_refused folder got found
 
--- what an answer says of a core file
+-- what an answer guarantees about a core file
 abbrev pub AnswersCore : Answer → List ℕ → List ℕ → Option Files → List (List ℕ) → ℕ → ℕ → Type 0
 AnswersCore (Judged j) folder bytes files asked before after = JudgesCore j folder (core bytes) files asked before after
 AnswersCore (Unread line) folder bytes files asked before after = ⊥

@@ -1,4 +1,4 @@
--- What is left out of a dump, by what was read of the file.
+-- What is left out of a dump, given what was read of the file.
 use Rattle.std.specs.Prelude.{ℕ, Bool, true, false, List, length, take, ◌++◌}
 use Rattle.std.specs.List.{list_any}
 use Rattle.elf_sections.specs.Image.{ImageParts}
@@ -18,7 +18,7 @@ use Rattle.dumpsyms_cmd.specs.SupUnits.{sup_skipped_by, sup_skipped_text}
 abbrev pub kept_entries : DebugRead → List DieFields
 kept_entries read = entries_of (take (length (read_units read.headers)) read.units)
 
--- a unit is skipped
+-- the unit is skipped
 abbrev pub is_skipped_by : UnitPart → Bool
 is_skipped_by Skipped = true
 is_skipped_by part = false
@@ -26,11 +26,11 @@ is_skipped_by part = false
 abbrev pub is_skipped : Unit → Bool
 is_skipped unit = is_skipped_by unit.part
 
--- the line of a unit of the supplementary file, by the places to which entries lead
+-- the line for a unit of the supplementary file, given the places to which entries refer
 abbrev pub sup_left : List ℕ → Unit → List ℕ
 sup_left targets unit = sup_skipped_by (list_any (lies_in unit) targets) unit unit.part
 
--- what standard error gets
+-- the text on standard error
 abbrev pub left_of : Bool → ImageParts → DebugRead → List Omission → List ℕ
 left_of full parts read omissions =
     units_text full (sections_of parts) read.headers ++ (sup_skipped_text (kept_entries read) read.sup_headers ++ omitted_text omissions)

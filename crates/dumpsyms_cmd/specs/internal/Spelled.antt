@@ -23,7 +23,7 @@ use Rattle.sym_meaning.specs.Findings.{HasNoFindings}
 abbrev pub FitsInside : SymLine → Type 0
 FitsInside line = (fits Inside line ≡ true) × (fields_fit line ≡ true)
 
--- the text of the records in front of those of frames
+-- the text of the records before the frame records
 pub record HasHead (image : ImageParts) (name : List ℕ) (units : List UnitRead) (pieces : List Piece) (text : List ℕ) : Type 0 where
   pub functions : List SymLine
   pub are : AreFuncRecords image.base units pieces functions
@@ -31,7 +31,7 @@ pub record HasHead (image : ImageParts) (name : List ℕ) (units : List UnitRead
   pub text_is : text ≡ canon_text (identity_lines image name ++ (functions ++ public_lines image pieces))
   pub valid : first_bad (identity_lines image name ++ (functions ++ public_lines image pieces)) ≡ None
 
--- the records of a file, by what was read of it, and the frame entries that are left out
+-- the records of a file, given what was read of it, and the frame entries that are left out
 pub record DumpsRead (image : ImageParts) (name : List ℕ) (read : DebugRead) (lines : List SymLine) (left : List Omission) : Type 0 where
   pub found : DebugSays
   pub found_is : debug_says image ≡ Ok found
