@@ -1,4 +1,4 @@
--- The attributes of entries by their classes (DWARF 5, 7.5.4 and table 7.5).
+-- The attributes of entries, by the classes of their values (DWARF 5, 7.5.4 and table 7.5).
 use Rattle.std.specs.Prelude.{ℕ, ◌+◌, ◌%◌, ◌^◌, ◌==◌, nat_lt, Bool, true, false, if◌then◌else◌, List, find, Option, None, Some, option_and_then, is_none, is_some}
 use Rattle.std.specs.Option.{option_map}
 use Rattle.std.specs.Int.{w64, cast_unsigned}
@@ -9,11 +9,11 @@ use Rattle.abbrev_units.specs.DebugSections.{DebugSections, place_in}
 use Rattle.abbrev_units.specs.Texts.{text_in, text_of}
 use Rattle.abbrev_units.specs.declared.value.Given.{Given}
 
--- the value of an attribute: the first that is given
+-- the value of an attribute: the first one, if the entry has several
 unfoldable pub first_of : ℕ → List Given → Option Value
 first_of attribute values = option_map (λ given. given.value) (find (λ given. given.attribute == attribute) values)
 
--- values of the class that an attribute has: of another class it is absent
+-- low_pc, high_pc and ranges: a value whose class the attribute does not have counts as absent
 abbrev pub as_low : Value → Option Value
 as_low (value.Addr n) = Some (value.Addr n)
 as_low (value.AddrIndex n) = Some (value.AddrIndex n)
@@ -38,8 +38,8 @@ as_place (value.SecOffset n) = Some n
 as_place (value.Num n) = Some n
 as_place _ = None
 
--- a place in `.debug_info`, of this file or of the supplementary one: one that is counted from the unit's start is absent where the sum leaves
--- u64, and one in a supplementary file that was not read is absent
+-- the place of the entry to which a reference leads, in `.debug_info` of this file or of the supplementary file. There is none if a reference
+-- relative to the unit's start exceeds u64, or if it leads into a supplementary file that was not read
 abbrev pub as_reference : DebugSections → Unit → Value → Option ℕ
 as_reference sections unit (value.UnitRef n) = if nat_lt (unit.start + n) (2 ^ 64) then Some (place_in sections.is_sup (unit.start + n)) else None
 as_reference sections unit (value.InfoRef n) = Some (place_in sections.is_sup n)
@@ -56,32 +56,32 @@ as_number (value.Num n) = Some n
 as_number (value.Signed n) = Some (cast_unsigned w64 n)
 as_number _ = None
 
--- an attribute by its class
+-- the value of an attribute, if it has the given class
 abbrev pub picked : {A : Type 0} → (Value → Option A) → ℕ → List Given → Option A
 picked class attribute values = option_and_then class (first_of attribute values)
 
--- whether a text stands in a supplementary file that was not read (DWARF 5, 7.3.6): by DW_FORM_strp_sup, or as dwz wrote it before,
--- DW_FORM_GNU_strp_alt
+-- whether a text is in a supplementary file (DWARF 5, 7.3.6) that was not read. Its form is DW_FORM_strp_sup, or DW_FORM_GNU_strp_alt, which dwz
+-- wrote before
 abbrev pub is_elsewhere : DebugSections → Option Value → Bool
 is_elsewhere sections (Some (value.SupStrAt place)) = is_none sections.sup_strs
 is_elsewhere sections _ = false
 
--- yes only where it is said
+-- whether a flag is there and is true
 abbrev pub is_yes : Option Bool → Bool
 is_yes (Some true) = true
 is_yes _ = false
 
--- a line number, modulo 2^32; 0 where none is given
+-- a line number, modulo 2^32; 0 if there is none
 abbrev pub line_of : Option ℕ → ℕ
 line_of None = 0
 line_of (Some n) = n % 2 ^ 32
 
--- one or else the other
+-- the first value or, if there is none, the second
 abbrev pub or_else : {A : Type 0} → Option A → Option A → Option A
 or_else (Some x) other = Some x
 or_else None other = other
 
--- the text of a value of class string in an entry, in this file or in the supplementary one; `base` is the unit's str_offsets_base
+-- the text of a value of class string in an entry: a text of this file or of the supplementary file. `base` is the unit's str_offsets_base
 abbrev pub entry_text : DebugSections → Unit → Option ℕ → Value → Option (List ℕ)
 entry_text sections unit base (value.SupStrAt place) = option_and_then (λ strs. text_in strs place) sections.sup_strs
 entry_text sections unit base value = text_of sections sections.info unit.wide base value

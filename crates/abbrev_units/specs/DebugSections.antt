@@ -1,8 +1,8 @@
 use Rattle.std.specs.Prelude.{ℕ, ◌+◌, ◌^◌, nat_lt, Bool, if◌then◌else◌, List, Option}
 
--- the bytes of the sections of debugging information, by their names: a missing one has none. Names and entries that several files share may
--- stand in a supplementary file (DWARF 5, 7.3.6): `sup_strs` is its `.debug_str`, where that file was read too, and `is_sup` says that these
--- sections are its own
+-- the bytes of the sections of debugging information, by section name; a missing section has no bytes. Names and entries that several files share may
+-- be in a supplementary file (DWARF 5, 7.3.6). `sup_strs` is the `.debug_str` of that file, if it was read too. `is_sup` says that these sections are
+-- those of the supplementary file itself
 pub record DebugSections : Type 0 where
   pub info : List ℕ
   pub abbrevs : List ℕ
@@ -16,10 +16,10 @@ pub record DebugSections : Type 0 where
   pub sup_strs : Option (List ℕ)
   pub is_sup : Bool
 
--- places in `.debug_info` are counted through both files: a file has at most 2^29 bytes, and the places of the supplementary file come behind these
+-- places in `.debug_info` are counted through both files. A file has at most 2^29 bytes, so the places of the supplementary file begin at 2^29
 abbrev pub first_place : Bool → ℕ
 first_place sup = if sup then 2 ^ 29 else 0
 
--- the place to which a reference into one of them leads: one that leaves the file leads to no entry of either
+-- the place to which a reference into one of the two files leads; if the reference leaves its file, 2^31, which is not in either file
 unfoldable pub place_in : Bool → ℕ → ℕ
 place_in sup n = if nat_lt n (2 ^ 29) then first_place sup + n else 2 ^ 31

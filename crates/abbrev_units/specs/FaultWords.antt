@@ -1,9 +1,9 @@
--- The words by which faults of debugging information are printed.
+-- The words with which faults of debugging information are printed.
 use Rattle.std.specs.Prelude.{ℕ, List, codes}
 use Rattle.abbrev_units.specs.declared.fault.DwarfKind.{DwarfKind}
 use Rattle.abbrev_units.specs.declared.fault.DwarfKind.TheVariants as dwarf
 
--- the word of a fault of debugging information
+-- the word for each kind of fault
 abbrev pub dwarf_word : DwarfKind → List ℕ
 dwarf_word dwarf.Ends = codes "ends"
 dwarf_word dwarf.LebLong = codes "leb-long"

@@ -1,4 +1,4 @@
--- Faults with their section and place.
+-- Faults of readings and of headers, with their section and place.
 use Rattle.std.specs.Prelude.{◌≡◌, ℕ, Result, Ok, Err}
 use Rattle.sym_edges.specs.declared.fault.Stop.{Stop}
 use Rattle.sym_edges.specs.declared.fault.Stop.TheVariants.{Fault, NoMemory}
@@ -20,12 +20,12 @@ in_section section (reading.Ends at) = record { kind = is.Ends; section = sectio
 in_section section (reading.LebLong at) = record { kind = is.LebLong; section = section; at = at }
 in_section section (reading.NoZero at) = record { kind = is.NoZero; section = section; at = at }
 
--- the fault of a header that starts at a place of a section
+-- the fault of a header that starts at the place `start` of a section
 unfoldable pub header_fault : Sect → ℕ → HeaderFault → Located DwarfKind
 header_fault section start (header.Cursor fault) = in_section section fault
 header_fault section start (header.Start kind) = record { kind = kind; section = section; at = start }
 
--- readings with their fault as one of a section, of a header, of a header that starts at a place, and of a value
+-- a reading, whose fault becomes one in a section; in a header; in a header that starts at a place; in a value
 abbrev pub read_in : {A : Type 0} → Sect → Result A CursorFault → Result A (Located DwarfKind)
 read_in section (Ok x) = Ok x
 read_in section (Err fault) = Err (in_section section fault)
@@ -42,23 +42,23 @@ abbrev pub as_value : {A : Type 0} → Result A CursorFault → Result A FormFau
 as_value (Ok x) = Ok x
 as_value (Err fault) = Err (form.Cursor fault)
 
--- a reading whose fault is at the start of a header
+-- a reading whose fault becomes one at the start of a header
 abbrev pub or_start : {A : Type 0} → DwarfKind → Result A CursorFault → Result A HeaderFault
 or_start kind (Ok x) = Ok x
 or_start kind (Err fault) = Err (header.Start kind)
 
--- what a call that gives no value left ahead
+-- what is left ahead after a call that returns no value
 abbrev pub left_by : {U E : Type 0} → Result U E → Ahead → Result Ahead E
 left_by (Ok x) c = Ok c
 left_by (Err fault) c = Err fault
 
--- an answer is what a definition gives: its value, or its fault; out of memory says nothing
+-- a result is what a definition gives: its value or its fault; out of memory promises nothing
 abbrev pub Gives : {A F : Type 0} → Result A (Stop F) → Result A F → Type 0
 Gives (Ok x) given = given ≡ Ok x
 Gives (Err (Fault fault)) given = given ≡ Err fault
 Gives (Err NoMemory) given = Unit {0}
 
--- the same for an answer that is read, with what is left ahead
+-- the same for a reading, with what it leaves ahead
 abbrev pub GivesAt : {A F : Type 0} → Result A (Stop F) → Ahead → Result (A × Ahead) F → Type 0
 GivesAt (Ok x) c given = given ≡ Ok (x, c)
 GivesAt (Err (Fault fault)) c given = given ≡ Err fault

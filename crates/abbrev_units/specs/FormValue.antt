@@ -16,7 +16,7 @@ use Rattle.abbrev_units.specs.declared.value.Value.{Value}
 use Rattle.abbrev_units.specs.declared.value.Value.TheVariants as value
 use Rattle.abbrev_units.specs.Faults.{as_value}
 
--- the value of an operand by its class; `implicit` is the constant of the abbreviation
+-- the value of an operand, by the class of its form; `implicit` is the constant in the abbreviation
 unfoldable pub value_of : FormClass → ℤ → Operand → Value
 value_of is.Address implicit (operand.Num n) = value.Addr n
 value_of is.AddressIndex implicit (operand.Num n) = value.AddrIndex n
@@ -38,21 +38,21 @@ value_of is.SectionPlace implicit (operand.Num n) = value.SecOffset n
 value_of is.ListIndex implicit (operand.Num n) = value.ListIndex n
 value_of _ implicit _ = value.Other
 
--- a value by the row of its form: a form without a row is unknown, at the place where the value would begin
+-- the value of a form, given its row in the table of forms; a form without a row is a fault at the place where the value would begin
 abbrev pub value_by : Option FormRow → ℤ → Ahead → Result (Value × Ahead) FormFault
 value_by None implicit c = Err (Unknown c.at)
 value_by (Some row) implicit c = as_value (kind_at row.layout c) >>= λ x. Ok (value_of row.class implicit x.0, x.1)
 
--- a value whose form is not indirect
+-- a value whose form is not DW_FORM_indirect
 unfoldable pub direct_at : ℕ → ℤ → Bool → Ahead → Result (Value × Ahead) FormFault
 direct_at form implicit wide c = value_by (form_row form (forms wide)) implicit c
 
--- DW_FORM_indirect: the form stands in front of the value, and is neither indirect again nor implicit
+-- DW_FORM_indirect (0x16): the form comes before the value, and may be neither DW_FORM_indirect nor DW_FORM_implicit_const (0x21)
 unfoldable pub indirect_at : Bool → Ahead → Result (Value × Ahead) FormFault
 indirect_at wide c =
     as_value (uleb_at c) >>= λ form.
     if form.0 == 0x16 || form.0 == 0x21 then Err (Unknown form.1.at) else direct_at form.0 (pos 0) wide form.1
 
--- the value of a form, in a unit of the 64-bit format where `wide`
+-- the value of a form; `wide` says whether the unit has the 64-bit format
 unfoldable pub form_at : ℕ → ℤ → Bool → Ahead → Result (Value × Ahead) FormFault
 form_at form implicit wide c = if form == 0x16 then indirect_at wide c else direct_at form implicit wide c

@@ -1,4 +1,4 @@
--- The length in front of a unit or of a line table, which tells the format (DWARF 5, 7.2.2 and 7.4).
+-- The length at the start of a unit or of a line table, which also gives the format (DWARF 5, 7.2.2 and 7.4).
 use Rattle.std.specs.Prelude.{ℕ, ◌==◌, nat_lt, true, false, if◌then◌else◌, Result, Ok, Err}
 use Rattle.sym_edges.specs.Results.{◌>>=◌}
 use Rattle.leb_cursor.specs.Ahead.{Ahead}
@@ -10,7 +10,8 @@ use Rattle.abbrev_units.specs.declared.length.InitialLength.{InitialLength}
 use Rattle.abbrev_units.specs.Faults.{or_start}
 use Rattle.abbrev_units.specs.Contents.{Contents}
 
--- the length by its first four bytes: ffffffff tells the 64-bit format, whose length has eight bytes more; the values below it are reserved
+-- the length, given its first four bytes. If they are ffffffff, the format is the 64-bit one, and the length is the next eight bytes; fffffff0 to
+-- fffffffe are reserved
 unfoldable pub length_by : ℕ → Ahead → Result (InitialLength × Ahead) HeaderFault
 length_by first c =
     if nat_lt first 0xfffffff0 then Ok (record { count = first; wide = false }, c) else
@@ -20,7 +21,7 @@ length_by first c =
 unfoldable pub length_at : Ahead → Result (InitialLength × Ahead) HeaderFault
 length_at c = or_start is.Ends (fixed_at 4 c) >>= λ first. length_by first.0 first.1
 
--- what the length counts: the bytes after it, up to the end of the unit or of the table
+-- the bytes that the length counts: those after it, up to the end of the unit or of the table
 unfoldable pub contents_at : Ahead → Result (Contents × Ahead) HeaderFault
 contents_at c =
     length_at c >>= λ length.

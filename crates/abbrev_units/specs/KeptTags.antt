@@ -1,4 +1,4 @@
--- The tags whose entries are kept.
+-- The tags of the entries that are kept.
 use Rattle.std.specs.Prelude.{ℕ, ◌==◌, ◌||◌, Bool}
 
 -- the tags that are kept (DWARF 5, table 7.3): DW_TAG_class_type, DW_TAG_structure_type, DW_TAG_union_type, DW_TAG_inlined_subroutine,

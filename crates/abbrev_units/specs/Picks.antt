@@ -1,5 +1,5 @@
--- The values of an entry that are asked for (DWARF 5, 7.5.4 and table 7.5): of each attribute the first, where the standard gives the
--- attribute values of this class.
+-- The needed values of an entry (DWARF 5, 7.5.4 and table 7.5): the first value of each needed attribute, if the standard gives the attribute values
+-- of this class.
 use Rattle.std.specs.Prelude.{◌≡◌, ℕ, ◌==◌, ◌||◌, not, Bool, false, List, Option, None, Some, option_and_then, Result, Ok, Err}
 use Rattle.std.specs.Int.{w64, cast_signed}
 use Rattle.leb_cursor.specs.Ahead.{Ahead}
@@ -15,7 +15,7 @@ use Rattle.abbrev_units.specs.Attributes.{first_of, as_low, as_high, as_ranges}
 use Rattle.abbrev_units.specs.SpecFields.{SpecFields}
 use Rattle.abbrev_units.specs.Values.{values_at}
 
--- a value, or none, of each attribute that is asked for
+-- the value of each needed attribute, or none
 pub record PickFields : Type 0 where
   pub low : Option Value
   pub high : Option Value
@@ -34,7 +34,7 @@ pub record PickFields : Type 0 where
   pub addr_base : Option Value
   pub rnglists_base : Option Value
 
--- the first value of each, by their names DW_AT_ in the comments
+-- the first values; the comments name the attributes without DW_AT_
 abbrev pub first_values : List Given → PickFields
 first_values values = record {
   low = first_of 0x11 values;  -- low_pc
@@ -85,7 +85,7 @@ as_text (value.SupStrAt n) = Some (value.SupStrAt n)
 as_text (value.StrIndex n) = Some (value.StrIndex n)
 as_text _ = None
 
--- what is kept of them
+-- the first values whose classes fit their attributes
 abbrev pub kept_of : PickFields → PickFields
 kept_of first = record {
   low = option_and_then as_low first.low;
@@ -129,7 +129,7 @@ no_picks = record {
   rnglists_base = None;
 }
 
--- what is kept of the values of attributes
+-- the picks of the values that were read
 abbrev pub with_picks : {F : Type 0} → Result (List Given × Ahead) F → Result (PickFields × Ahead) F
 with_picks (Ok x) = Ok (picks_of x.0, x.1)
 with_picks (Err fault) = Err fault
@@ -137,7 +137,7 @@ with_picks (Err fault) = Err fault
 unfoldable pub picks_at : List SpecFields → Ahead → Result (PickFields × Ahead) FormFault
 picks_at specs c = with_picks (values_at specs c)
 
--- a number of a class, as a value
+-- the value that a class and a number stand for
 abbrev pub value_in : Class → ℕ → Option Value
 value_in class.Missing n = None
 value_in class.Addr n = Some (value.Addr n)
@@ -176,7 +176,7 @@ pick_of slot.AddrBase picks = picks.addr_base
 pick_of slot.RnglistsBase picks = picks.rnglists_base
 pick_of slot.Passed picks = None
 
--- the value of a slot is another
+-- the picks with another value in a slot
 abbrev pub put_in : Slot → Option Value → PickFields → PickFields
 put_in slot.Low value picks = record picks { low = value }
 put_in slot.High value picks = record picks { high = value }
@@ -196,7 +196,7 @@ put_in slot.AddrBase value picks = record picks { addr_base = value }
 put_in slot.RnglistsBase value picks = record picks { rnglists_base = value }
 put_in slot.Passed value picks = picks
 
--- what a slot keeps of a value
+-- what a slot keeps of a value: nothing, if the class does not fit
 abbrev pub kept_by : Slot → Value → Option Value
 kept_by slot.Low value = as_low value
 kept_by slot.High value = as_high value
@@ -216,11 +216,11 @@ kept_by slot.AddrBase value = as_offset value
 kept_by slot.RnglistsBase value = as_offset value
 kept_by slot.Passed value = None
 
--- the attributes that are asked for (DWARF 5, table 7.5, and one of the GNU tools)
+-- the needed attributes (DWARF 5, table 7.5, and one of the GNU tools)
 abbrev pub is_asked : ℕ → Bool
 is_asked attribute = attribute == 0x11 || (attribute == 0x12 || (attribute == 0x55 || (attribute == 0x31 || (attribute == 0x47 || (attribute == 0x03 || (attribute == 0x6e || (attribute == 0x2007 || (attribute == 0x3c || (attribute == 0x58 || (attribute == 0x59 || (attribute == 0x10 || (attribute == 0x1b || (attribute == 0x72 || (attribute == 0x73 || (attribute == 0x74)))))))))))))))
 
--- the slot of an attribute
+-- the slot of each attribute; `Passed` for those that are not needed
 abbrev pub IsSlot : Slot → ℕ → Type 0
 IsSlot slot.Low attribute = attribute ≡ 0x11
 IsSlot slot.High attribute = attribute ≡ 0x12
@@ -240,7 +240,7 @@ IsSlot slot.AddrBase attribute = attribute ≡ 0x73
 IsSlot slot.RnglistsBase attribute = attribute ≡ 0x74
 IsSlot slot.Passed attribute = is_asked attribute ≡ false
 
--- what a reading of picks answers: a fault, or the picks that it left and what is ahead
+-- the result of a reading of picks: a fault, or the picks and what is left ahead
 abbrev pub left_with : {U F : Type 0} → Result U F → PickFields → Ahead → Result (PickFields × Ahead) F
 left_with (Ok done) picks c = Ok (picks, c)
 left_with (Err fault) picks c = Err fault

@@ -1,4 +1,4 @@
-//! Reading abbreviations (DWARF 5, 7.5.3).
+//! Reads abbreviations (DWARF 5, 7.5.3).
 ghost use Rattle.std.specs.Prelude.{◌≡◌, length, drop, OnOk};
 ghost use Rattle.leb_cursor.specs.Ahead.{gave};
 ghost use Rattle.abbrev_units.specs.Abbreviations.{implicit_at};
@@ -12,7 +12,7 @@ use code_table::DW_FORM_implicit_const;
 use leb_cursor::{Cursor, CursorFault};
 use sym_edges::Stop;
 
-/// Reads the constant after a form that has it there.
+/// Reads the constant after the form DW_FORM_implicit_const, and nothing after other forms.
 #[tactic(auto, unfolding(crate::specs::Abbreviations::implicit_at))]
 fn read_implicit(cursor: &mut Cursor<'_>, form: u64) -> Result<i64, CursorFault>
     ensures { gave result cursor.new ≡ implicit_at form cursor.old }
@@ -37,7 +37,7 @@ fn read_spec(cursor: &mut Cursor<'_>, forms: &FormTable) -> Result<Option<Spec>,
     Ok(Some(Spec::of(forms, attribute, form, implicit)))
 }
 
-/// Reads attributes up to the end of their list, and puts them to the end of another.
+/// Reads attributes up to the end of their list, and appends them to `specs`.
 #[tactic(auto, using(crate::proofs::ListedLemmas::none_added, crate::proofs::ListedLemmas::starts_here, crate::proofs::ListedLemmas::starts_more, crate::proofs::ListedLemmas::added_more, crate::proofs::AbbrevLemmas::specs_begin, crate::proofs::BehindLemmas::goes_on, crate::proofs::BehindLemmas::ends, crate::proofs::BehindLemmas::refuses, crate::proofs::BehindLemmas::shorter))]
 fn read_specs(
     specs: &mut Vec<Spec>,
@@ -75,7 +75,7 @@ fn read_behind(
     Ok(Some(head))
 }
 
-/// Reads an abbreviation, or the end of their list.
+/// Reads the next abbreviation, or the end of the abbreviations.
 #[tactic(auto, unfolding(crate::specs::internal::Used::used_abbrev_at, crate::specs::internal::Used::used_abbrev_by, crate::specs::Abbreviations::abbrev_at))]
 pub fn read_abbrev(
     lists: &mut Lists,

@@ -23,10 +23,10 @@ use std::collections::BTreeMap;
 use std::marker::Model;
 use sym_edges::{Located, OutOfMemory, Sect, Stop};
 
-/// Most tables have no more abbreviations.
+/// Most tables have no more than 128 abbreviations.
 const USUAL: usize = 128;
 
-/// Abbreviations, whose attributes stand in one list.
+/// Abbreviations, with their attributes in one list.
 #[derive(Drop)]
 struct AbbrevList {
     heads: Vec<Head>,
@@ -99,7 +99,7 @@ impl AbbrevList {
         }
     }
 
-    /// Gives back the room that nothing took.
+    /// Gives unused room back.
     #[tactic(auto, using(crate::proofs::ListedLemmas::held_shrunk))]
     fn shrink(&mut self)
         ensures { self.new ≡ self.old }
@@ -108,7 +108,7 @@ impl AbbrevList {
         self.lists.shrink();
     }
 
-    /// Leaves no abbreviation; the lists keep their memory.
+    /// Removes all abbreviations; the lists keep their memory.
     fn clear(&mut self)
         ensures { self.new ≡ [] }
     {
@@ -116,7 +116,7 @@ impl AbbrevList {
         self.lists.clear();
     }
 
-    /// Reads abbreviations in place of those before. A refused call leaves none.
+    /// Reads abbreviations in place of the previous ones. A call that fails leaves none.
     fn read(&mut self, cursor: &mut Cursor<'_>, forms: &FormTable) -> Result<(), Stop<CursorFault>>
         ensures read { LeavesAt result self.new cursor.new (used_at forms.now cursor.old) }
         ensures none { OnErr result (self.new ≡ []) }
@@ -132,8 +132,8 @@ impl AbbrevList {
     }
 }
 
-/// The abbreviations of a unit, which are found by their code. Producers number them 1, 2 and so on:
-/// such codes are indices; where others stand among them, a map has their numbers.
+/// The abbreviations of a unit, which are found by their code. Producers number them 1, 2 and so on, so their codes give their indices. If there are
+/// other codes, a map has the indices.
 #[derive(Drop)]
 pub struct Abbrevs {
     list: AbbrevList,
@@ -168,7 +168,7 @@ fn count_dense(list: &AbbrevList) -> usize
     count
 }
 
-/// The places of codes, those of the first abbreviations.
+/// The indices of the first abbreviation of each code.
 #[tactic(auto, using(crate::proofs::PlaceLemmas::places_none, crate::proofs::PlaceLemmas::places_more))]
 fn find_places(alloc: Global, list: &AbbrevList) -> Result<BTreeMap<u64, usize>, OutOfMemory>
     ensures { IfOk result (λ places. HasPlaces places 0 list.now) }
@@ -180,7 +180,7 @@ fn find_places(alloc: Global, list: &AbbrevList) -> Result<BTreeMap<u64, usize>,
     Ok(places)
 }
 
-/// The places of codes, where not all are dense.
+/// The same map, if not all codes are dense.
 fn places_of(
     alloc: Global,
     list: &AbbrevList,
@@ -194,7 +194,7 @@ fn places_of(
     find_places(alloc, list)
 }
 
-/// Whether a code is one of the first so many, which are dense.
+/// Whether a code is one of the dense codes, 1 to `dense`.
 #[inline]
 fn is_front(dense: usize, code: u64) -> bool
     ensures { result ≡ (nat_lt 0 code && nat_le code dense) }
@@ -220,7 +220,7 @@ impl Abbrevs {
         }
     }
 
-    /// Reads abbreviations in place of those before. A refused call leaves none.
+    /// Reads abbreviations in place of the previous ones. A call that fails leaves none.
     fn read(
         &mut self,
         alloc: Global,
@@ -241,7 +241,7 @@ impl Abbrevs {
         Ok(())
     }
 
-    /// The first abbreviation of a code. Takes no memory.
+    /// The first abbreviation of a code. Allocates no memory.
     #[inline]
     #[tactic(auto, using(crate::proofs::PlaceLemmas::found_front, crate::proofs::PlaceLemmas::found_nowhere, crate::proofs::PlaceLemmas::found_by_map, crate::proofs::PlaceLemmas::missed_by_map))]
     pub fn find(&self, code: u64) -> Option<Abbrev<'_>>
@@ -259,7 +259,7 @@ impl Abbrevs {
         }
     }
 
-    /// How many abbreviations there are.
+    /// The number of abbreviations.
     #[inline]
     pub fn len(&self) -> usize
         ensures { result ≡ length self.now }
@@ -267,7 +267,7 @@ impl Abbrevs {
         self.list.len()
     }
 
-    /// An abbreviation by its number in their order, from 0 on.
+    /// An abbreviation by its index, counted from 0.
     #[inline]
     pub fn get(&self, number: usize) -> Option<Abbrev<'_>>
         ensures { result ≡ slice_get self.now number }
@@ -276,7 +276,7 @@ impl Abbrevs {
     }
 }
 
-/// Memory in which the abbreviations of one unit after another are read.
+/// Memory that is reused for the abbreviations of one unit after another.
 #[derive(Drop)]
 pub struct AbbrevScratch {
     abbrevs: Abbrevs,
@@ -293,7 +293,7 @@ impl Model for AbbrevScratch {
 }
 
 impl AbbrevScratch {
-    /// No abbreviations yet. Takes no memory.
+    /// No abbreviations yet. Allocates no memory.
     pub fn new(alloc: Global) -> AbbrevScratch
         ensures { result ≡ [] }
     {
@@ -303,10 +303,9 @@ impl AbbrevScratch {
         }
     }
 
-    /// Reads the abbreviations of a unit (DWARF 5, 7.5.3) in place of those before, or gives the first
-    /// fault: `OffsetOutside` in `.debug_info` at the start of the unit, where their place lies after the
-    /// end of `.debug_abbrev`; and `Ends` or `LebLong` in `.debug_abbrev`. What a refused call leaves is
-    /// not said.
+    /// Reads the abbreviations of a unit (DWARF 5, 7.5.3) in place of the previous ones, or returns the first fault: `OffsetOutside` in `.debug_info`
+    /// at the start of the unit, if the place of the abbreviations is after the end of `.debug_abbrev`; or `Ends` or `LebLong` in `.debug_abbrev`.
+    /// What a call that fails leaves is not specified.
     #[tactic(auto, unfolding(crate::specs::Abbreviations::abbrevs_of))]
     pub fn read(
         &mut self,
@@ -344,7 +343,7 @@ impl AbbrevScratch {
     }
 }
 
-/// The abbreviations of a unit (DWARF 5, 7.5.3), or the first fault, as [`AbbrevScratch::read`] has it.
+/// The abbreviations of a unit (DWARF 5, 7.5.3), or the first fault, as for [`AbbrevScratch::read`].
 pub fn read_abbrevs(
     alloc: Global,
     sections: &Sections<'_>,

@@ -13,50 +13,50 @@ pub enum DwarfKind {
     /// The bytes end too early, or a length leaves its section.
     Ends,
 
-    /// A LEB128 has more than ten bytes, or its value leaves its type.
+    /// A LEB128 has more than ten bytes, or its value does not fit into its type.
     LebLong,
 
-    /// No zero byte ends a text.
+    /// A text is not terminated by a zero byte.
     NoZero,
 
-    /// The length of a unit or of a line table is one of those that the standard reserves.
+    /// The length of a unit or of a line table is a reserved value.
     Reserved,
 
-    /// The addresses of a unit have not eight bytes.
+    /// The addresses of a unit do not have eight bytes.
     AddressSize,
 
-    /// The type of a unit is none that the standard has.
+    /// The standard does not have the type of a unit.
     UnitType,
 
-    /// The form of a value is none that the standard has.
+    /// The form of a value is unknown.
     UnknownForm,
 
-    /// No abbreviation has an entry's code.
+    /// There is no abbreviation with an entry's code.
     NoAbbrev,
 
-    /// A place lies outside of the section to which it leads.
+    /// A place is outside of its section.
     OffsetOutside,
 
-    /// An index stands where its base is missing.
+    /// A value is given by index, and the base for it is missing.
     NoBase,
 
-    /// The kind of a range list's item is none that the standard has.
+    /// The standard does not have the kind of a range list's item.
     RangeKind,
 
     /// The version of a line table is not 2 to 5.
     LineVersion,
 
-    /// A field of a line table's header cannot be.
+    /// A field of a line table's header has an impossible value.
     LineHeader,
 
-    /// The length of an extended opcode cannot be.
+    /// The length of an extended opcode is impossible.
     LineOpcode,
 }
 
 impl DwarfKind {
     ghost use Rattle.abbrev_units.specs.FaultWords.{dwarf_word};
 
-    /// The kind as it is printed.
+    /// The word that is printed for the kind.
     pub fn word(self) -> &'static [u8]
         ensures { result.now ≡ dwarf_word self }
     {
@@ -82,12 +82,12 @@ impl DwarfKind {
 /// A fault of debugging information, at a place of a section.
 pub type DwarfFault = Located<DwarfKind>;
 
-/// Why a value is not read.
+/// Why a value cannot be read.
 #[derive(Clone, Copy, PartialEq, Eq, Debug)]
 pub enum FormFault {
     Cursor(CursorFault),
 
-    /// There is no such form: `at` is the place where the value would begin.
+    /// The form is unknown: `at` is the place where the value would begin.
     Unknown { at: usize },
 }
 
@@ -99,7 +99,7 @@ impl From<CursorFault> for FormFault {
     }
 }
 
-/// Why a header is refused: at the field that is cut, or, for what it says, at its start.
+/// Why a header is refused: at the field that is cut off or, for a value that is refused, at the start of the header.
 #[derive(Clone, Copy, PartialEq, Eq, Debug)]
 pub enum HeaderFault {
     Cursor(CursorFault),

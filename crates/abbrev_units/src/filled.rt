@@ -1,4 +1,4 @@
-//! Which slots have had their value: the first of an attribute counts.
+//! Which slots already have a value: of several values of one attribute the first counts.
 ghost use Rattle.std.specs.Prelude.{◌≡◌, []};
 ghost use Rattle.abbrev_units.specs.internal.Filled.{GivesSlot, fill_in, filled_by, free_in};
 
@@ -17,7 +17,7 @@ impl Filled {
         Filled { slots: [false; 16] }
     }
 
-    /// The slot where it is still free, and `Passed` where it is not; then it is filled.
+    /// Fills a slot; returns the slot if it was still free, else `Passed`.
     #[inline]
     fn fill_slot(&mut self, slot: Slot) -> Slot
         ensures free { result ≡ free_in self.old.slots slot }
@@ -30,7 +30,7 @@ impl Filled {
         slot
     }
 
-    /// The slot of an attribute where it is still free and `asked` for, and `Passed` where it is not; then it is filled.
+    /// If `asked`, fills the slot of an attribute; returns that slot if it was still free. Else returns `Passed`.
     #[inline]
     pub fn fill(&mut self, attribute: u64, asked: bool) -> Slot
         ensures { GivesSlot asked self.old.slots self.new.slots attribute result }

@@ -1,4 +1,4 @@
-//! Reading values by their form.
+//! Reads values by their form.
 ghost use Rattle.std.specs.Prelude.{◌≡◌, OnErr, pos};
 ghost use Rattle.leb_cursor.specs.Ahead.{gave};
 ghost use Rattle.code_table.specs.Forms.{forms, form_row};
@@ -9,7 +9,7 @@ use crate::value::{Value, value_of};
 use code_table::{DW_FORM_implicit_const, DW_FORM_indirect, FormRow, find_form, read_kind};
 use leb_cursor::Cursor;
 
-/// Reads a value by the row of its form. A refused call leaves the cursor where it was.
+/// Reads a value, given the row of its form. After a fault the cursor is where it was.
 #[inline]
 pub fn read_known(
     cursor: &mut Cursor<'_>,
@@ -24,7 +24,7 @@ pub fn read_known(
     Ok(value_of(row.class, implicit, operand))
 }
 
-/// Reads a form and the value after it. A refused call leaves the cursor where it was.
+/// Reads a form and the value after it. After a fault the cursor is where it was.
 #[tactic(auto, unfolding(crate::specs::FormValue::indirect_at, crate::specs::FormValue::direct_at))]
 pub fn read_indirect(cursor: &mut Cursor<'_>, wide: bool) -> Result<Value, FormFault>
     ensures read { gave result cursor.new ≡ indirect_at wide cursor.old }
@@ -40,8 +40,8 @@ pub fn read_indirect(cursor: &mut Cursor<'_>, wide: bool) -> Result<Value, FormF
     Ok(value)
 }
 
-/// Reads the value of a form (DWARF 5, 7.5.5 and 7.5.6), in a unit of the 64-bit format where `wide`.
-/// `implicit` is the constant that stands in the abbreviation. Takes no memory.
+/// Reads the value of a form (DWARF 5, 7.5.5 and 7.5.6); `wide` says whether the unit has the 64-bit format. `implicit` is the constant in the
+/// abbreviation. Allocates no memory.
 #[inline]
 #[tactic(auto, unfolding(crate::specs::FormValue::form_at, crate::specs::FormValue::direct_at))]
 pub fn read_form(

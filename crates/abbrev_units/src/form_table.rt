@@ -1,4 +1,4 @@
-//! What the rows of forms say, looked up once for all attributes.
+//! The rows of the table of forms, each looked up once for all attributes.
 ghost use Rattle.std.specs.Prelude.{◌≡◌, IfOk, IfSome};
 ghost use Rattle.std.specs.List.{slice_get};
 ghost use Rattle.std.specs.Option.{option_copied};
@@ -10,10 +10,10 @@ use std::alloc::Global;
 use std::marker::Model;
 use sym_edges::OutOfMemory;
 
-/// The codes of all but two forms of the GNU tools are below it (DWARF 5, table 7.6).
+/// All codes of forms are below this number (DWARF 5, table 7.6), except those of two forms of the GNU tools.
 const CODES: u64 = 0x30;
 
-/// The rows of the forms, in units of the 64-bit format where `wide`.
+/// The rows of the forms; `wide` says whether they are for units of the 64-bit format.
 #[derive(Drop)]
 pub struct FormTable {
     wide: bool,
@@ -31,7 +31,7 @@ impl Model for FormTable {
     ghost invariant = { λ t. AreRows t.wide t.rows.items };
 }
 
-/// The row of the form of a code, where the list has it.
+/// The row of a form, if the list has it.
 #[inline]
 fn row_at(rows: &[Option<Known>], form: u64) -> Option<Option<Known>>
     ensures { result ≡ slice_get rows.now form }
@@ -39,7 +39,7 @@ fn row_at(rows: &[Option<Known>], form: u64) -> Option<Option<Known>>
     rows.get(form as usize).copied()
 }
 
-/// The rows of the forms whose codes are low.
+/// The rows of the forms whose codes are below `CODES`.
 #[tactic(auto, using(crate::proofs::FormTableLemmas::rows_none, crate::proofs::FormTableLemmas::rows_more))]
 fn list_rows(alloc: Global, wide: bool) -> Result<Vec<Option<Known>>, OutOfMemory>
     ensures { IfOk result (λ rows. AreRows wide rows.items) }
@@ -52,7 +52,7 @@ fn list_rows(alloc: Global, wide: bool) -> Result<Vec<Option<Known>>, OutOfMemor
 }
 
 impl FormTable {
-    /// No row yet: each is looked up when it is asked for. Takes no memory.
+    /// No rows yet: each row is looked up when it is needed. Allocates no memory.
     #[tactic(auto, using(crate::proofs::FormTableLemmas::rows_none))]
     pub fn new(alloc: Global) -> FormTable {
         FormTable {
@@ -61,7 +61,7 @@ impl FormTable {
         }
     }
 
-    /// Looks the rows up for units of this format, where they are not there.
+    /// Looks up the rows for units of this format, unless they are there.
     pub fn set(&mut self, alloc: Global, wide: bool) -> Result<(), OutOfMemory>
         ensures { IfOk result (λ u. self.new ≡ wide) }
     {
@@ -74,7 +74,7 @@ impl FormTable {
         Ok(())
     }
 
-    /// Whether the rows are those of the 64-bit format.
+    /// Whether the rows are for the 64-bit format.
     #[inline]
     pub fn is_wide(&self) -> bool
         ensures { result ≡ self.now }
@@ -82,7 +82,7 @@ impl FormTable {
         self.wide
     }
 
-    /// What the row of a form says.
+    /// The layout and the class of a form, if the form is known.
     #[inline]
     pub fn known(&self, form: u64) -> Option<Known>
         ensures { row_said form result ≡ form_row form (forms self.now) }

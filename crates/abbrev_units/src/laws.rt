@@ -1,4 +1,4 @@
-//! Laws of the definitions, for proofs above. Each function does nothing: its contract is the law.
+//! Laws of the definitions, for proofs in other crates. Each function has an empty body: its contract is the law.
 ghost use Rattle.std.specs.Prelude.{◌≡◌, ℕ, ℤ, Bool, List, Ok, length};
 ghost use Rattle.std.specs.List.{AllByRecursion};
 ghost use Rattle.leb_cursor.specs.Ahead.{Ahead};
@@ -13,8 +13,7 @@ ghost use Rattle.abbrev_units.specs.UnitPlaces.{Follow, IsInside, read_units};
 ghost use Rattle.abbrev_units.specs.declared.unit.Unit.{Unit};
 ghost use Rattle.abbrev_units.specs.Abbreviations.{spec_at, abbrev_at};
 
-/// The units ahead are what stands first and the units after it, and so are attributes and
-/// abbreviations: no count of readings is part of what they are.
+/// The units ahead are the first one and then the units after it, and so for attributes and abbreviations; they do not depend on a count of readings.
 #[tactic(auto, using(crate::proofs::UnitLemmas::units_follow, crate::proofs::AbbrevLemmas::specs_follow, crate::proofs::AbbrevLemmas::abbrevs_follow))]
 pub fn lists_follow()
     ensures units { (c : Ahead) → list_at next_unit c ≡ list_cases next_unit c }
@@ -22,7 +21,7 @@ pub fn lists_follow()
     ensures abbreviations { (c : Ahead) → list_at abbrev_at c ≡ list_cases abbrev_at c }
 {}
 
-/// Readings never go after the end of the bytes.
+/// Readings never go past the end of the bytes.
 #[tactic(auto, using(crate::proofs::UnitLemmas::contents_passes, crate::proofs::FormLemmas::form_passes, crate::proofs::FormLemmas::values_pass))]
 pub fn values_pass()
     ensures contents { (c : Ahead) → Passes 4 c (contents_at c) }
@@ -30,8 +29,8 @@ pub fn values_pass()
     ensures values { (specs : List SpecFields) (c : Ahead) → Passes 0 c (values_at specs c) }
 {}
 
-/// The units of a section stand one after the other, up to its end; those that are read have their
-/// entries in the section, after their header.
+/// The units of a section follow one another without overlap, up to the end of the section. The entries of each unit that is read are in the section,
+/// after its header.
 #[tactic(auto, using(crate::proofs::UnitPlaceLemmas::units_follow, crate::proofs::UnitPlaceLemmas::units_inside))]
 pub fn units_stand_one_after_the_other()
     ensures follow { (info : List ℕ) (units : List Unit) → units_in info ≡ Ok units → Follow 0 (length info) units }

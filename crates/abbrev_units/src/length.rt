@@ -1,4 +1,4 @@
-//! The length in front of a unit or of a line table (DWARF 5, 7.2.2 and 7.4).
+//! The length at the start of a unit or of a line table (DWARF 5, 7.2.2 and 7.4).
 ghost use Rattle.std.specs.Prelude.{◌≡◌, OnErr};
 ghost use Rattle.leb_cursor.specs.Ahead.{gave};
 ghost use Rattle.abbrev_units.specs.InitialLength.{length_by, length_at, contents_at};
@@ -7,14 +7,14 @@ use crate::fault::{DwarfKind, HeaderFault};
 use leb_cursor::Cursor;
 use std::marker::Model;
 
-/// A length, and whether it tells the 64-bit format.
+/// A length, and whether the format is the 64-bit one.
 #[derive(Clone, Copy)]
 pub struct InitialLength {
     pub count: u64,
     pub wide: bool,
 }
 
-/// What stands after the length, in the 64-bit format where `wide`.
+/// What the length counts; `wide` says whether the format is the 64-bit one.
 #[derive(Drop)]
 pub struct Contents<'a> {
     pub wide: bool,
@@ -29,7 +29,7 @@ impl<'a> Model for Contents<'a> {
     ghost view = { λ c. record { wide = c.wide; ahead = c.ahead } };
 }
 
-/// Reads a length after its first four bytes.
+/// Reads a length, given its first four bytes.
 #[tactic(auto, unfolding(crate::specs::InitialLength::length_by))]
 fn read_behind(cursor: &mut Cursor<'_>, first: u32) -> Result<InitialLength, HeaderFault>
     ensures { gave result cursor.new ≡ length_by first cursor.old }
@@ -55,8 +55,8 @@ fn read_length(cursor: &mut Cursor<'_>) -> Result<InitialLength, HeaderFault>
     read_behind(cursor, first)
 }
 
-/// Reads a length, and passes what it counts. A refusal is for the start of the length: it is reserved,
-/// its own bytes are cut, or it leaves the section. A refused call leaves the cursor where it was.
+/// Reads a length, and passes what it counts. The faults are for the start of the length: it is reserved, is cut off, or leaves the section. After a
+/// fault the cursor is where it was.
 #[tactic(auto, unfolding(crate::specs::InitialLength::contents_at))]
 pub fn read_contents<'a>(cursor: &mut Cursor<'a>) -> Result<Contents<'a>, HeaderFault>
     ensures read { gave result cursor.new ≡ contents_at cursor.old }

@@ -1,18 +1,15 @@
-//! Units, abbreviations and values of debugging information (DWARF 5, 7.4 and 7.5, and their counterparts in
-//! DWARF 4), in the 32-bit and in the 64-bit format.
+//! Units, abbreviations and values of debugging information (DWARF 5, 7.4 and 7.5, and the corresponding sections of DWARF 4), in the 32-bit and in
+//! the 64-bit format.
 //!
-//! [`units`] gives the units of `.debug_info`: where each begins and ends, where its entries begin, its
-//! version, and where its abbreviations stand; or the first fault of their headers. [`read_abbrevs`] gives the
-//! abbreviations of a unit, [`AbbrevScratch::read`] reads them in the memory of those before, and
-//! [`Abbrevs::find`] gives the first of a code. [`read_form`] reads the value of a form,
-//! [`Spec::read`] that of an attribute, whose form was looked up once, [`Abbrev::skip`] passes the
-//! values of an entry, [`Abbrev::read_picks`] reads them and keeps those that are asked for, each in its slot, and
-//! [`Abbrev::read`] does the same by a short way. [`read_text`] gives the text of a value, as a slice of the file.
+//! [`units`] gives the units of `.debug_info`: where each unit, its entries and its abbreviations begin, where the unit ends, and its version; or the
+//! first fault in their headers. [`read_abbrevs`] gives the abbreviations of a unit. [`AbbrevScratch::read`] does the same and reuses the memory of
+//! the previous ones. [`Abbrevs::find`] gives the first abbreviation of a code. [`read_form`] reads the value of a form. [`Spec::read`] reads that of
+//! an attribute, whose form was looked up once. [`Abbrev::skip`] passes the values of an entry. [`Abbrev::read_picks`] reads them and keeps those
+//! that are needed, each in its slot. [`Abbrev::read`] does the same by a short way. [`read_text`] gives the text of a value, as a slice of the file.
 //!
-//! Each contract is an equation with a definition: `specs/Units.antt` has the headers field by field,
-//! `specs/Abbreviations.antt` the lists of attributes, `specs/FormValue.antt` the value of a form over the
-//! table of `code_table`, `specs/Texts.antt` the texts. A [`DwarfFault`] says what is wrong, in which section
-//! and where. Only lists take memory.
+//! Each contract is an equation with a definition: `specs/Units.antt` has the headers field by field, `specs/Abbreviations.antt` the lists of
+//! attributes, `specs/FormValue.antt` the value of a form by the table of forms in `code_table`, and `specs/Texts.antt` the texts. A [`DwarfFault`]
+//! says what is wrong, in which section and where. Only lists allocate memory.
 #![tactic(auto)]
 
 mod abbrev;

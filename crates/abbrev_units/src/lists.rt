@@ -1,4 +1,4 @@
-//! The attributes of a table's abbreviations in one list, and the takes of short ways in another.
+//! The attributes of a table's abbreviations in one list, and the takes of the short way in another.
 ghost use Rattle.std.specs.Prelude.{◌≡◌, ◌≤◌, [], length, drop, IfOk, OnOk};
 ghost use Rattle.abbrev_units.specs.KeptTags.{is_kept_tag};
 ghost use Rattle.abbrev_units.specs.internal.Listed.{IsHeld, Starts, Grown, abbrev_in};
@@ -19,15 +19,15 @@ pub struct Lists {
     pub takes: Vec<Take>,
 }
 
-/// Members of a list: those from one number to another.
+/// Members of a list, from one index to another.
 #[derive(Clone, Copy)]
 pub struct Run {
     pub from: u32,
     pub to: u32,
 }
 
-/// An abbreviation: its code, the tag of its entries, whether they have children and are kept, where its attributes and takes stand in
-/// the lists, the bytes after the last take, and whether it has takes.
+/// An abbreviation: its code, the tag of its entries, whether they have children and are kept, where its attributes and takes are in the lists, the
+/// number of bytes after the last take, and whether it has takes.
 #[derive(Clone, Copy)]
 pub struct Head {
     pub code: u64,
@@ -40,7 +40,7 @@ pub struct Head {
     pub kept: bool,
 }
 
-/// Members from one number to another, which has to be below 2^32.
+/// The members from one index to another; both indices have to be below 2^32.
 fn run_of(from: usize, to: usize) -> Result<Run, OutOfMemory>
     requires { from ≤ to }
     ensures { IfOk result (λ run. (run.from ≡ from) × (run.to ≡ to)) }
@@ -54,7 +54,7 @@ fn run_of(from: usize, to: usize) -> Result<Run, OutOfMemory>
     })
 }
 
-/// Whether entries of a tag are kept: their values are asked for.
+/// Whether entries of a tag are kept: their values are needed.
 #[inline]
 #[tactic(auto, unfolding(crate::specs::KeptTags::is_kept_tag))]
 fn is_kept_tag(tag: u64) -> bool
@@ -82,7 +82,7 @@ impl Lists {
         }
     }
 
-    /// Takes the room that most tables need, where it is not there yet.
+    /// Reserves the room that most tables need, unless it is there.
     pub fn reserve(&mut self) -> Result<(), OutOfMemory>
         ensures specs { self.new.specs.items ≡ self.old.specs.items }
         ensures takes { self.new.takes.items ≡ self.old.takes.items }
@@ -92,7 +92,7 @@ impl Lists {
         Ok(())
     }
 
-    /// Gives back the room that nothing took.
+    /// Gives unused room back.
     pub fn shrink(&mut self)
         ensures specs { self.new.specs.items ≡ self.old.specs.items }
         ensures held { Grown self.old self.new }
@@ -110,7 +110,7 @@ impl Lists {
         self.takes.clear();
     }
 
-    /// Makes an abbreviation of the attributes from a number on.
+    /// Makes an abbreviation with the attributes from an index on.
     #[tactic(auto, using(crate::proofs::ListedLemmas::abbrev_rest, crate::proofs::ListedLemmas::held_rest))]
     pub fn add(
         &mut self,

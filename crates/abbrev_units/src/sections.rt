@@ -1,8 +1,8 @@
 //! The sections of debugging information.
 use std::marker::Model;
 
-/// The bytes of `.debug_info` and of the sections to which it leads. A missing section has none. `sup_strs` is the `.debug_str` of
-/// the supplementary file (DWARF 5, 7.3.6), where that was read too; `is_sup` says that these are the sections of a supplementary file.
+/// The bytes of `.debug_info` and of the sections that it refers to; a missing section has no bytes. `sup_strs` is the `.debug_str` of the
+/// supplementary file (DWARF 5, 7.3.6), if that file was read too. `is_sup` says that these are the sections of the supplementary file itself.
 #[derive(Debug, Drop)]
 pub struct Sections<'a> {
     pub info: &'a [u8],

@@ -1,4 +1,4 @@
-//! The values of an entry that are asked for, each in a slot of its own.
+//! The values of an entry that are needed, each in a slot of its own.
 ghost use Rattle.std.specs.Prelude.{◌≡◌, ℕ, None};
 ghost use Rattle.std.specs.Option.{option_and_then};
 ghost use Rattle.abbrev_units.specs.Picks.{IsSlot, kept_by, no_picks, pick_of, put_in, value_in};
@@ -13,7 +13,7 @@ use code_table::{
 };
 use std::marker::Model;
 
-/// Where the value of an attribute is kept: `Passed` where nobody asks for it.
+/// Where the value of an attribute is kept; `Passed` for an attribute that is not needed.
 #[derive(Clone, Copy)]
 pub enum Slot {
     Low,
@@ -35,7 +35,7 @@ pub enum Slot {
     Passed,
 }
 
-/// The class of a number: `Missing` where there is none that the attribute can have.
+/// The class of a number; `Missing` if no value of a class that the attribute can have is there.
 #[derive(Clone, Copy, Debug)]
 pub enum Class {
     Missing,
@@ -54,11 +54,11 @@ pub enum Class {
     InfoRef,
     SupRefAt,
 
-    /// A text in place: the number is where it begins.
+    /// A text inside the entry: the number is the place where it begins.
     InlineText,
 }
 
-/// A number of a class. One with a sign stands modulo 2^64.
+/// A number and its class. A signed number is stored modulo 2^64.
 #[derive(Clone, Copy)]
 pub struct Pick {
     pub class: Class,
@@ -91,7 +91,7 @@ pub fn slot_of(attribute: u64) -> Slot
     }
 }
 
-/// The class that a slot keeps of numbers: the standard gives its attribute these classes (DWARF 5, 7.5.4 and table 7.5).
+/// The class, if the standard gives it to the attribute of the slot (DWARF 5, 7.5.4 and table 7.5); else `Missing`.
 pub fn kept_class(slot: Slot, class: Class) -> Class
     ensures { (n : ℕ) → value_in result n ≡ option_and_then (kept_by slot) (value_in class n) }
 {
@@ -179,7 +179,7 @@ impl Pick {
     }
 }
 
-/// What is kept of the values of an entry: for each slot a class, and a number where it is not `Missing`.
+/// What is kept of the values of an entry: for each slot a class and, unless that is `Missing`, a number.
 #[derive(Drop)]
 pub struct Picks {
     classes: [Class; 16],
@@ -223,7 +223,7 @@ impl Picks {
         }
     }
 
-    /// Leaves no pick.
+    /// Removes all picks.
     #[inline(always)]
     pub fn clear(&mut self)
         ensures { self.new ≡ no_picks }
@@ -248,7 +248,7 @@ impl Picks {
         }
     }
 
-    /// Puts a pick into a slot; none into `Passed`.
+    /// Puts a pick into a slot; nothing is put into `Passed`.
     #[inline(always)]
     pub(crate) fn put(&mut self, slot: Slot, pick: Pick)
         ensures { self.new ≡ put_in slot (value_in pick.class pick.number) self.old }

@@ -13,15 +13,14 @@ use code_table::{DW_FORM_indirect, FormClass, FormRow, Kind, find_form};
 use leb_cursor::Cursor;
 use std::marker::Model;
 
-/// What the row of a form says beside its code.
+/// What the row of a form has besides its code.
 #[derive(Clone, Copy)]
 pub struct Known {
     pub layout: Kind,
     pub class: FormClass,
 }
 
-/// An attribute and its form (DWARF 5, 7.5.3), in a unit of the 64-bit format where `wide`. The row of
-/// the form is looked up once.
+/// An attribute and its form (DWARF 5, 7.5.3); `wide` says whether the unit has the 64-bit format. The row of the form is looked up once.
 #[derive(Drop)]
 pub struct Spec {
     attribute: u64,
@@ -44,7 +43,7 @@ impl Model for Spec {
     ghost invariant = { λ s. row_said s.form s.known ≡ form_row s.form (forms s.wide) };
 }
 
-/// What is known of a form.
+/// The layout and the class of a form, if the form is known.
 #[inline]
 #[tactic(auto, using(crate::proofs::FormLemmas::row_known))]
 pub fn find_known(form: u64, wide: bool) -> Option<Known>
@@ -100,7 +99,7 @@ impl Spec {
         })
     }
 
-    /// Reads a value of the attribute. A refused call leaves the cursor where it was.
+    /// Reads a value of the attribute. After a fault the cursor is where it was.
     #[inline]
     #[tactic(auto, unfolding(crate::specs::FormValue::form_at, crate::specs::FormValue::direct_at))]
     pub fn read(&self, cursor: &mut Cursor<'_>) -> Result<Value, FormFault>
@@ -113,7 +112,7 @@ impl Spec {
         read_known(cursor, self.form_row(), self.implicit)
     }
 
-    /// The row of the form, where it is the same for each value and known.
+    /// The row of the form, if the form is known and is not DW_FORM_indirect, so that all values have this row.
     #[tactic(auto, using(crate::proofs::SizeLemmas::direct_row))]
     pub(crate) fn row(&self) -> Option<FormRow>
         ensures { IfSome result (λ row. HasRow self.now row) }

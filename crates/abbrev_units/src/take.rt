@@ -1,5 +1,5 @@
-//! A short way over the values of an entry, for speed: what it means is said by reading them by their specifications
-//! (`Abbrev::read_picks`).
+//! A short way over the values of an entry, for speed. Its result is defined by the slower way, `Abbrev::read_picks`, which reads the values by their
+//! specs.
 ghost use Rattle.std.specs.Prelude.{◌≡◌, ℕ, true, Ok, length, drop, IfSome, IfOk, OnOk};
 ghost use Rattle.abbrev_units.specs.internal.FormRows.{size_in};
 ghost use Rattle.abbrev_units.specs.internal.Listed.{Starts};
@@ -12,7 +12,7 @@ use code_table::{FormClass, FormRow, Kind, Operand, read_kind};
 use leb_cursor::Cursor;
 use sym_edges::OutOfMemory;
 
-/// So many bytes, which are passed, and then one operand: it goes to a slot. Where it has no bytes, the number is the constant.
+/// Some bytes that are skipped, and then one operand, which goes to a slot. If the operand has no bytes, its number is the constant.
 #[derive(Clone, Copy)]
 pub struct Take {
     pub constant: u64,
@@ -22,7 +22,7 @@ pub struct Take {
     pub class: Class,
 }
 
-/// The bytes of an operand, where they are as many for each.
+/// The size of an operand in bytes, if it is fixed.
 fn size_of(kind: Kind) -> Option<u8>
     ensures { result ≡ size_in kind }
 {
@@ -38,7 +38,7 @@ fn size_of(kind: Kind) -> Option<u8>
     }
 }
 
-/// Whether operands of a layout are numbers without a sign.
+/// Whether the operands of a layout are unsigned numbers.
 fn is_number(layout: Kind) -> bool
     ensures { result ≡ has_numbers layout }
 {
@@ -48,7 +48,7 @@ fn is_number(layout: Kind) -> bool
     )
 }
 
-/// The class of numbers of a form.
+/// The class of the numbers of a form.
 #[tactic(auto, unfolding(crate::specs::FormValue::value_of))]
 fn number_class(form: FormClass) -> Option<Class>
     ensures { IfSome result (λ class. MakesNumbers form class) }
@@ -71,7 +71,7 @@ fn number_class(form: FormClass) -> Option<Class>
     }
 }
 
-/// The class of the operands of a form, where it has this layout in the table of forms.
+/// The class of the operands of a form, if the form has this layout in the table of forms.
 fn class_of(form: FormClass, layout: Kind) -> Option<Class>
     ensures { IfSome result (λ class. HasClass form layout class) }
 {
@@ -91,7 +91,7 @@ fn class_of(form: FormClass, layout: Kind) -> Option<Class>
     }
 }
 
-/// The constant of an operand without bytes.
+/// The constant for an operand without bytes.
 fn constant_of(form: FormClass, implicit: i64) -> u64
     ensures { HasConstant form implicit result }
 {
@@ -117,7 +117,7 @@ fn take_of(spec: &Spec, row: FormRow, bytes: u32, slot: Slot) -> Option<Take>
     }
 }
 
-/// The bytes to pass: those in front, and those of an operand of fixed size that goes to no slot.
+/// The bytes to skip: those before an operand and the operand's own, if it has a fixed size and goes to no slot.
 fn joined(bytes: u32, slot: Slot, layout: Kind) -> Option<u32>
     ensures { IfSome result (λ sum. Joins slot layout bytes sum) }
 {
@@ -127,8 +127,8 @@ fn joined(bytes: u32, slot: Slot, layout: Kind) -> Option<u32>
     bytes.checked_add(u32::from(size_of(layout)?))
 }
 
-/// Puts the takes of attributes to the end of a list, and gives the bytes after the last; none where the form of one is not known. The first
-/// value of each attribute goes to its slot, where entries are kept; all others are passed.
+/// Appends the takes of attributes to a list, and returns the number of bytes after the last take; none if the form of an attribute is not known. If
+/// entries are kept, the first value of each attribute goes to its slot; all other values are passed.
 pub fn make_takes(
     takes: &mut Vec<Take>,
     specs: &[Spec],
@@ -157,7 +157,7 @@ pub fn make_takes(
     Ok(Some(bytes))
 }
 
-/// The number of an operand of any layout that has bytes, and the cursor behind it.
+/// The number of an operand of any layout that has bytes, and the cursor after it.
 #[inline(never)]
 fn read_any<'a>(cursor: Cursor<'a>, layout: Kind) -> Option<(Cursor<'a>, u64)>
     ensures { IfSome result (λ read. (constant : ℕ) → number_at layout constant cursor.entry ≡ Ok (read.1, read.0)) }
@@ -171,7 +171,7 @@ fn read_any<'a>(cursor: Cursor<'a>, layout: Kind) -> Option<(Cursor<'a>, u64)>
     }
 }
 
-/// The number of an operand of a layout that is rare. The cursor of a caller stays in registers.
+/// The number of an operand of a rare layout. The caller's cursor stays in registers.
 #[inline(always)]
 fn read_other(cursor: &mut Cursor<'_>, layout: Kind) -> Option<u64>
     ensures { IfSome result (λ n. (constant : ℕ) → number_at layout constant cursor.old ≡ Ok (n, cursor.new)) }
@@ -185,7 +185,7 @@ fn read_other(cursor: &mut Cursor<'_>, layout: Kind) -> Option<u64>
     }
 }
 
-/// The number of an operand: the usual layouts are read here.
+/// The number of an operand; the usual layouts are read here.
 #[inline(always)]
 #[tactic(auto, unfolding(code_table::specs::Layouts::kind_at, code_table::specs::Layouts::run_at))]
 fn read_number(cursor: &mut Cursor<'_>, layout: Kind, constant: u64) -> Option<u64>
@@ -234,7 +234,7 @@ fn read_number(cursor: &mut Cursor<'_>, layout: Kind, constant: u64) -> Option<u
     }
 }
 
-/// Goes one take. Where it fails, nothing is said.
+/// Executes one take. Nothing is promised if it fails.
 #[inline(always)]
 fn read_take(picks: &mut Picks, cursor: &mut Cursor<'_>, take: Take) -> bool
     ensures { result ≡ true → take_one take picks.old cursor.old ≡ Ok (picks.new, cursor.new) }
@@ -250,7 +250,7 @@ fn read_take(picks: &mut Picks, cursor: &mut Cursor<'_>, take: Take) -> bool
     true
 }
 
-/// Goes takes, and passes so many bytes after the last. Where it fails, nothing is said.
+/// Executes takes, and skips `tail` bytes after the last. Nothing is promised if it fails.
 #[inline(always)]
 #[tactic(auto, using(crate::proofs::TakeLemmas::takes_more, crate::proofs::TakeLemmas::takes_done))]
 pub fn read_takes(picks: &mut Picks, cursor: &mut Cursor<'_>, takes: &[Take], tail: u32) -> bool

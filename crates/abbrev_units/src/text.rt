@@ -19,7 +19,7 @@ pub fn cursor_from(bytes: &[u8], place: usize) -> Cursor<'_>
     Cursor::new(bytes, place, bytes.len())
 }
 
-/// The zero-ended text at a place of a section.
+/// The zero-terminated text at a place of a section.
 #[inline]
 #[tactic(auto, using(crate::proofs::TextLemmas::text_beyond), unfolding(crate::specs::Texts::text_in))]
 pub fn text_in(bytes: &[u8], place: u64) -> Option<&[u8]>
@@ -32,8 +32,7 @@ pub fn text_in(bytes: &[u8], place: u64) -> Option<&[u8]>
     cursor.text().ok()
 }
 
-/// Reads an offset in a section: of four bytes, or of eight in the 64-bit format (DWARF 5, 7.4). A refused
-/// call leaves the cursor where it was.
+/// Reads a section offset: four bytes, or eight in the 64-bit format (DWARF 5, 7.4). After a fault the cursor is where it was.
 #[inline]
 pub fn read_place(cursor: &mut Cursor<'_>, wide: bool) -> Result<u64, CursorFault>
     ensures read { gave result cursor.new ≡ fixed_at (place_width wide) cursor.old }
@@ -45,7 +44,7 @@ pub fn read_place(cursor: &mut Cursor<'_>, wide: bool) -> Result<u64, CursorFaul
     Ok(u64::from(cursor.u32()?))
 }
 
-/// The place in a section that stands at a place of another.
+/// The section offset that is at a place of another section.
 #[inline]
 #[tactic(auto, using(crate::proofs::TextLemmas::number_beyond), unfolding(crate::specs::Texts::number_in))]
 pub fn place_in(bytes: &[u8], place: u64, wide: bool) -> Option<u64>
@@ -58,7 +57,8 @@ pub fn place_in(bytes: &[u8], place: u64, wide: bool) -> Option<u64>
     read_place(&mut cursor, wide).ok()
 }
 
-/// The place of a text by its number, from the unit's base in `.debug_str_offsets` on (DWARF 5, 7.26); none without a base.
+/// The place of a text, given its index: `.debug_str_offsets` has the offset of each text, from the unit's base on (DWARF 5, 7.26); none without a
+/// base.
 #[inline]
 #[tactic(auto, using(crate::proofs::TextLemmas::number_beyond))]
 pub fn text_place(offsets: &[u8], wide: bool, base: Option<u64>, index: u64) -> Option<u64>
@@ -69,9 +69,9 @@ pub fn text_place(offsets: &[u8], wide: bool, base: Option<u64>, index: u64) -> 
     place_in(offsets, place, wide)
 }
 
-/// The text of a value of class string: `home` is the section in which the value stands, `wide` says
-/// whether its unit has the 64-bit format, and `base` is the unit's str_offsets_base. None where the
-/// value has another class, no zero byte ends the text, or the base is missing. Takes no memory.
+/// The text of a value of class string. `home` is the section that the value is in, `wide` says whether its unit has the 64-bit format, and `base` is
+/// the unit's str_offsets_base. None if the value has another class, the text is not terminated by a zero byte, or the base is missing. Allocates no
+/// memory.
 #[inline]
 #[tactic(auto, unfolding(crate::specs::Texts::text_of))]
 pub fn read_text<'a>(

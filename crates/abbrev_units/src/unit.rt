@@ -19,13 +19,12 @@ pub enum UnitPart {
     /// A type unit or a split unit.
     Passed,
 
-    /// A unit of another version than 4 and 5.
+    /// A unit of a version other than 4 and 5.
     Skipped,
 }
 
-/// A unit: the places in `.debug_info` of its first byte, of its entries and of its end, its version,
-/// the place of its abbreviations in `.debug_abbrev`, and whether it has the 64-bit format. `body` and
-/// `abbrev_at` are 0 where the unit is not read.
+/// A unit: where it, its entries and its end are in `.debug_info`, its version, the place of its abbreviations in `.debug_abbrev`, and whether it has
+/// the 64-bit format. `body` and `abbrev_at` are 0 if the unit is not read.
 #[derive(Clone, Copy, PartialEq, Eq, Debug)]
 pub struct Unit {
     pub start: u64,
@@ -40,7 +39,7 @@ pub struct Unit {
 /// The units of a section.
 pub type UnitList = ListOf<Unit>;
 
-/// Where a unit starts and ends, and what its header says first.
+/// Where a unit starts and ends, and the first fields of its header.
 #[derive(Clone, Copy)]
 pub struct Frame {
     pub start: u64,
@@ -49,7 +48,7 @@ pub struct Frame {
     pub wide: bool,
 }
 
-/// A unit of which no further field is read.
+/// A unit whose further fields are not read.
 fn other_unit(part: UnitPart, frame: Frame) -> Unit
     ensures { result ≡ other_unit part frame }
 {
@@ -75,7 +74,7 @@ fn read_unit(frame: Frame, abbrev_at: u64, body: usize) -> Unit
     }
 }
 
-/// Reads how many bytes an address has.
+/// Reads the size of an address.
 #[tactic(auto, unfolding(crate::specs::Units::address_size_at))]
 fn read_address_size(cursor: &mut Cursor<'_>) -> Result<(), HeaderFault>
     ensures { left_by result cursor.new ≡ address_size_at cursor.old }
@@ -133,7 +132,7 @@ fn read_behind(frame: Frame, cursor: &mut Cursor<'_>) -> Result<Unit, HeaderFaul
     }
 }
 
-/// Reads a header from what its length counts.
+/// Reads a header, given the bytes that its length counts.
 #[tactic(auto, unfolding(crate::specs::Units::unit_in))]
 fn read_header(start: usize, contents: &mut Contents<'_>) -> Result<Unit, HeaderFault>
     ensures { result ≡ unit_in start contents.old }
@@ -149,7 +148,7 @@ fn read_header(start: usize, contents: &mut Contents<'_>) -> Result<Unit, Header
     read_behind(frame, &mut contents.ahead)
 }
 
-/// Reads the header of the unit that stands ahead, and passes the unit.
+/// Reads the header of the next unit, and passes the unit.
 #[tactic(auto, unfolding(crate::specs::Units::header_at))]
 fn pass_unit(cursor: &mut Cursor<'_>) -> Result<Unit, HeaderFault>
     ensures { gave result cursor.new ≡ header_at cursor.old }
@@ -159,7 +158,7 @@ fn pass_unit(cursor: &mut Cursor<'_>) -> Result<Unit, HeaderFault>
     read_header(start, &mut contents)
 }
 
-/// Reads the next unit, where the section has not ended.
+/// Reads the next unit; none at the end of the section.
 #[tactic(auto, unfolding(crate::specs::Units::unit_at, crate::specs::Units::next_unit))]
 fn next_unit(cursor: &mut Cursor<'_>) -> Result<Option<Unit>, DwarfFault>
     ensures { gave result cursor.new ≡ next_unit cursor.old }
@@ -174,10 +173,9 @@ fn next_unit(cursor: &mut Cursor<'_>) -> Result<Option<Unit>, DwarfFault>
     }
 }
 
-/// The units of `.debug_info` in their order, or the first fault of their headers (DWARF 5, 7.5.1; DWARF
-/// 4, 7.5.1.1). A unit of another version than 4 and 5 is skipped, and a type unit or a split unit is
-/// passed. Faults are in `.debug_info`: `Ends` where a field leaves the unit, at the field, and where a
-/// length leaves the section, at the unit's start; `Reserved`, `UnitType` and `AddressSize` at its start.
+/// The units of `.debug_info` in their order, or the first fault in their headers (DWARF 5, 7.5.1; DWARF 4, 7.5.1.1). A unit of a version other than
+/// 4 and 5 is skipped; a type unit or a split unit is passed. Faults are in `.debug_info`: `Ends` at the field if a field leaves the unit, and at the
+/// unit's start if its length leaves the section; `Reserved`, `UnitType` and `AddressSize` at the unit's start.
 #[tactic(auto, unfolding(crate::specs::Units::units_in), using(crate::proofs::UnitLemmas::units_begin, crate::proofs::BehindLemmas::goes_on, crate::proofs::BehindLemmas::ends, crate::proofs::BehindLemmas::refuses, crate::proofs::BehindLemmas::shorter))]
 pub fn units(alloc: Global, info: &[u8]) -> Result<UnitList, Stop<DwarfFault>>
     ensures { Gives result (units_in info.now) }

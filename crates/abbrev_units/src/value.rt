@@ -4,8 +4,7 @@ ghost use Rattle.abbrev_units.specs.FormValue.{value_of};
 
 use code_table::{FormClass, Operand};
 
-/// What a form's bytes say. Where a run of bytes is meant, it is so many bytes from a place on of the
-/// section in which the value stands.
+/// The value that the bytes of a form stand for. A run of bytes is given by its start and its length, in the section that the value is in.
 #[derive(Clone, Copy, PartialEq, Eq, Debug)]
 pub enum Value {
     Addr(u64),
@@ -13,14 +12,14 @@ pub enum Value {
     /// A block, or an expression.
     Block { start: usize, len: usize },
 
-    /// A constant without a sign.
+    /// An unsigned constant.
     Num(u64),
 
-    /// A constant with a sign.
+    /// A signed constant.
     Signed(i64),
     Flag(bool),
 
-    /// A text in place, up to the next zero byte: where it begins.
+    /// A text inside the entry, up to the next zero byte: the place where it begins.
     InlineText(usize),
 
     /// A place in `.debug_str`.
@@ -32,13 +31,13 @@ pub enum Value {
     /// A place in the `.debug_str` of the supplementary file (DWARF 5, 7.3.6).
     SupStrAt(u64),
 
-    /// The number of a text in `.debug_str_offsets`.
+    /// The index of a text in `.debug_str_offsets`.
     StrIndex(u64),
 
-    /// The number of an address in `.debug_addr`.
+    /// The index of an address in `.debug_addr`.
     AddrIndex(u64),
 
-    /// A place counted from the start of the unit.
+    /// A place relative to the start of the unit.
     UnitRef(u64),
 
     /// A place in `.debug_info`.
@@ -47,13 +46,13 @@ pub enum Value {
     /// A place in the `.debug_info` of the supplementary file (DWARF 5, 7.3.6).
     SupRefAt(u64),
 
-    /// A place in the section that belongs to the attribute.
+    /// A place in the section that the attribute refers to.
     SecOffset(u64),
 
-    /// The number of a range list.
+    /// The index of a range list.
     ListIndex(u64),
 
-    /// What is passed over.
+    /// A value that is ignored.
     Other,
 }
 
@@ -64,7 +63,7 @@ pub struct Given {
     pub value: Value,
 }
 
-/// The value of an operand by its class; `implicit` is the constant of the abbreviation.
+/// The value of an operand, given its class; `implicit` is the constant in the abbreviation.
 #[inline]
 #[tactic(auto, unfolding(crate::specs::FormValue::value_of))]
 pub fn value_of(class: FormClass, implicit: i64, operand: Operand) -> Value

@@ -15,8 +15,7 @@ use crate::take::read_takes;
 use leb_cursor::Cursor;
 use std::marker::Model;
 
-/// An abbreviation: its code, the tag of its entries (DWARF 5, table 7.3), whether they have children,
-/// and their attributes.
+/// An abbreviation: its code, the tag of its entries (DWARF 5, table 7.3), whether they have children, and their attributes.
 #[derive(Drop)]
 pub struct Abbrev<'t> {
     lists: &'t Lists,
@@ -34,7 +33,7 @@ impl<'t> Model for Abbrev<'t> {
     ghost invariant = { λ a. IsHeld a.lists.now a.head.now };
 }
 
-/// Reads the values of attributes, and puts those that are asked for, of each attribute the first. What a refused call leaves is not said.
+/// Reads the values of attributes, and picks the needed ones, of each attribute the first. What a call that fails leaves is not specified.
 #[tactic(auto, using(crate::proofs::PickLemmas::picks_begin, crate::proofs::PickLemmas::picks_refused, crate::proofs::PickLemmas::picks_end))]
 fn pick_values(picks: &mut Picks, cursor: &mut Cursor<'_>, specs: &[Spec]) -> Result<(), FormFault>
     ensures { left_with result picks.new cursor.new ≡ picks_at specs.now cursor.old }
@@ -62,7 +61,7 @@ impl<'t> Abbrev<'t> {
         Abbrev { lists, head }
     }
 
-    /// The same abbreviation again.
+    /// A copy of the abbreviation.
     #[inline(always)]
     pub fn fork(&self) -> Abbrev<'t>
         ensures { result ≡ self.now }
@@ -109,8 +108,8 @@ impl<'t> Abbrev<'t> {
         &self.lists.specs.as_slice()[run.from as usize..run.to as usize]
     }
 
-    /// Reads the values by takes: those that are asked for are picked where the entries are kept, and all others passed; false where there
-    /// are no takes, or a value is not there. Then nothing is said of the picks, and the cursor is where it was.
+    /// Reads the values by takes: the needed ones are picked if the entries are kept, and all others are passed. Returns false if there are no takes,
+    /// or a value is not there; then nothing is promised about the picks, and the cursor is where it was.
     #[inline(always)]
     #[tactic(auto, using(crate::proofs::TakeLemmas::read_picked, crate::proofs::TakeLemmas::read_passed, crate::proofs::TakeLemmas::read_none))]
     pub fn read(&self, picks: &mut Picks, cursor: &mut Cursor<'_>) -> bool
@@ -133,15 +132,14 @@ impl<'t> Abbrev<'t> {
         true
     }
 
-    /// Reads the values by their specifications, and picks those that are asked for, of each attribute the first. What a refused call
-    /// leaves is not said.
+    /// Reads the values by their specs, and picks the needed ones, of each attribute the first. What a call that fails leaves is not specified.
     pub fn read_picks(&self, picks: &mut Picks, cursor: &mut Cursor<'_>) -> Result<(), FormFault>
         ensures { left_with result picks.new cursor.new ≡ picks_at self.now.specs cursor.old }
     {
         pick_values(picks, cursor, self.specs())
     }
 
-    /// Passes the values of the attributes, one after the other. A refused call leaves the cursor where it was.
+    /// Passes the values of the attributes, one after another. After a fault the cursor is where it was.
     #[inline(never)]
     #[tactic(auto, using(crate::proofs::PickLemmas::picks_passed, crate::proofs::PickLemmas::picks_faulty))]
     pub fn skip(&self, cursor: &mut Cursor<'_>) -> Result<(), FormFault>

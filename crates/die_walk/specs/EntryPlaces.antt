@@ -1,12 +1,12 @@
--- Where entries stand in their unit (DWARF 5, 7.5.2): one after the other.
+-- Where entries are in their unit (DWARF 5, 7.5.2): one after another.
 use Rattle.std.specs.Prelude.{ℕ, ◌+◌, ◌≤◌, List, [], ◌∷◌, map}
 use Rattle.die_walk.specs.EntryTable.{DieFields, EntryTable}
 
--- numbers that rise from a lowest one, up to a highest
+-- strictly ascending numbers, from `low` to `high` at most
 abbrev pub RisesTo : ℕ → ℕ → List ℕ → Type 0
 RisesTo low high [] = Prim.Unit {0}
 RisesTo low high (x ∷ xs) = (low ≤ x) × (x ≤ high) × RisesTo (x + 1) high xs
 
--- the offsets of the kept entries
+-- the places of the kept entries
 abbrev pub table_places : EntryTable → List ℕ
 table_places table = map (λ (d : DieFields). d.at) table.dies

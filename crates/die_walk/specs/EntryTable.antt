@@ -13,8 +13,8 @@ use Rattle.die_walk.specs.Marks.{Mark, marks_at}
 use Rattle.die_walk.specs.EntryTree.{Item, Kept, items_from, kept_from, rooted}
 use Rattle.abbrev_units.specs.Attributes.{first_of, picked, as_low, as_high, as_ranges, as_place, as_reference, as_flag, as_number, is_elsewhere, is_yes, line_of, or_else, text_in_entry}
 
--- a kept entry: `at` is its place, counted through both files; `parent` is the number of its nearest kept ancestor; `name_elsewhere` says that
--- its name stands in a supplementary file that was not read
+-- a kept entry. `at` is its place, counted through both files; `parent` is the index of its nearest kept ancestor; `name_elsewhere` says that its
+-- name is in a supplementary file that was not read
 pub record DieFields : Type 0 where
   pub at : ℕ
   pub tag : ℕ
@@ -31,7 +31,7 @@ pub record DieFields : Type 0 where
   pub call_file : Option ℕ
   pub call_line : ℕ
 
--- what the root says of the whole unit
+-- the attributes of the root, which hold for the whole unit
 pub record RootFields : Type 0 where
   pub at : ℕ
   pub low : Option Value
@@ -49,11 +49,11 @@ pub record EntryTable : Type 0 where
 abbrev pub base_of : List Given → Option ℕ
 base_of values = picked as_place 0x72 values
 
--- DW_AT_linkage_name, or else DW_AT_MIPS_linkage_name
+-- DW_AT_linkage_name or, without it, DW_AT_MIPS_linkage_name
 abbrev pub linkage_of : DebugSections → Unit → Option ℕ → List Given → Option (List ℕ)
 linkage_of sections unit base values = or_else (text_in_entry sections unit base 0x6e values) (text_in_entry sections unit base 0x2007 values)
 
--- the attributes of a kept entry, by their names DW_AT_ in the comments
+-- the attributes of a kept entry and of the root; the comments name each attribute without DW_AT_
 unfoldable pub die_of : DebugSections → Unit → Option ℕ → Kept → DieFields
 die_of sections unit base kept = record {
   at = first_place sections.is_sup + kept.item.at;
@@ -83,7 +83,7 @@ root_of sections unit item = record {
   rnglists_base = picked as_place 0x74 item.values;  -- rnglists_base
 }
 
--- the table of a unit's entries, of which the first is the root
+-- the table of a unit's entries; the first entry is the root
 abbrev pub table_by : DebugSections → Unit → List Item → EntryTable
 table_by sections unit [] = record { root = root_of sections unit (record { at = 0; depth = 0; tag = 0; values = [] }); dies = [] }
 table_by sections unit (first ∷ items) = record {
@@ -94,10 +94,10 @@ table_by sections unit (first ∷ items) = record {
 unfoldable pub table_of : DebugSections → Unit → List Mark → EntryTable
 table_of sections unit marks = table_by sections unit (rooted unit.body (items_from 0 marks))
 
--- the entries of a unit begin after its header, and end with it
+-- the bytes of a unit's entries: they begin after its header, and end where the unit ends
 abbrev pub entries_ahead : DebugSections → Unit → Ahead
 entries_ahead sections unit = record { bytes = drop unit.body (take unit.end sections.info); at = unit.body }
 
--- the table of a unit, or the first fault of its entries
+-- the table of a unit, or the first fault in its entries
 unfoldable pub entry_table : DebugSections → Unit → List Abbrev → Result EntryTable (Located DwarfKind)
 entry_table sections unit abbrevs = marks_at abbrevs (entries_ahead sections unit) >>= λ marks. Ok (table_of sections unit marks)

@@ -1,4 +1,4 @@
--- What stands in a unit after its header (DWARF 5, 7.5.2): entries, and zeros that end a list of children.
+-- What a unit has after its header (DWARF 5, 7.5.2): entries, and zeros that end a list of children.
 use Rattle.std.specs.Prelude.{ℕ, ◌==◌, Bool, if◌then◌else◌, List, length, Option, None, Some, Result, Ok, Err}
 use Rattle.sym_edges.specs.Results.{◌>>=◌}
 use Rattle.sym_edges.specs.declared.located.Located.{Located}
@@ -16,7 +16,7 @@ use Rattle.abbrev_units.specs.Abbreviations.{abbrev_of}
 use Rattle.abbrev_units.specs.declared.value.Given.{Given}
 use Rattle.abbrev_units.specs.Values.{values_at}
 
--- the fault of a value of an entry
+-- the fault of a value of an entry, with its section and place
 unfoldable pub value_fault : FormFault → Located DwarfKind
 value_fault (form.Cursor fault) = in_section Info fault
 value_fault (form.Unknown at) = record { kind = is.UnknownForm; section = Info; at = at }
@@ -32,27 +32,27 @@ read_values_at specs c = in_entry (values_at specs c)
 pub data Mark : Type 0 where
   -- the end of a list of children; at the outermost level it is padding
   Close : Mark
-  -- an entry: its place, its tag, whether children follow, and its values
+  -- an entry: its place, its tag, whether it has children, and its values
   Entry : (at tag : ℕ) (children : Bool) (values : List Given) → Mark
 
--- an entry by the abbreviation of its code: a code without one is a fault at the entry
+-- an entry, given the abbreviation of its code; a code without an abbreviation is a fault at the entry
 abbrev pub entry_by : Option Abbrev → ℕ → Ahead → Result (Mark × Ahead) (Located DwarfKind)
 entry_by None at c = Err (record { kind = is.NoAbbrev; section = Info; at = at })
 entry_by (Some found) at c =
     read_values_at found.specs c >>= λ values. Ok (Entry at found.tag found.children values.0, values.1)
 
--- what a code stands in front of
+-- the mark that begins with a code: code 0 ends a list of children
 unfoldable pub mark_by : List Abbrev → ℕ → ℕ → Ahead → Result (Mark × Ahead) (Located DwarfKind)
 mark_by abbrevs at code c = if code == 0 then Ok (Close, c) else entry_by (abbrev_of code abbrevs) at c
 
--- what stands ahead: its code comes first
+-- the next mark: its code comes first
 unfoldable pub mark_at : List Abbrev → Ahead → Result (Mark × Ahead) (Located DwarfKind)
 mark_at abbrevs c = read_in Info (uleb_at c) >>= λ code. mark_by abbrevs c.at code.0 code.1
 
--- the same, where the unit has not ended
+-- the next mark; none at the end of the unit
 unfoldable pub next_mark : List Abbrev → Ahead → Result (Option Mark × Ahead) (Located DwarfKind)
 next_mark abbrevs c = if length c.bytes == 0 then Ok (None, c) else (mark_at abbrevs c >>= λ mark. Ok (Some mark.0, mark.1))
 
--- all that stands ahead up to the end of the unit, or the first fault
+-- all marks up to the end of the unit, or the first fault
 unfoldable pub marks_at : List Abbrev → Ahead → Result (List Mark) (Located DwarfKind)
 marks_at abbrevs c = list_at (next_mark abbrevs) c >>= λ marks. Ok marks.0

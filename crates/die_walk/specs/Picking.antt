@@ -1,4 +1,4 @@
--- No public clause cites this: a kept entry and a root from what is kept of its values.
+-- Kept entries and roots, from picks. No public clause cites this module.
 use Rattle.std.specs.Prelude.{ℕ, if◌then◌else◌, List, Option, None, option_and_then}
 use Rattle.abbrev_units.specs.declared.value.Value.{Value}
 use Rattle.abbrev_units.specs.declared.unit.Unit.{Unit}
@@ -7,7 +7,7 @@ use Rattle.abbrev_units.specs.Picks.{PickFields}
 use Rattle.abbrev_units.specs.Attributes.{entry_text, as_place, as_reference, as_flag, as_number, is_elsewhere, is_yes, line_of, or_else}
 use Rattle.die_walk.specs.EntryTable.{DieFields, RootFields}
 
--- the text of a value
+-- the text of a value, or none
 abbrev pub text_by : DebugSections → Unit → Option ℕ → Option Value → Option (List ℕ)
 text_by sections unit base value = option_and_then (entry_text sections unit base) value
 

@@ -14,8 +14,8 @@ use code_table::{
 };
 use std::marker::Model;
 
-/// A kept entry with the attributes that matter here (DWARF 5, 7.5.4): absent where they are not given,
-/// have another class, or lead to no text. Each call says one of them.
+/// A kept entry with the attributes that matter here (DWARF 5, 7.5.4). An attribute is absent if it is not given, has a value of another class, or
+/// leads to no text. Each call returns one attribute.
 #[derive(Drop)]
 pub struct Die<'t, 'a> {
     parts: &'t DieParts<'a>,
@@ -31,7 +31,7 @@ impl<'t, 'a> Model for Die<'t, 'a> {
     ghost view = { λ d. held_in d.parts.now.texts d.parts.now.sites.items d.parts.now.wides.items d.head.now };
 }
 
-/// The bytes from a place on, as far as they are there.
+/// The bytes from a place on; none after the end.
 #[inline]
 #[tactic(auto, using(crate::proofs::HeadLemmas::drop_past))]
 fn bytes_from(bytes: &[u8], place: usize) -> &[u8]
@@ -43,7 +43,7 @@ fn bytes_from(bytes: &[u8], place: usize) -> &[u8]
     bytes.split_at(place).1
 }
 
-/// The text at a place, which has an end.
+/// The text at a place: up to the next zero byte or, without one, up to the end of the section.
 #[inline]
 #[tactic(auto, using(crate::proofs::HeldLemmas::front_of))]
 fn text_from(bytes: &[u8], place: u32) -> &[u8]
@@ -53,7 +53,7 @@ fn text_from(bytes: &[u8], place: u32) -> &[u8]
     text_in(rest, 0).unwrap_or(rest)
 }
 
-/// A text by where it stands.
+/// A text, given its section and its place there.
 #[inline]
 fn text_at_home<'a>(texts: &Texts<'a>, home: Home, place: u32) -> Option<&'a [u8]>
     ensures { option_copied result ≡ text_at_home texts.now home place }
@@ -67,7 +67,7 @@ fn text_at_home<'a>(texts: &Texts<'a>, home: Home, place: u32) -> Option<&'a [u8
     }
 }
 
-/// Whether a text stands there.
+/// Whether there is a text.
 #[inline(always)]
 fn is_text_home(home: Home) -> bool
     ensures { (texts : Homes) (place : ℕ) → result ≡ is_some (text_at_home texts home place) }
@@ -75,7 +75,7 @@ fn is_text_home(home: Home) -> bool
     !matches!(home, Home::Missing | Home::Elsewhere)
 }
 
-/// The target of a head, where it is of this kind.
+/// The target of a head, if it is of this kind.
 #[inline(always)]
 fn target_of(head: &Head, link: u8) -> Option<u32>
     ensures { result ≡ where_said (link_of head.now == link) head.now.target }
@@ -83,7 +83,7 @@ fn target_of(head: &Head, link: u8) -> Option<u32>
     (head.link() == link).then_some(head.target)
 }
 
-/// The value of a class and a number.
+/// The value that a class and a number stand for.
 #[inline(always)]
 fn value_of(class: Class, number: u64) -> Option<Value>
     ensures { result ≡ value_in class number }
@@ -99,7 +99,7 @@ impl<'t, 'a> Die<'t, 'a> {
         Die { parts, head }
     }
 
-    /// The place of the entry in `.debug_info`, counted through both files: those of the supplementary file (DWARF 5, 7.3.6) come from 2^29 on.
+    /// The place of the entry in `.debug_info`, counted through both files: places of the supplementary file (DWARF 5, 7.3.6) begin at 2^29.
     #[inline]
     pub fn at(&self) -> u32
         ensures { result ≡ self.now.at }
@@ -107,7 +107,7 @@ impl<'t, 'a> Die<'t, 'a> {
         self.head.at
     }
 
-    /// DWARF 5, table 7.3.
+    /// The tag (DWARF 5, table 7.3).
     #[inline]
     pub fn tag(&self) -> u64
         ensures { result ≡ self.now.tag }
@@ -136,7 +136,7 @@ impl<'t, 'a> Die<'t, 'a> {
         self.tag() == DW_TAG_inlined_subroutine
     }
 
-    /// Whether it is a class, a structure, a union or a namespace, whose name stands in front of other names.
+    /// Whether it is a class, a structure, a union or a namespace, whose name is a prefix of the names in it.
     #[inline]
     #[tactic(auto, unfolding(crate::specs::EntryKinds::is_scope))]
     pub fn is_scope(&self) -> bool
@@ -148,7 +148,7 @@ impl<'t, 'a> Die<'t, 'a> {
         )
     }
 
-    /// The number of the nearest ancestor that is kept.
+    /// The index of the nearest kept ancestor.
     #[inline]
     pub fn parent(&self) -> Option<u32>
         ensures { result ≡ self.now.parent }
@@ -163,7 +163,7 @@ impl<'t, 'a> Die<'t, 'a> {
         self.head.is_declaration()
     }
 
-    /// An address, or the number of one.
+    /// DW_AT_low_pc: an address, or the index of one.
     pub fn low(&self) -> Option<Value>
         ensures { result ≡ self.now.low }
     {
@@ -174,7 +174,7 @@ impl<'t, 'a> Die<'t, 'a> {
         value_of(site.low_class, site.low)
     }
 
-    /// An address, the number of one, or a length.
+    /// DW_AT_high_pc: an address, the index of one, or a length.
     pub fn high(&self) -> Option<Value>
         ensures { result ≡ self.now.high }
     {
@@ -185,7 +185,7 @@ impl<'t, 'a> Die<'t, 'a> {
         value_of(site.high_class, u64::from(site.more))
     }
 
-    /// The place or the number of a range list.
+    /// DW_AT_ranges: the place or the index of a range list.
     pub fn ranges(&self) -> Option<Value>
         ensures { result ≡ self.now.ranges }
     {
@@ -196,7 +196,7 @@ impl<'t, 'a> Die<'t, 'a> {
         value_of(site.ranges_class, u64::from(site.more))
     }
 
-    /// The place in `.debug_info` of the abstract entry, counted through both files: 2^31 where it leaves its file.
+    /// The place of the abstract entry in `.debug_info`, counted through both files; 2^31 if the reference leaves its file.
     #[inline]
     pub fn origin(&self) -> Option<u32>
         ensures { result ≡ self.now.origin }
@@ -207,7 +207,7 @@ impl<'t, 'a> Die<'t, 'a> {
         }
     }
 
-    /// The place of the declaration, in the same way.
+    /// The place of the declaration, counted in the same way.
     #[inline]
     pub fn spec(&self) -> Option<u32>
         ensures { result ≡ self.now.spec }
@@ -232,7 +232,7 @@ impl<'t, 'a> Die<'t, 'a> {
         text_at_home(&self.parts.texts, self.head.name_in, self.head.name)
     }
 
-    /// Whether the name stands in a supplementary file (DWARF 5, 7.3.6) that was not read.
+    /// Whether the name is in a supplementary file (DWARF 5, 7.3.6) that was not read.
     #[inline]
     pub fn is_named_elsewhere(&self) -> bool
         ensures { result ≡ self.now.name_elsewhere }

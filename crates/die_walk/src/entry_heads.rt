@@ -1,4 +1,4 @@
-//! Heads and sites from the values that were picked.
+//! Heads and sites, made from picks.
 ghost use Rattle.std.specs.Prelude.{◌≡◌, ◌≤◌, ◌<◌, ◌^◌, ◌++◌, ◌∷◌, [], ℕ, List, Option, None, true, false, IfOk, IfSome, OnOk, is_none, is_some, length, option_and_then};
 ghost use Rattle.abbrev_units.specs.DebugSections.{first_place, place_in};
 ghost use Rattle.abbrev_units.specs.Attributes.{as_reference, as_flag, as_number, is_elsewhere, is_yes, line_of, or_else};
@@ -13,7 +13,7 @@ use crate::root::Root;
 use abbrev_units::{Class, Pick, Picks, Sections, Slot, Unit, text_in, text_place};
 use sym_edges::{FILE_LIMIT, OutOfMemory};
 
-/// Where a text stands: the section, and the place in it.
+/// Where a text is: its section, and its place there.
 #[derive(Clone, Copy)]
 pub struct Named {
     pub home: Home,
@@ -25,21 +25,21 @@ const NO_NAME: Named = Named {
     place: 0,
 };
 
-/// Where the names of an entry stand.
+/// Where the names of an entry are.
 #[derive(Clone, Copy)]
 pub struct Names {
     pub name: Named,
     pub linkage: Named,
 }
 
-/// The places to which an entry leads, counted through both files.
+/// The places to which an entry refers, counted through both files.
 #[derive(Clone, Copy)]
 pub struct Links {
     pub origin: Option<u32>,
     pub spec: Option<u32>,
 }
 
-/// What of them fits into a head: 0 nothing, `ORIGIN` or `SPECIFICATION`, and the place.
+/// The one of these links that fits into a head: its kind, which is 0 for none, `ORIGIN` or `SPECIFICATION`, and its place.
 #[derive(Clone, Copy)]
 pub struct Target {
     pub link: u8,
@@ -59,7 +59,7 @@ fn is_closed(bytes: &[u8]) -> bool
     }
 }
 
-/// Whether a text stands at a place of a section. It stands alone, since nearly all sections end with a zero byte.
+/// Whether there is a terminated text at a place of a section. This is a function of its own, since nearly all sections end with a zero byte.
 #[inline(never)]
 fn is_text(bytes: &[u8], place: u64) -> bool
     ensures { result ≡ is_some (text_in bytes.now place) }
@@ -67,7 +67,7 @@ fn is_text(bytes: &[u8], place: u64) -> bool
     text_in(bytes, place).is_some()
 }
 
-/// The place of a text in a section, where a text stands there: in a section that ends with a zero byte, each has an end.
+/// The place of a text in a section, if there is a terminated text. In a section that ends with a zero byte each text is terminated.
 #[inline(always)]
 #[tactic(auto, using(crate::proofs::HeldLemmas::open_text, crate::proofs::HeldLemmas::past_text, crate::proofs::HeldLemmas::here_text, crate::proofs::HeldLemmas::no_text))]
 fn place_in(bytes: &[u8], place: u64) -> Option<u32>
@@ -83,7 +83,7 @@ fn place_in(bytes: &[u8], place: u64) -> Option<u32>
     None
 }
 
-/// The same by a number in `.debug_str_offsets`.
+/// The same for a text given by its index in `.debug_str_offsets`.
 #[inline(never)]
 fn place_by_index(
     sections: &Sections<'_>,
@@ -98,7 +98,7 @@ fn place_by_index(
     place_in(sections.strs, place)
 }
 
-/// Where a text of a section stands.
+/// Where a text of a section is.
 #[inline(always)]
 fn at_home(home: Home, place: Option<u32>) -> Named
     requires { is_text_home home ≡ true }
@@ -111,7 +111,7 @@ fn at_home(home: Home, place: Option<u32>) -> Named
     }
 }
 
-/// Where a text of the supplementary file stands.
+/// Where a text of the supplementary file is.
 #[inline(never)]
 fn sup_home(sections: &Sections<'_>, place: u64) -> Named
     requires { AreSmall (homes_of sections.now) }
@@ -127,7 +127,7 @@ fn sup_home(sections: &Sections<'_>, place: u64) -> Named
     }
 }
 
-/// Where the text of a pick stands; `base` is the unit's str_offsets_base.
+/// Where the text of a pick is; `base` is the unit's str_offsets_base.
 #[inline(always)]
 #[tactic(auto, unfolding(abbrev_units::specs::Texts::text_of))]
 fn text_home(sections: &Sections<'_>, unit: &Unit, base: Option<u64>, pick: Pick) -> Named
@@ -148,7 +148,7 @@ fn text_home(sections: &Sections<'_>, unit: &Unit, base: Option<u64>, pick: Pick
     }
 }
 
-/// One name, or else another where none stands there.
+/// One name or, if there is none, another.
 #[inline(always)]
 fn either(first: Named, second: Named) -> Named
     ensures { (texts : Homes) → text_at_home texts result.home result.place ≡ or_else (text_at_home texts first.home first.place) (text_at_home texts second.home second.place) }
@@ -159,7 +159,7 @@ fn either(first: Named, second: Named) -> Named
     }
 }
 
-/// Where the names of an entry stand, the linkage name also by the attribute that it had before the standard had one.
+/// Where the names of an entry are. The linkage name may also be given by the attribute that was used before the standard had one.
 #[inline(always)]
 fn names_of(sections: &Sections<'_>, unit: &Unit, base: Option<u64>, picks: &Picks) -> Names
     requires { AreSmall (homes_of sections.now) }
@@ -176,7 +176,7 @@ fn names_of(sections: &Sections<'_>, unit: &Unit, base: Option<u64>, picks: &Pic
     }
 }
 
-/// The places of the supplementary file come behind those of a file.
+/// The places of the supplementary file come after those of a file.
 pub const FIRST_OF_SUP: u32 = FILE_LIMIT as u32;
 
 /// The first place of `.debug_info`, counted through both files.
@@ -187,7 +187,7 @@ pub fn first_place(is_sup: bool) -> u32
     if is_sup { FIRST_OF_SUP } else { 0 }
 }
 
-/// A place of `.debug_info`, counted through both files: one that leaves its file is that of no entry.
+/// A place of `.debug_info`, counted through both files; a place outside of its file becomes that of no entry.
 #[inline(always)]
 #[tactic(auto, unfolding(abbrev_units::specs::DebugSections::place_in))]
 fn count_place(is_sup: bool, place: u64) -> u32
@@ -215,7 +215,7 @@ fn place_of(sections: &Sections<'_>, unit: &Unit, pick: Pick) -> Option<u32>
     }
 }
 
-/// The places to which an entry leads.
+/// The places to which an entry refers.
 #[inline(always)]
 fn links_of(sections: &Sections<'_>, unit: &Unit, picks: &Picks) -> Links
     ensures origin { result.origin ≡ option_and_then (as_reference sections.now unit.now) picks.now.origin }
@@ -227,7 +227,7 @@ fn links_of(sections: &Sections<'_>, unit: &Unit, picks: &Picks) -> Links
     }
 }
 
-/// The target of an entry, where it has one at most.
+/// The target of an entry, if it has at most one.
 #[inline(always)]
 fn fit_links(links: Links) -> Option<Target>
     ensures target { IfSome result (λ target. IsTarget target.link target.place links) }
@@ -247,7 +247,7 @@ fn fit_links(links: Links) -> Option<Target>
     }
 }
 
-/// Whether a pick says yes.
+/// Whether a pick is a flag that is true.
 #[inline(always)]
 fn says_yes(pick: Pick) -> bool
     ensures { result ≡ is_yes (option_and_then as_flag (value_in pick.class pick.number)) }
@@ -299,7 +299,7 @@ fn has_no_site(picks: &Picks) -> bool
         && is_missing(picks.pick(Slot::CallLine))
 }
 
-/// The classes of the high address and of the ranges, and the number of the one that is there: both together do not fit.
+/// The classes of the high address and of the ranges, and the number of the one that is there: a site has no room for both numbers.
 #[derive(Clone, Copy)]
 struct More {
     high: Class,
@@ -307,7 +307,7 @@ struct More {
     number: u32,
 }
 
-/// A high address or ranges that fit into four bytes.
+/// The high address or the ranges, if the number fits into four bytes.
 #[inline(always)]
 fn fit_more(high: Pick, ranges: Pick) -> Option<More>
     ensures { IfSome result (λ more. (value_in more.high more.number ≡ value_in high.class high.number) × (value_in more.ranges more.number ≡ value_in ranges.class ranges.number)) }
@@ -328,7 +328,7 @@ fn fit_more(high: Pick, ranges: Pick) -> Option<More>
     })
 }
 
-/// The site of an entry, where it fits into one.
+/// The site of an entry, if it fits into one.
 #[inline(always)]
 fn fit_site(picks: &Picks) -> Option<Site>
     ensures { IfSome result (λ site. site ≡ site_by picks.now) }
@@ -354,7 +354,7 @@ fn fit_site(picks: &Picks) -> Option<Site>
     })
 }
 
-/// What an entry says, whatever it may be.
+/// The wide entry of any entry.
 fn make_wide(tag: u64, links: Links, picks: &Picks) -> Wide
     ensures { result ≡ record { tag = tag; origin = links.origin; spec = links.spec; site = site_by picks.now } }
 {
@@ -370,14 +370,14 @@ fn make_wide(tag: u64, links: Links, picks: &Picks) -> Wide
     }
 }
 
-/// Where an entry stands, counted through both files, and the number of the kept entry around it.
+/// The place of an entry, counted through both files, and the index of the nearest kept entry around it.
 #[derive(Clone, Copy)]
 pub struct Frame {
     pub at: u32,
     pub parent: Option<u32>,
 }
 
-/// What an entry says beside its tag, its addresses and its call.
+/// What an entry has besides its tag, its addresses and its call.
 #[derive(Clone, Copy)]
 pub struct Parts {
     pub frame: Frame,
@@ -386,7 +386,7 @@ pub struct Parts {
     pub links: Links,
 }
 
-/// The parts of an entry by what was picked.
+/// The parts of an entry, given its picks.
 #[inline(always)]
 pub fn parts_of(
     sections: &Sections<'_>,
@@ -407,7 +407,7 @@ pub fn parts_of(
     }
 }
 
-/// A head of this tag and target, without a site.
+/// A head with this tag and target, without a site.
 #[inline(always)]
 fn head_of(parts: Parts, tag: u8, target: Target) -> Head
     requires { target.link < 3 }
@@ -430,7 +430,7 @@ fn head_of(parts: Parts, tag: u8, target: Target) -> Head
     }
 }
 
-/// The head of an entry, where its tag and its target fit into one.
+/// The head of an entry, if its tag and its target fit into one.
 #[inline(always)]
 fn fit_head(parts: Parts, tag: u64) -> Option<Head>
     ensures { IfSome result (λ head. IsWhole head parts tag) }
@@ -444,7 +444,7 @@ fn fit_head(parts: Parts, tag: u64) -> Option<Head>
     }
 }
 
-/// Adds an entry by its head; false where its addresses and its call do not fit into a site, and nothing is added.
+/// Adds an entry, given its head. Returns false and adds nothing if its addresses and its call do not fit into a site.
 #[inline(always)]
 fn push_site(list: &mut EntryList<'_>, head: Head, picks: &Picks) -> Result<bool, OutOfMemory>
     requires { head.flags < 16 }
@@ -463,7 +463,7 @@ fn push_site(list: &mut EntryList<'_>, head: Head, picks: &Picks) -> Result<bool
     Ok(true)
 }
 
-/// Adds an entry that fits into a head and a site; false where it does not, and nothing is added.
+/// Adds an entry that fits into a head and a site. Returns false and adds nothing if it does not fit.
 #[inline(always)]
 #[tactic(auto, using(crate::proofs::HeadLemmas::fit_is))]
 pub fn push_fit(
@@ -482,7 +482,7 @@ pub fn push_fit(
     }
 }
 
-/// Adds an entry whatever it may be.
+/// Adds any entry, also one that does not fit into a head and a site.
 #[tactic(auto, using(crate::proofs::HeadLemmas::broad_is))]
 pub fn push_wide(
     list: &mut EntryList<'_>,

@@ -1,4 +1,4 @@
-//! Kept entries: a head of 28 bytes each, and where an entry has more a site.
+//! Kept entries: each has a head of 28 bytes and, if there is more, a site.
 ghost use Rattle.std.specs.Prelude.{◌≡◌, if◌then◌else◌, ◌<◌, ◌/◌, ◌%◌, ◌++◌, ◌==◌, ◌∷◌, [], length, map, IfOk, OnOk};
 ghost use Rattle.std.specs.List.{slice_get};
 ghost use Rattle.std.specs.Option.{option_copied};
@@ -12,8 +12,7 @@ use std::alloc::Global;
 use std::marker::Model;
 use sym_edges::OutOfMemory;
 
-/// Where a text stands: in a section of this file or of the supplementary one (DWARF 5, 7.3.6), in a supplementary file that was not
-/// read, or nowhere.
+/// Where a text is: in a section of this file or of the supplementary file (DWARF 5, 7.3.6), in a supplementary file that was not read, or nowhere.
 #[derive(Clone, Copy)]
 pub enum Home {
     Missing,
@@ -24,8 +23,9 @@ pub enum Home {
     Elsewhere,
 }
 
-/// The head of an entry: `name` and `linkage` are places of texts, `target` is its origin or its declaration, `number` is that of its site.
-/// The four parts of `flags` say whether it has a parent and is a declaration, what its target is, and where its site is. It takes 28 bytes.
+/// The head of an entry. `name` and `linkage` are places of texts, `target` is the origin or the declaration, and `number` is the index of the site
+/// or of the wide entry. The four parts of `flags` say whether there is a parent, whether it is a declaration, what the target is, and where the rest
+/// is. A head takes 28 bytes.
 #[derive(Clone, Copy)]
 pub struct Head {
     pub at: u32,
@@ -50,7 +50,7 @@ const SITE: u8 = 1;
 
 const WIDE: u8 = 2;
 
-/// 1 where something is so.
+/// 1 if the condition holds, else 0.
 #[inline(always)]
 fn bit(so: bool) -> u8
     ensures { result ≡ if so then 1 else 0 }
@@ -100,7 +100,7 @@ impl Head {
         self.flags / 16
     }
 
-    /// The same head with a rest of this number.
+    /// The head with a rest, whose index is given.
     #[inline(always)]
     fn with_rest(self, rest: u8, number: u32) -> Head
         requires flags { self.flags < 16 }
@@ -115,7 +115,7 @@ impl Head {
     }
 }
 
-/// The low address of an entry, its high address or else its ranges in `more`, and where it is called. It takes 24 bytes.
+/// The low address of an entry, its high address or its ranges in `more`, and where it is called. It takes 24 bytes.
 #[derive(Drop)]
 pub struct Site {
     pub low: u64,
@@ -153,7 +153,7 @@ impl Site {
     }
 }
 
-/// What an entry says that does not fit into a head and a site, with all that a site says.
+/// An entry that does not fit into a head and a site: the tag, both links, and all that a site has.
 #[derive(Drop)]
 pub struct Wide {
     pub tag: u64,
@@ -203,7 +203,7 @@ impl<'a> Model for Texts<'a> {
     ghost view = { λ t. record { info = t.info.now; strs = t.strs.now; line_strs = t.line_strs.now; sup_strs = t.sup_strs.now } };
 }
 
-/// The sections that have the texts of entries, and what does not fit into heads.
+/// The sections that have the texts of entries, and the sites and wide entries.
 #[derive(Drop)]
 pub struct DieParts<'a> {
     pub texts: Texts<'a>,
@@ -222,7 +222,7 @@ pub fn site_of<'t>(parts: &'t DieParts<'_>, head: &Head) -> Option<&'t Site>
     parts.sites.get(head.number as usize)
 }
 
-/// What of the entry of a head does not fit into it.
+/// The wide entry of a head, if it has one.
 #[inline(always)]
 pub fn wide_of<'t>(parts: &'t DieParts<'_>, head: &Head) -> Option<&'t Wide>
     ensures { option_copied result ≡ found_in 2 head.now parts.now.wides.items }
@@ -233,7 +233,7 @@ pub fn wide_of<'t>(parts: &'t DieParts<'_>, head: &Head) -> Option<&'t Wide>
     parts.wides.get(head.number as usize)
 }
 
-/// Kept entries, as they are added.
+/// Kept entries while they are added.
 #[derive(Drop)]
 pub struct EntryList<'a> {
     heads: Vec<Head>,
@@ -253,7 +253,7 @@ impl<'a> Model for EntryList<'a> {
 }
 
 impl<'a> EntryList<'a> {
-    /// No entry yet, and room for so many, for the root and for some sites; texts are in these sections.
+    /// No entries yet, with room for `room` entries and for some sites. The texts are in these sections.
     pub fn with_room(
         alloc: Global,
         sections: &Sections<'a>,
@@ -276,7 +276,7 @@ impl<'a> EntryList<'a> {
         })
     }
 
-    /// Gives back the room that no entry took.
+    /// Gives unused room back.
     pub fn shrink(&mut self)
         ensures { self.new ≡ self.old }
     {
@@ -299,7 +299,7 @@ impl<'a> EntryList<'a> {
         self.heads.len() == 0
     }
 
-    /// Adds an entry whose head says all.
+    /// Adds an entry that has only a head.
     #[inline(always)]
     #[tactic(auto, using(crate::proofs::HeadLemmas::pushed_alone, crate::proofs::HeadLemmas::there_alone))]
     pub fn push_alone(&mut self, head: Head) -> Result<(), OutOfMemory>
@@ -345,7 +345,7 @@ impl<'a> EntryList<'a> {
         Ok(())
     }
 
-    /// The entry of a number.
+    /// The entry at an index.
     #[inline]
     pub fn get(&self, entry: usize) -> Option<Die<'_, 'a>>
         ensures { result ≡ slice_get self.now.dies entry }
@@ -353,7 +353,7 @@ impl<'a> EntryList<'a> {
         Some(Die::of(&self.parts, self.heads.get(entry)?))
     }
 
-    /// How many entries begin before a place, by halves.
+    /// The number of entries that begin before a place, by binary search.
     pub fn count_before(&self, place: u64) -> usize
         requires { RisesFrom 0 (map (λ (d : DieFields). d.at) self.now.dies) }
         ensures { StandBelow (λ (d : DieFields). d.at) place result self.now.dies }

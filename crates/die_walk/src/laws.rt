@@ -1,4 +1,4 @@
-//! Laws of the definitions, for proofs above. Each function does nothing: its contract is the law.
+//! Laws of the definitions, for proofs in other crates. Each function has an empty body: its contract is the law.
 ghost use Rattle.std.specs.Prelude.{◌≡◌, ℕ, ◌≤◌, ◌+◌, List, Ok, length};
 ghost use Rattle.leb_cursor.specs.Ahead.{Ahead};
 ghost use Rattle.leb_cursor.specs.Lists.{list_at, list_cases};
@@ -9,14 +9,14 @@ ghost use Rattle.die_walk.specs.Marks.{next_mark};
 ghost use Rattle.die_walk.specs.EntryTable.{EntryTable, entry_table};
 ghost use Rattle.die_walk.specs.EntryPlaces.{RisesTo, table_places};
 
-/// What stands ahead in a unit is what stands first and what stands after it: no count of readings is part
-/// of what it is.
+/// The marks ahead in a unit are the first one and then the marks after it; they do not depend on a count of readings.
 #[tactic(auto, using(crate::proofs::EntryPlaceLemmas::marks_follow))]
 pub fn marks_follow()
     ensures { (abbrevs : List Abbrev) (c : Ahead) → list_at (next_mark abbrevs) c ≡ list_cases (next_mark abbrevs) c }
 {}
 
-/// The kept entries of a unit stand in rising order, after its header and up to its end, as places are counted through both files.
+/// The places of a unit's kept entries, counted through both files, are strictly ascending, from the end of the unit's header up to the end of the
+/// unit.
 #[tactic(auto, using(crate::proofs::EntryPlaceLemmas::places_rise))]
 pub fn entries_rise()
     ensures { (sections : DebugSections) (unit : Unit) (abbrevs : List Abbrev) (table : EntryTable) → unit.body ≤ unit.end → unit.end ≤ length sections.info → entry_table sections unit abbrevs ≡ Ok table → RisesTo (first_place sections.is_sup + unit.body) (first_place sections.is_sup + unit.end) (table_places table) }

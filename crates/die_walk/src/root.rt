@@ -8,9 +8,9 @@ ghost use Rattle.die_walk.specs.Picking.{root_by, text_by};
 use abbrev_units::{Class, Pick, Picks, Sections, Slot, Unit, Value, read_text, text_in};
 use std::marker::Model;
 
-/// What the root of a unit says of the whole unit: the place of the root, the address at which lists
-/// begin to count, the place of the line table, where it is to be read, the folder of the compilation, and the bases in
-/// `.debug_str_offsets`, `.debug_addr` and `.debug_rnglists`.
+/// The attributes of a unit's root that hold for the whole unit: the place of the root, its low address, from which the offsets in lists count, the
+/// place of the line table, if that is to be read, the compilation directory, and the bases in `.debug_str_offsets`, `.debug_addr` and
+/// `.debug_rnglists`.
 #[derive(Debug, Drop)]
 pub struct Root<'a> {
     pub at: u64,
@@ -39,7 +39,7 @@ impl<'a> Model for Root<'a> {
     } };
 }
 
-/// The place in a section that a pick says.
+/// The place in a section that a pick gives.
 fn place_of(pick: Pick) -> Option<u64>
     ensures { result ≡ option_and_then as_place (value_in pick.class pick.number) }
 {
@@ -64,7 +64,7 @@ fn text_of<'a>(
     }
 }
 
-/// What the root says of the unit.
+/// The attributes of the root, given its picks.
 #[tactic(auto, unfolding(crate::specs::Picking::root_by))]
 pub fn make_root<'a>(sections: &Sections<'a>, unit: &Unit, at: u32, picks: &Picks) -> Root<'a>
     ensures { result ≡ root_by sections.now unit.now at picks.now }

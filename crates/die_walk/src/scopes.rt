@@ -1,4 +1,4 @@
-//! The nearest scopes around entries.
+//! The nearest scope around each entry.
 ghost use Rattle.std.specs.Prelude.{◌≡◌, [], IfOk};
 ghost use Rattle.die_walk.specs.Scopes.{scope_around, scope_of};
 ghost use Rattle.die_walk.specs.internal.Near.{AreNear};
@@ -7,7 +7,8 @@ use crate::heads::EntryList;
 use std::alloc::Global;
 use sym_edges::OutOfMemory;
 
-/// The nearest scope around an entry with this parent. It goes from parent to parent up to a scope, or to an entry of which the list knows it.
+/// The nearest scope around an entry with this parent. The search goes from parent to parent, up to a scope or to an entry whose nearest scope is in
+/// the list.
 fn scope_from(
     entries: &EntryList<'_>,
     near: &[Option<u32>],
@@ -36,7 +37,7 @@ fn scope_from(
     }
 }
 
-/// The nearest scope around the entry of a number, with what a list knows of some of them.
+/// The nearest scope around the entry at an index, given a list with the nearest scopes of some entries.
 #[inline]
 #[tactic(auto, using(crate::proofs::ScopeLemmas::of_entry, crate::proofs::ScopeLemmas::of_none))]
 pub fn scope_of(entries: &EntryList<'_>, near: &[Option<u32>], entry: usize) -> Option<u32>
@@ -47,7 +48,7 @@ pub fn scope_of(entries: &EntryList<'_>, near: &[Option<u32>], entry: usize) -> 
     scope_from(entries, near, entry, die.parent())
 }
 
-/// The nearest scope around each entry where the tree is deep, and of none where the way up is short.
+/// The nearest scope around each entry if the tree is deep; an empty list if it is not, since the search is short then.
 #[tactic(auto, using(crate::proofs::ScopeLemmas::near_none, crate::proofs::ScopeLemmas::near_more))]
 pub fn list_scopes(
     alloc: Global,

@@ -19,7 +19,7 @@ use std::alloc::Global;
 use std::marker::Model;
 use sym_edges::{FILE_LIMIT, OutOfMemory, Stop};
 
-/// Kept entries in their order, and where their tree is deep, the nearest scope around each.
+/// Kept entries in their order and, if their tree is deep, the nearest scope around each entry.
 #[derive(Drop)]
 pub struct DieList<'a> {
     entries: EntryList<'a>,
@@ -46,7 +46,7 @@ impl<'a> DieList<'a> {
         self.entries.len()
     }
 
-    /// The entry of a number.
+    /// The entry at an index.
     #[inline]
     pub fn get(&self, entry: usize) -> Option<Die<'_, 'a>>
         ensures { result ≡ slice_get self.now entry }
@@ -54,7 +54,7 @@ impl<'a> DieList<'a> {
         self.entries.get(entry)
     }
 
-    /// How many entries begin before a place, by halves.
+    /// The number of entries that begin before a place, by binary search.
     #[inline]
     pub fn count_before(&self, place: u64) -> usize
         requires { RisesFrom 0 (map (λ (d : DieFields). d.at) self.now) }
@@ -63,7 +63,7 @@ impl<'a> DieList<'a> {
         self.entries.count_before(place)
     }
 
-    /// The nearest class, structure, union or namespace around the entry of a number, in a few steps however deep the entry lies.
+    /// The nearest class, structure, union or namespace around the entry at an index, in a few steps at any depth.
     #[inline]
     pub fn scope_around(&self, entry: usize) -> Option<u32>
         ensures { result ≡ scope_of self.now entry }
@@ -72,7 +72,7 @@ impl<'a> DieList<'a> {
     }
 }
 
-/// The root of a unit and its kept entries, of which the root is the first.
+/// The root of a unit and its kept entries; the first of these is the root.
 #[derive(Drop)]
 pub struct DieTable<'a> {
     root: Root<'a>,
@@ -88,7 +88,7 @@ impl<'a> Model for DieTable<'a> {
 }
 
 impl<'a> DieTable<'a> {
-    /// A table of these entries, with a list of the nearest scopes around the first of them.
+    /// A table of these entries, with a list of the nearest scopes around the first ones.
     pub(crate) fn of(root: Root<'a>, entries: EntryList<'a>, near: Vec<Option<u32>>) -> DieTable<'a>
         requires { AreNear entries.dies near.items }
         ensures { result ≡ record { root = root.entry; dies = entries.entry.dies } }
@@ -112,7 +112,7 @@ impl<'a> DieTable<'a> {
     }
 }
 
-/// The walk from a state that has nothing yet. It stands alone, so that its loop has the registers for itself.
+/// The walk from its first state. This is a function of its own, so that its loop can use all registers.
 #[inline(never)]
 #[tactic(auto, using(crate::proofs::WalkLemmas::walked_start, crate::proofs::WalkLemmas::walked_more, crate::proofs::WalkLemmas::walked_end, crate::proofs::WalkLemmas::walked_stopped, crate::proofs::WalkLemmas::step_short, crate::proofs::WalkLemmas::step_shorter, crate::proofs::WalkLemmas::short_start))]
 fn walk_all<'a>(
@@ -141,14 +141,13 @@ fn walk_all<'a>(
     Ok(())
 }
 
-/// About as many bytes stand for each kept entry in units that have many of them. Room that they do not take is given back.
+/// About the number of bytes per kept entry, in units that have many kept entries. Unused room is given back.
 const BYTES_A_KEPT_ENTRY: u64 = 32;
 
-/// The entries of a unit (DWARF 5, 7.5.2), or their first fault, which is in `.debug_info`: `Ends`,
-/// `LebLong` or `NoZero` at the code or the value, `UnknownForm` where a value of such a form would
-/// begin, `NoAbbrev` at the entry. Kept are the root and classes, structures, unions, inlined
-/// subroutines, subprograms and namespaces. A section of more than 2^29 bytes, which no file that is
-/// dumped has, wants more memory than there is: places are kept in four bytes.
+/// The entries of a unit (DWARF 5, 7.5.2), or their first fault, which is in `.debug_info`: `Ends`, `LebLong` or `NoZero` at the code or the value,
+/// `UnknownForm` where a value of an unknown form would begin, `NoAbbrev` at the entry. The root is kept, and classes, structures, unions, inlined
+/// subroutines, subprograms and namespaces. If `.debug_info` or a section of texts has more than 2^29 bytes, the result is out of memory, since
+/// places are stored in four bytes; no file that is dumped has such a section.
 pub fn walk<'a>(
     alloc: Global,
     sections: &Sections<'a>,

@@ -22,11 +22,11 @@ use std::alloc::Global;
 use std::marker::Model;
 use sym_edges::{Located, OutOfMemory, Sect, Stop};
 
-/// How many levels of a tree are walked up one by one at most.
+/// The greatest depth of a tree in which a search for a scope goes up level by level.
 const SHALLOW: usize = 64;
 
-/// The sections and the unit that are walked over, the kept entries so far, what the root said, and for each open list of children the
-/// number of the nearest kept entry around it.
+/// A walk: its sections and its unit, the kept entries so far, the root's attributes, and for each open list of children the index of the nearest
+/// kept entry around it.
 #[derive(Drop)]
 pub struct Walker<'w, 'a> {
     sections: &'w Sections<'a>,
@@ -48,7 +48,7 @@ impl<'w, 'a> Model for Walker<'w, 'a> {
     ghost invariant = { λ w. (w.dies.homes ≡ homes_of w.sections.now) × AreSmall (homes_of w.sections.now) };
 }
 
-/// The stop at a value.
+/// The stop for the fault of a value.
 #[tactic(auto, unfolding(crate::specs::Marks::value_fault))]
 fn value_stop(fault: FormFault) -> Stop<DwarfFault>
     ensures { result ≡ Fault (value_fault fault) }
@@ -74,7 +74,7 @@ fn innermost(levels: &[Option<u32>]) -> Option<u32>
 }
 
 impl<'w, 'a> Walker<'w, 'a> {
-    /// A walk that has nothing yet, and room for so many kept entries.
+    /// A walk before its first entry, with room for `room` kept entries.
     pub fn with_room(
         alloc: Global,
         sections: &'w Sections<'a>,
@@ -103,7 +103,7 @@ impl<'w, 'a> Walker<'w, 'a> {
         })
     }
 
-    /// The table that the walk made. The room for open lists of children has doubled as they were opened, so it says whether the tree is deep.
+    /// The table that the walk made. The room for open lists of children was doubled when it was full, so its size shows whether the tree is deep.
     pub fn into_table(self, alloc: Global) -> Result<DieTable<'a>, OutOfMemory>
         ensures { IfOk result (λ table. table ≡ table_in self.entry) }
     {
@@ -119,7 +119,7 @@ impl<'w, 'a> Walker<'w, 'a> {
         Ok(DieTable::of(root, dies, near))
     }
 
-    /// Where an entry stands that begins at this place of its section.
+    /// The frame of an entry that begins at this place of its section.
     #[inline(always)]
     fn frame(&self, at: u32) -> Frame
         requires { at ≤ 2 ^ 29 }
@@ -132,7 +132,7 @@ impl<'w, 'a> Walker<'w, 'a> {
         }
     }
 
-    /// What an entry says beside its tag, its addresses and its call.
+    /// What an entry has besides its tag, its addresses and its call.
     #[inline(always)]
     fn parts(&self, picks: &Picks, frame: Frame) -> Parts
         ensures says { Says self.now.own.sections self.now.own.unit self.now.root.str_offsets_base picks.now result }
@@ -141,7 +141,7 @@ impl<'w, 'a> Walker<'w, 'a> {
         parts_of(self.sections, self.unit, &self.root, picks, frame)
     }
 
-    /// Adds a kept entry by what was picked, where it fits into a head and a site; false where it does not, and nothing is added.
+    /// Adds a kept entry, given its picks, if it fits into a head and a site. Returns false and adds nothing if it does not fit.
     #[inline(always)]
     fn add_fit(&mut self, picks: &Picks, at: u32, tag: u64) -> Result<bool, OutOfMemory>
         requires { at ≤ 2 ^ 29 }
@@ -152,7 +152,7 @@ impl<'w, 'a> Walker<'w, 'a> {
         push_fit(&mut self.dies, parts, tag, picks)
     }
 
-    /// Adds a kept entry by what was picked, whatever it may be. It stands alone, since few are so.
+    /// Adds any kept entry, given its picks. This is a function of its own, since few entries need it.
     #[inline(never)]
     fn add_wide(&mut self, picks: &Picks, at: u32, tag: u64) -> Result<(), OutOfMemory>
         requires { at ≤ 2 ^ 29 }
@@ -162,7 +162,7 @@ impl<'w, 'a> Walker<'w, 'a> {
         push_wide(&mut self.dies, parts, tag, picks)
     }
 
-    /// Adds a kept entry by what was picked.
+    /// Adds a kept entry, given its picks.
     #[inline(always)]
     fn add(&mut self, picks: &Picks, at: u32, tag: u64) -> Result<(), OutOfMemory>
         requires { at ≤ 2 ^ 29 }
@@ -174,7 +174,7 @@ impl<'w, 'a> Walker<'w, 'a> {
         self.add_wide(picks, at, tag)
     }
 
-    /// Adds the first entry, which is the root, by what was picked.
+    /// Adds the first entry, which is the root, given its picks.
     #[inline(never)]
     #[tactic(auto, using(crate::proofs::StepLemmas::begun_is))]
     fn begin(&mut self, picks: &Picks, at: u32, tag: u64) -> Result<(), OutOfMemory>
@@ -186,7 +186,7 @@ impl<'w, 'a> Walker<'w, 'a> {
         self.add(picks, at, tag)
     }
 
-    /// Makes a root where the unit has no entry.
+    /// Makes a root if the unit has no entries.
     #[tactic(auto, using(crate::proofs::StepLemmas::begun_none), unfolding(crate::specs::Steps::rounded))]
     pub fn round(&mut self) -> Result<(), OutOfMemory>
         requires { self.old.own.unit.body ≤ 2 ^ 29 }
@@ -199,8 +199,8 @@ impl<'w, 'a> Walker<'w, 'a> {
         self.begin(&Picks::new(), body, 0)
     }
 
-    /// Adds a kept entry that is not the first, and leaves no pick. It stands alone, so that the loop over entries has the registers for
-    /// itself.
+    /// Adds a kept entry that is not the first, and removes all picks. This is a function of its own, so that the loop over entries can use all
+    /// registers.
     #[inline(never)]
     #[tactic(auto, unfolding(crate::specs::Steps::entered_by))]
     fn add_picked(&mut self, picks: &mut Picks, at: u32, tag: u64) -> Result<(), OutOfMemory>
@@ -215,7 +215,7 @@ impl<'w, 'a> Walker<'w, 'a> {
         added
     }
 
-    /// Adds an entry that is kept, and leaves no pick.
+    /// Adds a kept entry, and removes all picks.
     #[tactic(auto, unfolding(crate::specs::Steps::entered_by))]
     fn add_any(&mut self, picks: &mut Picks, at: u32, tag: u64) -> Result<(), OutOfMemory>
         requires kept { keeps self.old tag ≡ true }
@@ -239,7 +239,7 @@ impl<'w, 'a> Walker<'w, 'a> {
         let _level = self.open_levels.pop();
     }
 
-    /// Whether an entry of an abbreviation is kept: by its tag, or since it is the first.
+    /// Whether an entry with this abbreviation is kept: by its tag, or because it is the first.
     #[inline]
     fn keeps(&self, found: &Abbrev<'_>) -> bool
         ensures { result ≡ keeps self.now found.now.tag }
@@ -247,8 +247,8 @@ impl<'w, 'a> Walker<'w, 'a> {
         self.dies.is_empty() || found.is_kept()
     }
 
-    /// Takes an entry in by the specifications of its values, without its children, and says whether it is kept: the first, which is the root, one of which the takes say
-    /// nothing, or one with a fault.
+    /// Reads an entry, without its children, by the specs of its values, and returns whether it is kept. This serves the first entry, which is the
+    /// root, an entry that the takes do not read, and an entry with a fault.
     #[inline(never)]
     #[tactic(auto, using(crate::proofs::StepLemmas::passed_over, crate::proofs::StepLemmas::passed_refused, crate::proofs::StepLemmas::taken, crate::proofs::StepLemmas::taken_refused))]
     fn take_slowly(
@@ -276,7 +276,7 @@ impl<'w, 'a> Walker<'w, 'a> {
         Ok(true)
     }
 
-    /// The same, with a cursor and an abbreviation of its own: so those of the loop over entries stay in registers.
+    /// The same, with its own copies of the cursor and the abbreviation, so that those of the loop over entries stay in registers.
     #[inline(always)]
     fn take_apart(
         &mut self,
@@ -297,7 +297,7 @@ impl<'w, 'a> Walker<'w, 'a> {
         taken
     }
 
-    /// Takes an entry in, without its children, and says whether it is kept.
+    /// Reads an entry, without its children, and returns whether it is kept.
     #[inline(always)]
     #[tactic(auto, using(crate::proofs::StepLemmas::passed_by, crate::proofs::StepLemmas::taken))]
     fn take_entry(
@@ -323,7 +323,7 @@ impl<'w, 'a> Walker<'w, 'a> {
         Ok(true)
     }
 
-    /// The number of the nearest kept entry around the children of an entry that was taken in last.
+    /// The index of the nearest kept entry around the children of the entry that was read last.
     fn own_number(&self, kept: bool) -> Option<u32>
         requires { kept ≡ true → (1 ≤ length self.now.dies) × (length self.now.dies ≤ 2 ^ 32) }
         ensures { result ≡ (if kept then Some (length self.now.dies - 1) else innermost self.now.open_levels) }
@@ -342,7 +342,7 @@ impl<'w, 'a> Walker<'w, 'a> {
         Ok(())
     }
 
-    /// Takes an entry in, and opens the list of its children.
+    /// Reads an entry, and opens the list of its children.
     #[tactic(auto, using(crate::proofs::StepLemmas::moved_plain, crate::proofs::StepLemmas::moved_refused, crate::proofs::StepLemmas::kept_few))]
     fn enter(
         &mut self,
@@ -369,7 +369,7 @@ impl<'w, 'a> Walker<'w, 'a> {
         Ok(())
     }
 
-    /// Takes in what stands next; false where the unit has ended.
+    /// Reads the next mark; false at the end of the unit.
     #[tactic(auto, using(crate::proofs::WalkLemmas::step_end, crate::proofs::WalkLemmas::step_cut, crate::proofs::WalkLemmas::step_close, crate::proofs::WalkLemmas::step_unknown, crate::proofs::WalkLemmas::step_entry, crate::proofs::WalkLemmas::step_stopped))]
     pub fn step(
         &mut self,

@@ -16,11 +16,11 @@ Fault = Located DwarfKind
 abbrev pub fault_at : DwarfKind → ℕ → Fault
 fault_at kind at = record { kind = kind; section = Line; at = at }
 
--- a number, a text or a run of bytes, or the fault of its reading
+-- a reading whose fault becomes one in `.debug_line`
 abbrev pub in_line : {A : Type 0} → Result A CursorFault → Result A Fault
 in_line reading = read_in Line reading
 
--- a value, or why it cannot be read
+-- a value, or the fault of its reading
 abbrev pub value_fault : FormFault → Fault
 value_fault (form.Cursor fault) = in_section Line fault
 value_fault (form.Unknown at) = fault_at UnknownForm at

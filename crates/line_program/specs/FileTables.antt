@@ -23,8 +23,8 @@ pub record Tables : Type 0 where
   pub directories : List FileFields
   pub files : List FileFields
 
--- an entry of include_directories, or of file_names where `of_files`, in versions 2 to 4: a path, after which a file has more;
--- the empty text ends the list
+-- an entry of include_directories or, if `of_files`, of file_names, in versions 2 to 4. It has a path; a file has more fields after the path. The
+-- empty path ends the list
 unfoldable pub old_entry_at : Bool → Ahead → Result (Option FileFields × Ahead) Fault
 old_entry_at of_files c =
     in_line (text_at c) >>= λ path.
@@ -46,21 +46,21 @@ pair_at c =
     in_line (uleb_at content.1) >>= λ form.
     Ok (record { content = content.0; form = form.0 }, form.1)
 
--- the pairs, after their count
+-- the pairs of a format, after their count
 unfoldable pub pairs_at : Ahead → Result (List EntryFormat × Ahead) Fault
 pairs_at c = in_line (fixed_at 1 c) >>= λ count. several_at pair_at count.0 count.1
 
--- a value; no attribute's declaration gives one here, so DW_FORM_implicit_const (21) is unknown
+-- the value of a form. There is no abbreviation with a constant here, so DW_FORM_implicit_const (0x21) is unknown
 unfoldable pub value_at : Bool → ℕ → Ahead → Result (Value × Ahead) Fault
 value_at wide form c =
     if form == 0x21 then Err (fault_at UnknownForm c.at) else or_value_fault (form_at form (pos 0) wide c)
 
--- a value and what it is of
+-- a value and its content type (DWARF 5, table 7.27)
 pub record Content : Type 0 where
   pub content : ℕ
   pub value : Value
 
--- an entry's values, one for each pair
+-- the values of an entry, one for each pair of the format
 unfoldable pub values_at : List EntryFormat → Bool → Ahead → Result (List Content × Ahead) Fault
 values_at [] wide c = Ok ([], c)
 values_at (pair ∷ pairs) wide c =
@@ -68,16 +68,16 @@ values_at (pair ∷ pairs) wide c =
     values_at pairs wide value.1 >>= λ later.
     Ok (record { content = pair.content; value = value.0 } ∷ later.0, later.1)
 
--- the first value of a content
+-- the first value of a content type
 unfoldable pub content_of : ℕ → List Content → Option Value
 content_of content values = option_map (λ v. v.value) (find (λ v. v.content == content) values)
 
--- DW_LNCT_path (1): a missing path is empty, and so is one that is no string or cannot be found
+-- DW_LNCT_path (1): the path is empty if it is missing, is not a string or cannot be found
 abbrev pub path_in : DebugSections → Option Value → List ℕ
 path_in sections None = []
 path_in sections (Some value) = unwrap_or (line_text sections value) []
 
--- DW_LNCT_directory_index (2): a missing one is 0, and so is one that is no number
+-- DW_LNCT_directory_index (2): the number is 0 if it is missing or is not an unsigned constant
 abbrev pub directory_in : Option Value → ℕ
 directory_in (Some (Num number)) = number
 directory_in _ = 0
@@ -85,19 +85,19 @@ directory_in _ = 0
 abbrev pub entry_of : DebugSections → Option Value → Option Value → FileFields
 entry_of sections path directory = record { path = path_in sections path; directory = directory_in directory }
 
--- an entry of version 5; other contents are passed over
+-- an entry of version 5; values of other content types are ignored
 unfoldable pub entry_at : DebugSections → List EntryFormat → Bool → Ahead → Result (FileFields × Ahead) Fault
 entry_at sections pairs wide c =
     values_at pairs wide c >>= λ values.
     Ok (entry_of sections (content_of 1 values.0) (content_of 2 values.0), values.1)
 
--- so many entries, of which there are no more than bytes before the program
+-- `count` entries; there may be no more entries than bytes left before the program
 unfoldable pub counted_at : DebugSections → ℕ → List EntryFormat → Bool → ℕ → Ahead → Result (List FileFields × Ahead) Fault
 counted_at sections start pairs wide count c =
     if nat_lt (length c.bytes) count then Err (fault_at LineHeader start) else
     several_at (entry_at sections pairs wide) count c
 
--- a table of version 5: its format, its count and its entries
+-- a table of version 5: its format, the number of its entries, and the entries
 unfoldable pub entries_at : DebugSections → ℕ → Bool → Ahead → Result (List FileFields × Ahead) Fault
 entries_at sections start wide c =
     pairs_at c >>= λ pairs.
@@ -111,7 +111,7 @@ new_tables_at sections start wide c =
     entries_at sections start wide directories.1 >>= λ files.
     Ok (record { directories = directories.0; files = files.0 })
 
--- the tables of a header
+-- the tables of directories and files of a line table that starts at `start`, given its header
 unfoldable pub tables_at : DebugSections → ℕ → HeaderFields → Result Tables Fault
 tables_at sections start header =
     if header.program.version == 5 then new_tables_at sections start header.wide header.tables else old_tables_at header.tables

@@ -1,5 +1,5 @@
--- The header of a line table (DWARF 5, 6.2.4; DWARF 4, 6.2.4), up to its tables of directories and files.
--- Its fields are read in their order, and each "must" is judged when its field is read.
+-- The header of a line table (DWARF 5, 6.2.4; DWARF 4, 6.2.4), up to its tables of directories and files. The fields are read in their order, and
+-- each condition is checked when its field is read.
 use Rattle.std.specs.Prelude.{ℕ, ◌-◌, ◌==◌, ◌&&◌, nat_lt, nat_le, Bool, if◌then◌else◌, Result, Ok, Err}
 use Rattle.std.specs.Int.{w8, cast_signed}
 use Rattle.sym_edges.specs.Results.{◌>>=◌}
@@ -16,15 +16,15 @@ use Rattle.line_program.specs.Lists.{several_at}
 use Rattle.line_program.specs.ProgramFields.{ProgramFields}
 use Rattle.line_program.specs.HeaderFields.{HeaderFields}
 
--- a number of one byte
+-- a field of one byte
 abbrev pub byte_at : Ahead → Result (ℕ × Ahead) HeaderFault
 byte_at c = as_field (fixed_at 1 c)
 
--- one that must be this
+-- a byte that must be this number
 unfoldable pub this_byte_at : ℕ → Ahead → Result Ahead HeaderFault
 this_byte_at must c = byte_at c >>= λ byte. if byte.0 == must then Ok byte.1 else Err (Start LineHeader)
 
--- one that must not be 0
+-- a byte that must not be 0
 unfoldable pub some_byte_at : Ahead → Result (ℕ × Ahead) HeaderFault
 some_byte_at c = byte_at c >>= λ byte. if byte.0 == 0 then Err (Start LineHeader) else Ok byte
 
@@ -32,17 +32,17 @@ some_byte_at c = byte_at c >>= λ byte. if byte.0 == 0 then Err (Start LineHeade
 unfoldable pub is_version : ℕ → Bool
 is_version version = nat_le 2 version && nat_le version 5
 
--- address_size and segment_selector_size, of version 5 alone
+-- address_size, which must be 8, and segment_selector_size, which must be 0: only version 5 has them
 unfoldable pub sizes_at : ℕ → Ahead → Result Ahead HeaderFault
 sizes_at version c = if version == 5 then (this_byte_at 8 c >>= λ segment. this_byte_at 0 segment) else Ok c
 
--- maximum_operations_per_instruction, from version 4 on: more than one is not read
+-- maximum_operations_per_instruction, which only versions from 4 on have: it must be 0 or 1
 unfoldable pub operations_at : ℕ → Ahead → Result Ahead HeaderFault
 operations_at version c =
     if nat_lt version 4 then Ok c else
     (byte_at c >>= λ operations. if nat_le operations.0 1 then Ok operations.1 else Err (Start LineHeader))
 
--- minimum_instruction_length to standard_opcode_lengths; default_is_stmt says nothing of a row's line
+-- minimum_instruction_length to standard_opcode_lengths; default_is_stmt is skipped, since the line of a row does not depend on it
 unfoldable pub program_at : ℕ → Ahead → Result (ProgramFields × Ahead) HeaderFault
 program_at version c =
     byte_at c >>= λ minimum_length.
@@ -64,7 +64,7 @@ program_at version c =
       lengths.1,
     )
 
--- after a version that is read: header_length cuts off what stands before the program, which is the rest of the table
+-- the header after the version: header_length gives the start of the program, and the program goes up to the end of the table
 unfoldable pub header_behind : ℕ → Bool → Ahead → Result HeaderFields HeaderFault
 header_behind version wide c =
     sizes_at version c >>= λ sizes.
@@ -73,12 +73,12 @@ header_behind version wide c =
     program_at version parts.0 >>= λ program.
     Ok (record { program = program.0; wide = wide; tables = program.1; opcodes = parts.1 })
 
--- the header, from what the table's length counts
+-- the header, given the bytes that the table's length counts
 unfoldable pub header_at : Contents → Result HeaderFields HeaderFault
 header_at contents =
     as_field (fixed_at 2 contents.ahead) >>= λ version.
     if is_version version.0 then header_behind version.0 contents.wide version.1 else Err (Start LineVersion)
 
--- the length of a table, which unit_length tells with the format (7.4), and its header
+-- the length of a table, unit_length, which also gives the format (7.4), and then the header
 unfoldable pub table_at : Ahead → Result HeaderFields HeaderFault
 table_at c = contents_at c >>= λ contents. header_at contents.0

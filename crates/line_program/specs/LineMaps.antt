@@ -1,4 +1,4 @@
--- A line table by address, as a contract sees it: the lines as a step map, and the paths by their numbers.
+-- The model of a line table in contracts: the lines as a step map, and the paths with numbers.
 use Rattle.std.specs.Prelude.{◌≡◌, ℕ, ◌-◌, ◌^◌, ◌<◌, ◌≤◌, ◌⊎◌, ◌==◌, nat_lt, Bool, if◌then◌else◌, List, [], ◌∷◌, ◌++◌, Option, Some, None, option_and_then}
 use Rattle.std.specs.List.{slice_get, list_any}
 use Rattle.std.specs.Option.{option_map}
@@ -9,7 +9,8 @@ use Rattle.step_maps.specs.Stepping.{Stepping, value_at}
 use Rattle.line_program.specs.declared.path_line.PathLine.{PathLine}
 use Rattle.line_program.specs.LineAt.{Lines, path_of, line_at}
 
--- from each stop on a path's number and a line, the paths by their numbers, the number of the first file, and the number of each file's path
+-- a step map that gives a path number and a line, the paths in the order of their numbers, the number of the first file, and for each file the number
+-- of its path
 pub record LineMap : Type 0 where
   pub lines : Stepping PathLine
   pub paths : List (List ℕ)
@@ -24,27 +25,27 @@ no_lines = record { lines = record { stops = []; values = [] }; paths = []; firs
 abbrev pub no_line : PathLine
 no_line = record { path = 0; line = 0 }
 
--- path number and line of an address, where it has a line
+-- path number and line of an address, if it has a line
 abbrev pub shown : PathLine → Option (ℕ × ℕ)
 shown at = if at.line == 0 then None else Some (at.path, at.line)
 
 abbrev pub numbered_line : LineMap → ℕ → Option (ℕ × ℕ)
 numbered_line table a = shown (value_at no_line table.lines a)
 
--- the number of a file's path, where the table has that file
+-- the number of a file's path, if the table has a file with that number
 abbrev pub numbered_file : LineMap → ℕ → Option ℕ
 numbered_file table file = if nat_lt file table.first then None else slice_get table.files (file - table.first)
 
--- a path and a line in the place of a path's number and a line
+-- path and line, given path number and line
 abbrev pub named_line : List (List ℕ) → Option (ℕ × ℕ) → Option (List ℕ × ℕ)
 named_line paths None = None
 named_line paths (Some at) = option_map (λ path. (path, at.1)) (slice_get paths at.0)
 
--- one more path, unless it is there
+-- the paths with another path at the end, unless they have it already
 abbrev pub with_path : List (List ℕ) → List ℕ → List (List ℕ)
 with_path paths path = if list_any (λ other. bytes_eq path other) paths then paths else paths ++ path ∷ []
 
--- each path once, in the order of the first file that has it
+-- each path once, in the order in which the files first have them
 unfoldable pub paths_from : List (List ℕ) → List (List ℕ) → List (List ℕ)
 paths_from paths [] = paths
 paths_from paths (file ∷ files) = paths_from (with_path paths file) files
@@ -52,21 +53,22 @@ paths_from paths (file ∷ files) = paths_from (with_path paths file) files
 abbrev pub distinct_paths : List (List ℕ) → List (List ℕ)
 distinct_paths files = paths_from [] files
 
--- no two numbers have one path
+-- no two numbers have the same path
 abbrev pub AreDistinct : List (List ℕ) → Type 0
 AreDistinct paths = (j k : ℕ) (path : List ℕ) → slice_get paths j ≡ Some path → slice_get paths k ≡ Some path → j ≡ k
 
--- a step map that says what a line table says: at each address the path and the line, each file's path, and each path once
+-- `table` is the model of `lines`: at each address below 2^64 both give the same path and line, each file has the same path, and each path is there
+-- once
 pub record SaysLines (code : ℕ → ℕ → Bool) (lines : Lines) (table : LineMap) : Type 0 where
   pub line : (a : ℕ) → a < 2 ^ 64 → named_line table.paths (numbered_line table a) ≡ line_at code lines a
   pub file : (file : ℕ) → option_and_then (slice_get table.paths) (numbered_file table file) ≡ path_of lines.first lines.files file
   pub paths : table.paths ≡ distinct_paths lines.files
 
--- two lists of spans that enclose the same ranges
+-- two lists of ranges enclose the same ranges
 abbrev pub EncloseAlike : List Range → List Range → Type 0
 EncloseAlike xs ys = (start end : ℕ) → encloses xs start end ≡ encloses ys start end
 
--- each stop is at or below the first address, or above the second
+-- each stop is at or below the address `a`, or above the address `b`
 abbrev pub NoStopBetween : ℕ → ℕ → List ℕ → Type 0
 NoStopBetween a b [] = Unit {0}
 NoStopBetween a b (s ∷ stops) = ((s ≤ a) ⊎ (b < s)) × NoStopBetween a b stops

@@ -1,4 +1,4 @@
--- The opcodes of a line number program, as they are read (DWARF 5, 6.2.5).
+-- Reading the opcodes of a line number program (DWARF 5, 6.2.5).
 use Rattle.std.specs.Prelude.{ℕ, zero, suc, ◌-◌, ◌==◌, ◌&&◌, nat_lt, nat_le, if◌then◌else◌, List, length, slice_index, Option, None, Some, Result, Ok, Err}
 use Rattle.sym_edges.specs.Results.{◌>>=◌}
 use Rattle.leb_cursor.specs.declared.fault.CursorFault.{CursorFault}
@@ -12,19 +12,19 @@ use Rattle.line_program.specs.Faults.{Fault, fault_at, in_line}
 use Rattle.line_program.specs.FileFields.{FileFields}
 use Rattle.line_program.specs.ProgramFields.{ProgramFields}
 
--- an opcode with no operand, and with one
+-- an opcode without an operand, and an opcode with one
 abbrev pub alone : Opcode → Ahead → Result (Opcode × Ahead) Fault
 alone opcode c = Ok (opcode, c)
 
 abbrev pub one : {A : Type 0} → (Ahead → Result (A × Ahead) CursorFault) → (A → Opcode) → Ahead → Result (Opcode × Ahead) Fault
 one operand make c = in_line (operand c) >>= λ x. Ok (make x.0, x.1)
 
--- so many unsigned operands, passed over
+-- a number of unsigned operands, which are skipped
 unfoldable pub pass_ulebs : ℕ → Ahead → Result Ahead Fault
 pass_ulebs zero c = Ok c
 pass_ulebs (suc n) c = in_line (uleb_at c) >>= λ operand. pass_ulebs n operand.1
 
--- after a file's path: the number of its directory, its time and its size (DWARF 4, 6.2.4, file_names)
+-- the fields after a file's path: the number of its directory, its time and its size (DWARF 4, 6.2.4, file_names)
 unfoldable pub file_behind : List ℕ → Ahead → Result (FileFields × Ahead) Fault
 file_behind path c =
     in_line (uleb_at c) >>= λ directory.
@@ -32,20 +32,20 @@ file_behind path c =
     in_line (uleb_at time.1) >>= λ size.
     Ok (record { path = path; directory = directory.0 }, size.1)
 
--- DW_LNE_define_file: a path, and what stands after one (DWARF 4, 6.2.5.3)
+-- DW_LNE_define_file: a path, and the fields after it (DWARF 4, 6.2.5.3)
 unfoldable pub define_file_at : Ahead → Result Opcode Fault
 define_file_at c =
     in_line (text_at c) >>= λ path. file_behind path.0 path.1 >>= λ file. Ok (DefineFile file.0)
 
--- DW_LNE_set_address: an address of eight bytes, so its length is 9
+-- DW_LNE_set_address: an address of eight bytes, so the length of the opcode must be 9
 unfoldable pub set_address_at : ℕ → ℕ → Ahead → Result Opcode Fault
 set_address_at at len c =
     if len == 9
     then (in_line (fixed_at 8 c) >>= λ address. Ok (SetAddress address.0))
     else Err (fault_at LineOpcode at)
 
--- an extended opcode whose zero byte stands at `at`, after its own number (6.2.5.3); DW_LNE_define_file is none in version 5, and
--- DW_LNE_set_discriminator and those that are not known do nothing
+-- an extended opcode after its code; its zero byte is at `at` (6.2.5.3). Version 5 does not have DW_LNE_define_file. DW_LNE_set_discriminator and
+-- unknown opcodes do nothing
 unfoldable pub extended_of : ℕ → ℕ → ℕ → ℕ → Ahead → Result Opcode Fault
 extended_of version at len code c =
     if code == 0x01 then Ok EndSequence else  -- DW_LNE_end_sequence
@@ -53,11 +53,11 @@ extended_of version at len code c =
     if code == 0x03 && nat_lt version 5 then define_file_at c else  -- DW_LNE_define_file
     Ok OtherExtended
 
--- from its own number on
+-- an extended opcode after its length
 unfoldable pub extended_in : ℕ → ℕ → ℕ → Ahead → Result Opcode Fault
 extended_in version at len c = in_line (fixed_at 1 c) >>= λ code. extended_of version at len code.0 code.1
 
--- what stands after the zero byte: a length, and so many bytes; reading goes on after them
+-- an extended opcode after the zero byte: a length, and that many bytes, after which the next opcode begins
 unfoldable pub extended_at : ℕ → ℕ → Ahead → Result (Opcode × Ahead) Fault
 extended_at version at c =
     in_line (uleb_at c) >>= λ len.
@@ -66,7 +66,7 @@ extended_at version at c =
     then Err (fault_at LineOpcode at)
     else (extended_in version at len.0 part.0 >>= λ opcode. Ok (opcode, part.1))
 
--- a standard opcode (6.2.5.2, and table 7.25); one that is not known has as many operands as the header says
+-- a standard opcode (6.2.5.2, and table 7.25); an unknown one has as many operands as the header gives it
 unfoldable pub standard_at : List ℕ → ℕ → Ahead → Result (Opcode × Ahead) Fault
 standard_at lengths code c =
     if code == 0x01 then alone Copy c else  -- DW_LNS_copy
@@ -83,7 +83,7 @@ standard_at lengths code c =
     if code == 0x0c then one uleb_at SetIsa c else  -- DW_LNS_set_isa
     (pass_ulebs (slice_index lengths (code - 1)) c >>= λ later. Ok (UnknownStandard, later))
 
--- after an opcode's byte, which stands at `at`: from the header's opcode_base on it is a special one (6.2.5.1)
+-- an opcode after its first byte, which is at `at`: if that byte is opcode_base or more, the opcode is a special one (6.2.5.1)
 unfoldable pub behind_opcode : ProgramFields → ℕ → ℕ → Ahead → Result (Opcode × Ahead) Fault
 behind_opcode p at code c =
     if nat_le p.opcode_base code then alone (Special (code - p.opcode_base)) c else
@@ -94,11 +94,11 @@ behind_opcode p at code c =
 unfoldable pub opcode_at : ProgramFields → Ahead → Result (Opcode × Ahead) Fault
 opcode_at p c = in_line (fixed_at 1 c) >>= λ code. behind_opcode p c.at code.0 code.1
 
--- the next opcode, where a byte is left
+-- the next opcode; none at the end of the program
 unfoldable pub next_at : ProgramFields → Ahead → Result (Option Opcode × Ahead) Fault
 next_at p c =
     if length c.bytes == 0 then Ok (None, c) else (opcode_at p c >>= λ opcode. Ok (Some opcode.0, opcode.1))
 
--- the opcodes up to the end of the bytes
+-- the opcodes up to the end of the program
 unfoldable pub opcodes_at : ProgramFields → Ahead → Result (List Opcode × Ahead) Fault
 opcodes_at p c = list_at (next_at p) c

@@ -5,7 +5,7 @@ use Rattle.std.specs.Str.{bytes_eq}
 use Rattle.clean_names.specs.Cleaning.{cleaned}
 use Rattle.line_program.specs.FileFields.{FileFields}
 
--- whether a path begins with a slash, and whether a directory ends in one
+-- whether a path begins with a slash, and whether a directory ends with one
 abbrev pub is_rooted : List ℕ → Bool
 is_rooted path = slice_index path 0 == 47
 
@@ -19,17 +19,17 @@ joined directory path =
     if length path == 0 then directory else
     if ends_in_slash directory then directory ++ path else directory ++ 47 ∷ path
 
--- directory 0 of version 5 is the compilation directory: where it says the same text it is that, once
+-- directory 0 of version 5 is the compilation directory; if both have the same text, that text is not joined with itself
 unfoldable pub root_of : List ℕ → List ℕ → List ℕ
 root_of comp_dir path = if bytes_eq path comp_dir then path else joined comp_dir path
 
--- the directories of version 5 by their numbers; each but the first stands in the first
+-- the directories of version 5, from number 0 on; each but directory 0 is relative to directory 0
 abbrev pub rooted_directories : List ℕ → List FileFields → List (List ℕ)
 rooted_directories comp_dir [] = []
 rooted_directories comp_dir (root ∷ directories) =
     root_of comp_dir root.path ∷ map (λ d. joined (root_of comp_dir root.path) d.path) directories
 
--- the directories by their numbers: in versions 2 to 4 directory 0 is the compilation directory, and each other one stands in it
+-- the directories, from number 0 on. In versions 2 to 4 directory 0 is the compilation directory, and the others are relative to it
 unfoldable pub directories_of : ℕ → List ℕ → List FileFields → List (List ℕ)
 directories_of version comp_dir directories =
     if version == 5 then rooted_directories comp_dir directories else
@@ -39,7 +39,7 @@ abbrev pub path_under : Option (List ℕ) → List ℕ → List ℕ
 path_under None path = path
 path_under (Some directory) path = joined directory path
 
--- a file's path, in its directory where that is there, cleaned
+-- a file's path: joined with its directory, if the table has that directory, and cleaned
 unfoldable pub file_path : List (List ℕ) → FileFields → List ℕ
 file_path directories file = cleaned (path_under (slice_get directories file.directory) file.path)
 

@@ -1,7 +1,7 @@
--- What the header of a line table says of its program (DWARF 5, 6.2.4).
+-- The fields of a line table's header that its program depends on (DWARF 5, 6.2.4).
 use Rattle.std.specs.Prelude.{ℕ, ℤ, List}
 
--- minimum_instruction_length, line_base, line_range and opcode_base, and the number of operands of each standard opcode
+-- the version, minimum_instruction_length, line_base, line_range and opcode_base, and for each standard opcode its number of operands
 pub record ProgramFields : Type 0 where
   pub version : ℕ
   pub minimum_length : ℕ

@@ -1,4 +1,4 @@
--- What serves the functions and loops of this crate alone: no public clause names it.
+-- Definitions for the functions and loops of this crate only: no public clause names them.
 pub mod Numbered
 pub mod Painting
 pub mod RowsAbove

@@ -13,12 +13,12 @@ use abbrev_units::{DwarfKind, Sections, Value, read_form, read_place, read_text}
 use code_table::{DW_FORM_flag_present, DW_FORM_implicit_const, DW_FORM_line_strp, DW_FORM_udata};
 use leb_cursor::Cursor;
 
-// The contents of version 5 that are read (DWARF 5, table 7.27).
+// The content types of version 5 that are read (DWARF 5, table 7.27).
 pub const DW_LNCT_path: u64 = 1;
 
 pub const DW_LNCT_directory_index: u64 = 2;
 
-/// Reads an entry of versions 2 to 4: a directory's, or a file's, which has more after its path.
+/// Reads an entry of versions 2 to 4: a directory, or a file, which has more fields after its path.
 #[tactic(auto, unfolding(crate::specs::FileTables::old_entry_at))]
 pub fn read_old_entry<'a>(
     cursor: &mut Cursor<'a>,
@@ -59,7 +59,7 @@ fn read_any(cursor: &mut Cursor<'_>, form: u64, wide: bool) -> Result<Value, Lin
     Ok(value)
 }
 
-/// Reads a value. The forms of most paths and of numbers are read here.
+/// Reads a value. The forms of most paths and of numbers are read here, others by `read_any`.
 #[inline]
 #[tactic(auto, using(crate::proofs::ValueLemmas::number_read, crate::proofs::ValueLemmas::path_read))]
 fn read_value(cursor: &mut Cursor<'_>, form: u64, wide: bool) -> Result<Value, LineFault>
@@ -78,7 +78,7 @@ fn read_value(cursor: &mut Cursor<'_>, form: u64, wide: bool) -> Result<Value, L
     }
 }
 
-/// The value that was kept, or else this one where it is of the content.
+/// The value that was kept or, if there is none, this value if it has the content type.
 fn kept_or(kept: Option<Value>, content: u64, of: u64, value: Value) -> Option<Value>
     ensures { result ≡ option_or kept (if of == content then Some value else None) }
 {
@@ -88,7 +88,7 @@ fn kept_or(kept: Option<Value>, content: u64, of: u64, value: Value) -> Option<V
     if of == content { Some(value) } else { None }
 }
 
-/// The text of a path, or none where it is missing.
+/// The text of a path; empty if the path is missing.
 fn path_in<'a>(sections: &Sections<'a>, path: Option<Value>) -> &'a [u8]
     ensures { result.now ≡ path_in sections.now path }
 {
@@ -110,7 +110,7 @@ fn directory_in(directory: Option<Value>) -> u64
     }
 }
 
-/// Whether a pair changes no entry: its values take no bytes, and none of them is the first of a path or a directory.
+/// Whether a pair changes no entry: its values have no bytes, and it is neither the first pair of a path nor the first of a directory.
 #[tactic(auto, unfolding(crate::specs::internal::Needed::is_idle))]
 pub fn is_idle(path: bool, directory: bool, pair: EntryFormat) -> bool
     ensures { result ≡ is_idle path directory pair }

@@ -1,7 +1,7 @@
 //! Entries of the tables of files and directories.
 use std::marker::Model;
 
-/// An entry of a table of files or directories: its path as it stands there, and the number of its directory.
+/// An entry of a table of files or directories: its path as the table has it, and the number of its directory.
 #[derive(Debug, Drop)]
 pub struct FileEntry<'a> {
     pub path: &'a [u8],

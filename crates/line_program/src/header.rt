@@ -10,7 +10,7 @@ use abbrev_units::{Contents, DwarfKind, HeaderFault, read_contents, read_place};
 use leb_cursor::{Cursor, CursorFault};
 use std::marker::Model;
 
-/// What stands before the tables, the bytes of both tables, and those of the program.
+/// The fields before the tables, the bytes of both tables, and the bytes of the program.
 #[derive(Drop)]
 pub struct Header<'a> {
     pub program: Program<'a>,
@@ -29,7 +29,7 @@ impl<'a> Model for Header<'a> {
     ghost view = { λ h. record { program = h.program; wide = h.wide; tables = h.tables; opcodes = h.opcodes } };
 }
 
-/// Passes a byte that must be this one.
+/// Passes a byte that must be `must`.
 #[tactic(auto, unfolding(crate::specs::Headers::this_byte_at))]
 fn pass_byte(cursor: &mut Cursor<'_>, must: u8) -> Result<(), HeaderFault>
     ensures { left_by result cursor.new ≡ this_byte_at must cursor.old }
@@ -62,7 +62,7 @@ fn is_version(version: u16) -> bool
     2 <= version && version <= 5
 }
 
-/// Passes the sizes of an address and of a segment, which version 5 alone has.
+/// Passes address_size and segment_selector_size, which only version 5 has.
 #[tactic(auto, unfolding(crate::specs::Headers::sizes_at))]
 fn pass_sizes(cursor: &mut Cursor<'_>, version: u16) -> Result<(), HeaderFault>
     ensures { left_by result cursor.new ≡ sizes_at version cursor.old }
@@ -75,7 +75,7 @@ fn pass_sizes(cursor: &mut Cursor<'_>, version: u16) -> Result<(), HeaderFault>
     Ok(())
 }
 
-/// Passes the number of operations that an instruction has at the most, from version 4 on.
+/// Passes maximum_operations_per_instruction, which only versions from 4 on have.
 #[tactic(auto, unfolding(crate::specs::Headers::operations_at))]
 fn pass_operations(cursor: &mut Cursor<'_>, version: u16) -> Result<(), HeaderFault>
     ensures { left_by result cursor.new ≡ operations_at version cursor.old }
@@ -90,7 +90,7 @@ fn pass_operations(cursor: &mut Cursor<'_>, version: u16) -> Result<(), HeaderFa
     Ok(())
 }
 
-/// Reads so many bytes; where they end too early, the fault is at the first that is missing.
+/// Reads `count` bytes; if there are fewer, the fault is at the first missing byte.
 #[tactic(auto, using(crate::proofs::HeaderLemmas::bytes_taken, crate::proofs::HeaderLemmas::bytes_short, crate::proofs::HeaderLemmas::taken_length))]
 fn read_bytes<'a>(cursor: &mut Cursor<'a>, count: u8) -> Result<&'a [u8], HeaderFault>
     ensures read { gave_as (λ bytes. bytes.now) result cursor.new ≡ several_at byte_at count cursor.old }
@@ -103,7 +103,7 @@ fn read_bytes<'a>(cursor: &mut Cursor<'a>, count: u8) -> Result<&'a [u8], Header
     }
 }
 
-/// Reads what the header says of the program.
+/// Reads the fields of the header that the program depends on.
 #[tactic(auto, unfolding(crate::specs::Headers::program_at))]
 fn read_program<'a>(cursor: &mut Cursor<'a>, version: u16) -> Result<Program<'a>, HeaderFault>
     ensures { gave result cursor.new ≡ program_at version cursor.old }
@@ -149,7 +149,7 @@ fn read_behind<'a>(
     })
 }
 
-/// Reads a header from what the table's length counts.
+/// Reads a header, given the bytes that the table's length counts.
 #[tactic(auto, unfolding(crate::specs::Headers::header_at))]
 fn read_header<'a>(contents: Contents<'a>) -> Result<Header<'a>, HeaderFault>
     ensures { result ≡ header_at contents.entry }
@@ -162,7 +162,7 @@ fn read_header<'a>(contents: Contents<'a>) -> Result<Header<'a>, HeaderFault>
     read_behind(ahead, version, wide)
 }
 
-/// Reads the length and the header of the table that stands ahead.
+/// Reads the length and the header of the next table.
 #[tactic(auto, unfolding(crate::specs::Headers::table_at))]
 pub fn read_table<'a>(mut cursor: Cursor<'a>) -> Result<Header<'a>, HeaderFault>
     ensures { result ≡ table_at cursor.entry }

@@ -15,7 +15,7 @@ use std::alloc::Global;
 use step_maps::{FirstItem, StepMap};
 use sym_edges::OutOfMemory;
 
-/// The sequences that are painted, and the numbers of the files' paths; files are numbered from `first`.
+/// The sequences that are painted, the number of the first file, and for each file the number of its path.
 #[derive(Drop)]
 pub struct RowPainter<'k> {
     pub kept: &'k [CountedSequence],
@@ -23,7 +23,7 @@ pub struct RowPainter<'k> {
     pub numbers: &'k [u32],
 }
 
-/// A line, and the address from which on it holds.
+/// A line, and the address at which it begins.
 #[derive(Clone, Copy)]
 struct HeldLine {
     from: u64,
@@ -54,7 +54,7 @@ fn rows_above<'a>(rows: &'a [Row], first: u32, numbers: &[u32], start: u64) -> (
     (line_of(first, numbers, rows[count - 1]), above)
 }
 
-/// Paints a line from an address on, where another one holds up to now.
+/// Paints a line from an address on, unless it is the line that is there already.
 #[inline]
 fn paint_line(
     painted: &mut StepMap<PathLine>,
@@ -112,7 +112,7 @@ fn covering(kept: &[CountedSequence], item: Option<FirstItem>) -> Option<&Counte
     }
 }
 
-/// Sets the lines of the sequence that covers a piece, from its address up to its end; where none covers it, no line.
+/// Paints a piece, from its start up to its end, with the lines of the sequence that covers it; without a line if no sequence does.
 fn paint_piece(
     painter: &RowPainter<'_>,
     painted: &mut StepMap<PathLine>,
@@ -156,7 +156,7 @@ fn next_stop(stops: &[u64], place: usize) -> Option<u64>
     stops.get(place + 1).copied()
 }
 
-/// How many lines there are at the most: one for each row, and none behind each sequence.
+/// An upper bound of the number of stops: one for each row, and one for the end of each sequence.
 fn line_count(kept: &[CountedSequence]) -> usize {
     let mut count = kept.len();
     for sequence in kept {
@@ -165,7 +165,7 @@ fn line_count(kept: &[CountedSequence]) -> usize {
     count
 }
 
-/// Paints each piece of the addresses that sequences cover.
+/// Paints all pieces of the addresses that sequences cover.
 pub fn paint_all(
     alloc: Global,
     painter: &RowPainter<'_>,

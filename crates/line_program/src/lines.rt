@@ -1,4 +1,4 @@
-//! A line table of `.debug_line`, whole (DWARF 5, 6.2).
+//! Reads a whole line table of `.debug_line` (DWARF 5, 6.2).
 ghost use Rattle.std.specs.Prelude.{◌≡◌, List, IfOk, Err};
 ghost use Rattle.sym_edges.specs.Addresses.{Range};
 ghost use Rattle.sym_edges.specs.Outside.{MatchStop};
@@ -21,7 +21,7 @@ use range_set::Enclosing;
 use std::alloc::Global;
 use sym_edges::{Located, OutOfMemory, Sect, Stop};
 
-/// The paths of the files in the header's tables, and of those that the program defined after them.
+/// The paths of the files in the header's tables, and then of the files that the program defined.
 #[tactic(auto, unfolding(crate::specs::LineTables::lines_of))]
 fn name_files<'a>(
     alloc: Global,
@@ -54,7 +54,7 @@ fn name_files<'a>(
     })
 }
 
-/// What the tables and the opcodes of a header say.
+/// The content of a line table, given its header: its tables and its program are read.
 #[tactic(auto, using(crate::proofs::KeptLemmas::lines_read, crate::proofs::KeptLemmas::lines_refused))]
 fn read_rows<'a>(
     alloc: Global,
@@ -79,7 +79,7 @@ fn read_rows<'a>(
     Ok(Ok(lines))
 }
 
-/// Reads the table that stands ahead.
+/// Reads the next table.
 #[tactic(auto, unfolding(crate::specs::LineTables::lines_at))]
 fn read_ahead<'a>(
     alloc: Global,
@@ -103,14 +103,14 @@ fn read_ahead<'a>(
     Ok(lines)
 }
 
-/// Reads the line table at an offset in `.debug_line`: the offset of a unit whose root stands at `place` of `.debug_info`.
-/// `comp_dir` is the unit's compilation directory, empty where it has none. Whether a sequence is code is asked of
-/// `code`, which may be made once for an image. Whoever reads many tables hands in the same `scratch` for each.
+/// Reads the line table at an offset in `.debug_line`, which the root of a unit gives; the root is at `place` in `.debug_info`. `comp_dir` is the
+/// unit's compilation directory, or empty if it has none. `code`, which may be made once for an image, says whether a sequence is code. A caller that
+/// reads many tables passes the same `scratch` for each.
 ///
-/// Versions 2 to 5 are read, in both formats. Faults are in `.debug_line`, but for `OffsetOutside`, which is in `.debug_info` at
-/// `place`. At the table's start: `Ends` where the length leaves the section, `Reserved`, `LineVersion`, and `LineHeader` where a field
-/// of the header cannot be, the program begins after the table, or a count is above the bytes that are left. At their
-/// own places: `Ends`, `LebLong`, `NoZero`, `UnknownForm` and `LineOpcode`.
+/// Versions 2 to 5 are read, in both formats. Faults are in `.debug_line`, except `OffsetOutside`, which is in `.debug_info` at `place`. These faults
+/// are at the table's start: `Ends` if the length leaves the section, `Reserved`, `LineVersion`, and `LineHeader` if a field of the header has an
+/// impossible value, the program begins after the end of the table, or a count is greater than the number of bytes left. These are at their own
+/// places: `Ends`, `LebLong`, `NoZero`, `UnknownForm` and `LineOpcode`.
 #[tactic(auto, using(crate::proofs::LinesLemmas::offset_outside, crate::proofs::LinesLemmas::inside_refused))]
 pub fn read_lines(
     alloc: Global,

@@ -1,4 +1,4 @@
-//! Carrying out an opcode.
+//! Executes opcodes.
 ghost use Rattle.std.specs.Prelude.{◌≡◌, [], ◌∷◌, ◌++◌, IfOk, OnOk};
 ghost use Rattle.line_program.specs.declared.opcode.Opcode.TheVariants.{EndSequence};
 ghost use Rattle.line_program.specs.LineRows.{first_state, row_of, advanced, line_on};
@@ -27,7 +27,7 @@ impl Model for LineSequence {
     ghost view = { λ s. record { rows = s.rows.items; end = s.end } };
 }
 
-/// The state between two opcodes. The list of rows stays from one sequence to the next.
+/// The state between two opcodes. The list of rows is reused for the next sequence.
 #[derive(Drop)]
 pub struct Machine<'a> {
     address: u64,
@@ -51,7 +51,7 @@ impl<'a> Model for Machine<'a> {
     } };
 }
 
-/// A copy of rows, in a list that was used before where there is one.
+/// A copy of rows, in a reused list if there is one.
 fn copy_rows(
     alloc: Global,
     spare: &mut Vec<Vec<Row>>,
@@ -68,7 +68,7 @@ fn copy_rows(
     Ok(copy)
 }
 
-/// An address that goes on by so many instructions.
+/// An address, advanced by `count` instructions.
 #[inline]
 #[tactic(auto, using(crate::proofs::NumberLemmas::sums))]
 fn advance(program: &Program<'_>, address: u64, count: u64) -> u64
@@ -77,7 +77,7 @@ fn advance(program: &Program<'_>, address: u64, count: u64) -> u64
     address.wrapping_add(u64::from(program.minimum_length).wrapping_mul(count))
 }
 
-/// A line that goes on by a number that may be negative.
+/// A line, advanced by a number that may be negative.
 #[inline]
 #[tactic(auto, using(crate::proofs::NumberLemmas::line_goes))]
 fn advance_line(line: u32, by: i64) -> u32
@@ -88,7 +88,7 @@ fn advance_line(line: u32, by: i64) -> u32
 }
 
 impl<'a> Machine<'a> {
-    /// In front of the first opcode. The rows of each sequence, and the sequences, are gathered in lists that are handed in.
+    /// The state before the first opcode. The rows of each sequence, and the sequences, are gathered in the given lists.
     pub fn new(alloc: Global, mut rows: Vec<Row>, mut sequences: Vec<LineSequence>) -> Machine<'a>
         ensures { result ≡ first_state }
     {
@@ -104,7 +104,7 @@ impl<'a> Machine<'a> {
         }
     }
 
-    /// The sequences that ended, the files that were defined, and the list in which rows were gathered.
+    /// The sequences that have ended, the files that were defined, and the list in which rows were gathered.
     pub fn into_parts(self) -> (Vec<LineSequence>, Vec<FileEntry<'a>>, Vec<Row>)
         ensures sequences { result.0.items ≡ self.entry.sequences }
         ensures files { result.1.items ≡ self.entry.files }
@@ -120,7 +120,7 @@ impl<'a> Machine<'a> {
         (sequences, files, rows)
     }
 
-    /// Adds the row of the registers. No table has so many files as the greatest number that a row keeps.
+    /// Adds the row of the registers. A file number above 2^32 - 1 is stored as 2^32 - 1; no table has that many files.
     #[inline]
     fn push_row(&mut self) -> Result<(), OutOfMemory>
         ensures { OnOk result (self.new ≡ record self.old { rows = self.old.rows ++ kept_row (row_of self.old.registers) ∷ [] }) }
@@ -138,7 +138,7 @@ impl<'a> Machine<'a> {
         Ok(())
     }
 
-    /// Ends the sequence, whose rows may go into a spare list, and begins another.
+    /// Ends the sequence, whose rows may be stored in a spare list, and begins another.
     #[tactic(auto, unfolding(crate::specs::internal::KeptRows::carried_kept, crate::specs::LineRows::carried, crate::specs::LineRows::moved))]
     fn end_sequence(
         &mut self,
@@ -160,7 +160,7 @@ impl<'a> Machine<'a> {
         Ok(())
     }
 
-    /// Carries out an opcode.
+    /// Executes an opcode.
     #[inline]
     #[tactic(auto, unfolding(crate::specs::internal::KeptRows::carried_kept, crate::specs::LineRows::carried, crate::specs::LineRows::moved))]
     pub fn carry_out(

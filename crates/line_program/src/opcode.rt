@@ -1,10 +1,10 @@
-//! The opcodes of a line number program (DWARF 5, 6.2.5), by the standard's names.
+//! The opcodes of a line number program (DWARF 5, 6.2.5), with the standard's names.
 use crate::file_entry::FileEntry;
 
 /// One opcode with its operands.
 #[derive(Drop)]
 pub enum Opcode<'a> {
-    /// A special opcode, less the opcode base.
+    /// A special opcode, minus opcode_base.
     Special { adjusted: u8 },
     Copy,
     AdvancePc { by: u64 },
@@ -19,12 +19,12 @@ pub enum Opcode<'a> {
     SetEpilogueBegin,
     SetIsa { isa: u64 },
 
-    /// A standard opcode that is not known; its operands are passed.
+    /// An unknown standard opcode; its operands are skipped.
     UnknownStandard,
     EndSequence,
     SetAddress { address: u64 },
     DefineFile(FileEntry<'a>),
 
-    /// `DW_LNE_set_discriminator`, or an extended opcode that is not known; its bytes are passed.
+    /// `DW_LNE_set_discriminator`, or an unknown extended opcode; its bytes are skipped.
     OtherExtended,
 }

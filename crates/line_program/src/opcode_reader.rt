@@ -1,4 +1,4 @@
-//! Reading an opcode.
+//! Reads opcodes.
 ghost use Rattle.std.specs.Prelude.{◌≡◌, ◌<◌, ◌≤◌, length};
 ghost use Rattle.leb_cursor.specs.Ahead.{gave};
 ghost use Rattle.abbrev_units.specs.Faults.{left_by};
@@ -16,7 +16,7 @@ use code_table::{
 };
 use leb_cursor::Cursor;
 
-/// Passes over so many unsigned operands.
+/// Skips `count` unsigned operands.
 #[tactic(auto, using(crate::proofs::ReadLemmas::pass_none, crate::proofs::ReadLemmas::pass_more, crate::proofs::ReadLemmas::pass_cut))]
 fn pass_operands(cursor: &mut Cursor<'_>, count: u8) -> Result<(), LineFault>
     ensures { left_by result cursor.new ≡ pass_ulebs count cursor.old }
@@ -27,7 +27,7 @@ fn pass_operands(cursor: &mut Cursor<'_>, count: u8) -> Result<(), LineFault>
     Ok(())
 }
 
-/// Reads what stands after a file's path.
+/// Reads the fields after a file's path.
 #[tactic(auto, unfolding(crate::specs::Opcodes::file_behind))]
 pub fn read_file_behind<'a>(
     cursor: &mut Cursor<'a>,
@@ -65,7 +65,7 @@ fn read_set_address<'a>(
     Ok(Opcode::SetAddress { address })
 }
 
-/// Reads an extended opcode from its own number on.
+/// Reads an extended opcode after its length.
 #[tactic(auto, unfolding(crate::specs::Opcodes::extended_of, crate::specs::Opcodes::extended_in))]
 fn read_part<'a>(
     mut cursor: Cursor<'a>,
@@ -85,7 +85,7 @@ fn read_part<'a>(
     }
 }
 
-/// Reads what stands after the zero byte of an extended opcode.
+/// Reads an extended opcode after its zero byte.
 #[tactic(auto, unfolding(crate::specs::Opcodes::extended_at))]
 fn read_extended<'a>(
     cursor: &mut Cursor<'a>,
@@ -111,7 +111,7 @@ macro_rules! read {
     }};
 }
 
-/// Reads what stands after the byte of a standard opcode.
+/// Reads a standard opcode after its first byte.
 #[inline]
 #[tactic(auto, unfolding(crate::specs::Opcodes::standard_at))]
 fn read_standard<'a>(

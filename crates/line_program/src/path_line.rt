@@ -5,7 +5,7 @@ ghost use Rattle.line_program.specs.internal.Numbered.{number_of, numbered_line_
 use crate::row::Row;
 use std::mem::size_of;
 
-/// The number of a path, and a line of that file; a line of 0 is none. 8 bytes.
+/// The number of a path, and a line of that file; line 0 means no line. 8 bytes.
 #[derive(Clone, Copy, Debug, PartialEq, Eq)]
 pub struct PathLine {
     pub path: u32,
@@ -16,7 +16,7 @@ const _: () = prove!(size_of::<PathLine>() == 8);
 
 pub const NO_LINE: PathLine = PathLine { path: 0, line: 0 };
 
-/// The number of a file's path, where the table has that file.
+/// The number of a file's path, if the table has a file with that number.
 #[inline]
 pub fn number_of(first: u32, numbers: &[u32], file: u32) -> Option<u32>
     ensures { result ≡ number_of first numbers.now file }

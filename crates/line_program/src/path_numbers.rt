@@ -1,4 +1,4 @@
-//! Numbers for the paths of files, each path once.
+//! Numbers the paths of files, each path once.
 ghost use Rattle.std.specs.Prelude.{◌≡◌, ◌<◌, ◌≤◌, ◌^◌, length, IfOk};
 ghost use Rattle.leb_cursor.specs.Readings.{fixed_sum};
 ghost use Rattle.line_program.specs.LineMaps.{distinct_paths, AreDistinct};
@@ -9,14 +9,14 @@ use std::alloc::Global;
 use std::collections::BTreeMap;
 use sym_edges::OutOfMemory;
 
-/// Where each path first stands among the files' paths, and the number of each file's path.
+/// The index of each path's first file, and for each file the number of its path.
 #[derive(Drop)]
 pub(crate) struct Numbering {
     pub firsts: Vec<u32>,
     pub files: Vec<u32>,
 }
 
-/// The number of eight bytes at the front, the lowest first.
+/// The first eight bytes as a number, the lowest byte first.
 #[inline]
 #[tactic(auto, unfolding(leb_cursor::specs::Readings::fixed_sum))]
 fn word_of(bytes: &[u8]) -> u64
@@ -28,7 +28,7 @@ fn word_of(bytes: &[u8]) -> u64
     ])
 }
 
-/// The last eight bytes of a path as a number, or 0 where there are fewer.
+/// The last eight bytes of a path as a number, or 0 for a shorter path.
 #[inline]
 #[tactic(auto, unfolding(crate::specs::internal::Numbering::ending_of))]
 fn ending_of(text: &[u8]) -> u64
@@ -40,7 +40,7 @@ fn ending_of(text: &[u8]) -> u64
     word_of(text.split_at(text.len() - 8).1)
 }
 
-/// Numbers paths in the order of the first file that has each.
+/// Numbers paths in the order in which the files first have them.
 pub(crate) fn number_paths(alloc: Global, texts: &FlatLists<u8>) -> Result<Numbering, OutOfMemory>
     requires { length texts.now < 2 ^ 32 }
     ensures paths { IfOk result (λ n. picked texts.now n.firsts.items ≡ distinct_paths texts.now) }
@@ -50,7 +50,7 @@ pub(crate) fn number_paths(alloc: Global, texts: &FlatLists<u8>) -> Result<Numbe
 {
     let mut firsts = Vec::with_capacity(alloc, texts.len())?;
     let mut files = Vec::with_capacity(alloc, texts.len())?;
-    // By their ends first, since many paths begin alike.
+    // Compared by their ends first, since many paths begin alike.
     let mut numbers: BTreeMap<(u64, &[u8]), u32> = BTreeMap::new(alloc);
     'files: for file in 0..texts.len() {
         let text = texts.at(file);

@@ -9,10 +9,10 @@ use std::alloc::Global;
 use std::marker::Model;
 use sym_edges::OutOfMemory;
 
-/// Most paths are shorter.
+/// Most paths are no longer than 64 bytes.
 const USUAL: usize = 64;
 
-/// The texts in which the path of a file is made: that of its directory, the path, and the path cleaned.
+/// The texts in which the path of a file is made: the path of its directory, the joined path, and the cleaned path.
 #[derive(Drop)]
 pub struct PathTexts {
     directory: Vec<u8>,
@@ -30,7 +30,7 @@ impl PathTexts {
     }
 }
 
-/// The directories of a table, by their numbers: the first one, and those that stand in it.
+/// The directories of a table, from number 0 on: the first one, and those that are relative to it.
 #[derive(Drop)]
 pub struct Directories<'t, 'a> {
     some: bool,
@@ -65,7 +65,7 @@ fn ends_in_slash(directory: &[u8]) -> bool
     }
 }
 
-/// Writes a text over another.
+/// Replaces a text by `bytes`.
 fn put_text(text: &mut Vec<u8>, bytes: &[u8]) -> Result<(), OutOfMemory>
     ensures { OnOk result (text.new.items ≡ bytes.now) }
 {
@@ -74,7 +74,7 @@ fn put_text(text: &mut Vec<u8>, bytes: &[u8]) -> Result<(), OutOfMemory>
     Ok(())
 }
 
-/// Writes a path in a directory over a text.
+/// Replaces a text by a path in a directory.
 #[tactic(auto, unfolding(crate::specs::Paths::joined))]
 fn put_joined(text: &mut Vec<u8>, directory: &[u8], path: &[u8]) -> Result<(), OutOfMemory>
     ensures { OnOk result (text.new.items ≡ joined directory.now path.now) }
@@ -96,7 +96,7 @@ fn put_joined(text: &mut Vec<u8>, directory: &[u8], path: &[u8]) -> Result<(), O
     Ok(())
 }
 
-/// The first directory of version 5, in a text where it is joined.
+/// Directory 0 of version 5; if it has to be joined, it is made in a text.
 #[tactic(auto, unfolding(crate::specs::Paths::root_of))]
 fn root_of<'t>(
     text: &'t mut Vec<u8>,
@@ -113,7 +113,7 @@ fn root_of<'t>(
 }
 
 impl<'t, 'a> Directories<'t, 'a> {
-    /// The directories that a table has in a unit with that compilation directory; a text holds the first where it is joined.
+    /// The directories of a table, given the unit's compilation directory; if the first one has to be joined, it is made in a text.
     #[tactic(auto, unfolding(crate::specs::Paths::directories_of))]
     pub fn of(
         text: &'t mut Vec<u8>,
@@ -147,7 +147,7 @@ impl<'t, 'a> Directories<'t, 'a> {
         }
     }
 
-    /// Writes the path of a file over a text; `directory` holds that of its directory meanwhile.
+    /// Replaces a text by the path of a file; the path of its directory is made in `directory`.
     #[tactic(auto, using(crate::proofs::PathLemmas::none_there, crate::proofs::PathLemmas::root_there, crate::proofs::PathLemmas::entry_there, crate::proofs::PathLemmas::entry_missing))]
     fn put_path(
         &self,
@@ -178,7 +178,7 @@ impl<'t, 'a> Directories<'t, 'a> {
         }
     }
 
-    /// The paths of files, cleaned.
+    /// The cleaned paths of files.
     #[tactic(auto, unfolding(crate::specs::Paths::file_path))]
     pub fn paths_of(
         &self,

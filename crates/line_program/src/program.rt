@@ -1,9 +1,9 @@
-//! What the header of a line table says of its program.
+//! The fields of a line table's header that its program depends on.
 ghost use Rattle.std.specs.Prelude.{◌≡◌, ◌+◌, ◌/◌, ◌%◌, ◌<◌};
 
 use std::marker::Model;
 
-/// The parts of the header by which the program is read (DWARF 5, 6.2.4).
+/// The fields of the header that the program is read with (DWARF 5, 6.2.4).
 #[derive(Drop)]
 pub struct Program<'a> {
     pub version: u16,
@@ -12,10 +12,10 @@ pub struct Program<'a> {
     pub line_range: u8,
     pub opcode_base: u8,
 
-    /// By this a special opcode is divided by `line_range`.
+    /// The factor by which special opcodes are divided by `line_range`.
     pub line_factor: u32,
 
-    /// How many operands each standard opcode has, from opcode 1 on.
+    /// The number of operands of each standard opcode, from opcode 1 on.
     pub lengths: &'a [u8],
 }
 
@@ -37,7 +37,7 @@ impl<'a> Model for Program<'a> {
     ghost invariant = { λ p. (0 < p.line_range) × (length p.lengths.now + 1 ≡ p.opcode_base) × (p.line_factor ≡ 65535 / p.line_range + 1) };
 }
 
-/// Quotient and rest of a byte by another, with the other's factor: a multiplication and a shift.
+/// Quotient and remainder of a byte by another, given the factor of the latter: a multiplication and a shift.
 #[inline]
 fn divided(number: u8, by: u8, factor: u32) -> (u8, u8)
     requires some { 0 < by }
@@ -50,7 +50,7 @@ fn divided(number: u8, by: u8, factor: u32) -> (u8, u8)
 }
 
 impl<'a> Program<'a> {
-    /// What a special opcode says of the address and of the line: quotient and rest by `line_range`.
+    /// The quotient of a special opcode by `line_range`, for the address, and the remainder, for the line.
     #[inline]
     pub fn divide(&self, adjusted: u8) -> (u8, u8)
         ensures quotient { result.0 ≡ adjusted / self.now.line_range }

@@ -1,7 +1,7 @@
-//! What a line number program makes.
+//! The rows that a line number program gives.
 use std::mem::size_of;
 
-/// A row of a line table: from its address on the code is of this file and line. 16 bytes.
+/// A row of a line table: the code from its address on has this file and line. 16 bytes.
 #[derive(Clone, Copy, Debug, PartialEq, Eq)]
 pub struct Row {
     pub address: u64,

@@ -1,4 +1,4 @@
-//! The sequences that count, with their rows in order.
+//! Sequences that count, with their rows in order.
 ghost use Rattle.std.specs.Prelude.{◌≡◌, ℕ, OnOk};
 ghost use Rattle.std.specs.Bool.{OnTrue};
 ghost use Rattle.line_program.specs.LineAt.{least_address, row_at};
@@ -8,7 +8,7 @@ use crate::row::Row;
 use std::marker::Model;
 use sym_edges::OutOfMemory;
 
-/// A sequence that counts: the addresses from `first` to `last`, both included, and its rows in the order of theirs.
+/// A sequence that counts: the addresses from `first` to `last`, both included, and its rows in the order of their addresses.
 #[derive(Drop)]
 pub struct CountedSequence {
     pub first: u64,
@@ -27,7 +27,7 @@ impl Model for CountedSequence {
     ghost invariant = { λ s. (s.first ≤ s.last) × SortedFrom 0 s.rows.items };
 }
 
-/// The lesser of an address and the least so far.
+/// The lesser of an address and the least address so far.
 #[inline]
 fn lesser(least: Option<u64>, address: u64) -> Option<u64>
     ensures { result ≡ least_step least address }
@@ -38,7 +38,7 @@ fn lesser(least: Option<u64>, address: u64) -> Option<u64>
     }
 }
 
-/// The least address of rows.
+/// The least address of some rows.
 pub fn least_address(rows: &[Row]) -> Option<u64>
     ensures { result ≡ least_address rows.now }
 {
@@ -49,7 +49,7 @@ pub fn least_address(rows: &[Row]) -> Option<u64>
     least
 }
 
-/// Whether no row has an address below that of the one before it.
+/// Whether no row has a lower address than the row before it.
 fn are_sorted(rows: &[Row]) -> bool
     ensures { OnTrue result (SortedFrom 0 rows.now) }
 {
@@ -63,7 +63,7 @@ fn are_sorted(rows: &[Row]) -> bool
     true
 }
 
-/// Brings rows in the order of their addresses; those of one address stay in their order.
+/// Sorts rows by their addresses; rows with the same address stay in their order.
 pub fn sort_rows(rows: &mut Vec<Row>) -> Result<(), OutOfMemory>
     ensures same { OnOk result ((a : ℕ) → row_at rows.new.items a ≡ row_at rows.old.items a) }
     ensures sorted { OnOk result (SortedFrom 0 rows.new.items) }

@@ -1,4 +1,4 @@
-//! Memory in which line tables are read one after another.
+//! Memory that is reused for one line table after another.
 
 use crate::machine::LineSequence;
 use crate::paths::PathTexts;
@@ -8,8 +8,7 @@ use crate::tables::FormatLists;
 use std::alloc::Global;
 use step_maps::Stretch;
 
-/// Lists and texts that each table fills again, so that memory is taken once for many tables. What they held before changes
-/// nothing.
+/// Lists and texts whose memory is reused for each table, so that it is allocated once for many tables. Their old content does not matter.
 #[derive(Drop)]
 pub struct LineScratch {
     pub(crate) formats: FormatLists,
@@ -23,7 +22,7 @@ pub struct LineScratch {
 }
 
 impl LineScratch {
-    /// Takes no memory.
+    /// Allocates no memory.
     pub fn new(alloc: Global) -> LineScratch {
         LineScratch {
             formats: FormatLists::new(alloc),

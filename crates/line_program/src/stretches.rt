@@ -12,10 +12,10 @@ use range_set::Enclosing;
 use step_maps::Stretch;
 use sym_edges::OutOfMemory;
 
-/// How many lists of rows are kept for the next table at most.
+/// The greatest number of lists of rows that are kept for the next table.
 const SPARE: usize = 16;
 
-/// Keeps a sequence, with its rows in order, where it counts.
+/// Keeps a sequence, with its rows in order, if it counts.
 #[tactic(auto, using(crate::proofs::CountLemmas::not_kept, crate::proofs::CountLemmas::not_code))]
 fn count_sequence(
     code: &Enclosing,
@@ -44,7 +44,7 @@ fn count_sequence(
     Ok(())
 }
 
-/// Writes the sequences that count, in their order, over others.
+/// Replaces `kept` by the sequences that count, in their order.
 pub fn count_sequences(
     code: &Enclosing,
     sequences: &mut Vec<LineSequence>,
@@ -60,7 +60,7 @@ pub fn count_sequences(
     Ok(())
 }
 
-/// Drops sequences, and keeps the lists of some of their rows.
+/// Drops sequences, but keeps the lists of rows of some.
 pub fn keep_lists(
     kept: &mut Vec<CountedSequence>,
     spare: &mut Vec<Vec<Row>>,
@@ -80,7 +80,7 @@ pub fn keep_lists(
     Ok(())
 }
 
-/// Writes the addresses of sequences that count, with the sequences' numbers, over others.
+/// Replaces `stretches` by the addresses of the sequences that count, with the sequences' indices.
 #[tactic(auto, using(crate::proofs::TableLemmas::stretches_begin, crate::proofs::TableLemmas::stretches_more, crate::proofs::TableLemmas::stretches_all, step_maps::proofs::StretchLemmas::stretches_push))]
 pub fn put_stretches(
     stretches: &mut Vec<Stretch>,

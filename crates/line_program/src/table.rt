@@ -47,7 +47,7 @@ impl Model for LineTable {
     ghost invariant = { λ t. IsLineMap t.lines t.texts t.firsts.items t.files.items };
 }
 
-/// Path number and line, where there is a line.
+/// Path number and line, if there is a line.
 #[inline]
 fn shown(at: PathLine) -> Option<(u32, u32)>
     ensures { result ≡ shown at }
@@ -58,7 +58,7 @@ fn shown(at: PathLine) -> Option<(u32, u32)>
     Some((at.path, at.line))
 }
 
-/// What a line table says: its sequences, the number of its first file, and the files' paths.
+/// The content of a line table: its sequences, the number of its first file, and the files' paths.
 #[derive(Drop)]
 pub(crate) struct Lines {
     pub sequences: Vec<LineSequence>,
@@ -115,7 +115,7 @@ fn paint_counted(
 }
 
 impl LineTable {
-    /// A table without lines and without files, for a unit that has none. Takes no memory.
+    /// A table without lines and without files, for a unit without a line table. Allocates no memory.
     pub fn empty(alloc: Global) -> LineTable
         ensures { result ≡ record { lines = record { stops = []; values = [] }; paths = []; first = 0; files = [] } }
     {
@@ -166,8 +166,8 @@ impl LineTable {
         })
     }
 
-    /// Path number and line of an address, by a search of halves; none where no sequence that is code has the address,
-    /// its row has no line, or the table has not its file. Takes no memory.
+    /// Path number and line of an address, by binary search; none if no sequence that is code covers the address, the row has no line, or the table
+    /// does not have the row's file. Allocates no memory.
     pub fn line_at(&self, a: u64) -> Option<(u32, u32)>
         ensures line { result ≡ numbered_line self.now a }
         ensures known { a < 2 ^ 64 → IfSome result (λ line. line.0 < length self.now.paths) }
@@ -175,7 +175,7 @@ impl LineTable {
         shown(self.lines.at(NO_LINE, a))
     }
 
-    /// The addresses at which the line may change, rising. Takes no memory.
+    /// The addresses at which the line may change, ascending. Allocates no memory.
     pub fn stops(&self) -> &[u64]
         ensures same { result.now ≡ self.now.lines.stops }
         ensures rising { RisesFrom 0 self.now.lines.stops }
@@ -183,7 +183,7 @@ impl LineTable {
         self.lines.stops()
     }
 
-    /// Path number and line at a stop, which hold up to the next one. Takes no memory.
+    /// Path number and line from a stop up to the next one. Allocates no memory.
     pub fn line_from(&self, stop: usize) -> Option<(u32, u32)>
         requires { stop < length self.now.lines.stops }
         ensures line { result ≡ numbered_line self.now (slice_index self.now.lines.stops stop) }
@@ -194,15 +194,15 @@ impl LineTable {
         shown(values[stop])
     }
 
-    /// How many paths the table has: they are numbered from 0. Takes no memory.
+    /// The number of paths of the table; they are numbered from 0. Allocates no memory.
     pub fn path_count(&self) -> usize
         ensures { result ≡ length self.now.paths }
     {
         self.firsts.len()
     }
 
-    /// The path of a number, cleaned: two numbers have two paths. The table has the numbers that `line_at`, `line_from` and
-    /// `file` give. Takes no memory.
+    /// The cleaned path with a number; two numbers have different paths. The table has the numbers that `line_at`, `line_from` and `file` return.
+    /// Allocates no memory.
     pub fn path(&self, number: u32) -> &[u8]
         requires { number < length self.now.paths }
         ensures path { Some result.now ≡ slice_get self.now.paths number }
@@ -212,8 +212,8 @@ impl LineTable {
         self.texts.at(place as usize)
     }
 
-    /// The number of the path of a file, where the table has that file: files are numbered from 1 in versions 2 to 4, and
-    /// from 0 in version 5. Takes no memory.
+    /// The number of a file's path, if the table has a file with that number. Files are numbered from 1 in versions 2 to 4, and from 0 in version 5.
+    /// Allocates no memory.
     pub fn file(&self, index: u64) -> Option<u32>
         ensures number { result ≡ numbered_file self.now index }
         ensures known { IfSome result (λ number. number < length self.now.paths) }

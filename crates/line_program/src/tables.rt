@@ -19,10 +19,10 @@ use std::alloc::Global;
 use std::marker::Model;
 use sym_edges::OutOfMemory;
 
-/// Most tables have no more entries.
+/// Most tables have no more than 512 entries.
 const USUAL: usize = 512;
 
-/// The pairs of a format of version 5, and those of them by which entries are read.
+/// The pairs of a format of version 5, and the pairs among them that change entries.
 #[derive(Drop)]
 pub struct FormatLists {
     pairs: Vec<EntryFormat>,
@@ -38,8 +38,8 @@ impl FormatLists {
     }
 }
 
-/// What entries of version 5 are read with: the sections that have their paths, the place at which the line table starts, and
-/// whether its format is the 64-bit one.
+/// What is needed to read entries of version 5: the sections that have their paths, the place at which the line table starts, and whether its format
+/// is the 64-bit one.
 #[derive(Drop)]
 struct EntrySource<'s, 'a> {
     alloc: Global,
@@ -63,7 +63,7 @@ impl<'a> Model for Tables<'a> {
     ghost view = { λ t. record { directories = t.directories.items; files = t.files.items } };
 }
 
-/// Reads a list of versions 2 to 4, up to the empty text that ends it.
+/// Reads a list of versions 2 to 4, up to the empty path that ends it.
 #[tactic(auto, using(crate::proofs::EntryLemmas::list_begins, crate::proofs::EntryLemmas::list_one, crate::proofs::EntryLemmas::list_done, crate::proofs::EntryLemmas::list_cut, crate::proofs::EntryLemmas::list_shorter))]
 fn read_old_entries<'a>(
     alloc: Global,
@@ -82,7 +82,7 @@ fn read_old_entries<'a>(
     }
 }
 
-/// Reads so many pairs of a format over others.
+/// Replaces `pairs` by the next `count` pairs of a format.
 #[tactic(auto, using(crate::proofs::EntryLemmas::pairs_begin, crate::proofs::EntryLemmas::pairs_one, crate::proofs::EntryLemmas::pairs_done, crate::proofs::EntryLemmas::pairs_cut))]
 fn read_some_pairs(cursor: &mut Cursor<'_>, pairs: &mut Vec<EntryFormat>, count: u8) -> Reading<()>
     ensures { IfOk result (λ read. gave_as (λ u. pairs.new.items) read cursor.new ≡ several_at pair_at count cursor.old) }
@@ -97,7 +97,7 @@ fn read_some_pairs(cursor: &mut Cursor<'_>, pairs: &mut Vec<EntryFormat>, count:
     Ok(Ok(()))
 }
 
-/// Reads the pairs of a format, after their count, over others.
+/// Replaces `pairs` by the pairs of a format, which come after their count.
 #[tactic(auto, unfolding(crate::specs::FileTables::pairs_at))]
 fn read_pairs(cursor: &mut Cursor<'_>, pairs: &mut Vec<EntryFormat>) -> Reading<()>
     ensures { IfOk result (λ read. gave_as (λ u. pairs.new.items) read cursor.new ≡ pairs_at cursor.old) }
@@ -108,15 +108,14 @@ fn read_pairs(cursor: &mut Cursor<'_>, pairs: &mut Vec<EntryFormat>) -> Reading<
     }
 }
 
-/// Whether a content was seen before or is this one.
+/// Whether a content type was seen before or is this one.
 fn is_seen(before: bool, content: u64, of: u64) -> bool
     ensures { result ≡ (before || (content == of)) }
 {
     before || content == of
 }
 
-/// Writes over others the pairs by which entries are read: of those whose values take no bytes only the first of a content
-/// that is asked for.
+/// Replaces `kept` by the pairs that change entries: of the pairs whose values have no bytes only the first one of a path or a directory.
 #[tactic(auto, using(crate::proofs::NeededLemmas::needed_begins, crate::proofs::NeededLemmas::needed_idle, crate::proofs::NeededLemmas::needed_one, crate::proofs::NeededLemmas::needed_all))]
 fn keep_needed(kept: &mut Vec<EntryFormat>, pairs: &[EntryFormat]) -> Result<(), OutOfMemory>
     ensures { OnOk result (kept.new.items ≡ needed false false pairs.now) }
@@ -136,7 +135,7 @@ fn keep_needed(kept: &mut Vec<EntryFormat>, pairs: &[EntryFormat]) -> Result<(),
     Ok(())
 }
 
-/// Reads so many entries of version 5, of which there are no more than bytes.
+/// Reads `count` entries of version 5; there may be no more entries than bytes left.
 #[tactic(auto, using(crate::proofs::EntryLemmas::entries_begin, crate::proofs::EntryLemmas::entries_one, crate::proofs::EntryLemmas::entries_done, crate::proofs::EntryLemmas::entries_cut), unfolding(crate::specs::FileTables::counted_at))]
 fn read_counted<'a>(
     source: &EntrySource<'_, 'a>,
@@ -216,7 +215,7 @@ fn read_new_tables<'a>(
     }
 }
 
-/// Reads the tables of the header of a table that starts at `start`.
+/// Reads the tables of a line table that starts at `start`, given its header.
 #[tactic(auto, unfolding(crate::specs::FileTables::tables_at))]
 pub fn read_tables<'a>(
     alloc: Global,

@@ -1,7 +1,6 @@
 use Rattle.std.specs.Prelude.{ℕ, List, Option}
 
--- the addresses of a unit by their number (DWARF 5, 7.27), as an entry asks for them: the bytes of `.debug_addr`, the unit's addr_base,
--- and the place of the entry
+-- the table in which an entry finds addresses by index (DWARF 5, 7.27): the bytes of `.debug_addr`, the unit's addr_base, and the place of the entry
 pub record AddressTable : Type 0 where
   pub bytes : List ℕ
   pub base : Option ℕ

@@ -23,11 +23,11 @@ use Rattle.range_lists.specs.AddressTable.{AddressTable}
 use Rattle.range_lists.specs.Places.{entry_fault, ahead_in, number_there, address_of}
 use Rattle.range_lists.specs.ListPairs.{moved, list_pairs}
 
--- the addresses by their number, as an entry asks for them
+-- the address table for the entry at the place `at`
 abbrev pub addresses_for : DebugSections → RootFields → ℕ → AddressTable
 addresses_for sections root at = record { bytes = sections.addr; base = root.addr_base; at = at }
 
--- the address from which the offsets of a unit's lists count: the root's low address, or 0 (DWARF 5, 3.1.1)
+-- the base of a unit, from which the offsets in its lists count: the root's low address, or 0 (DWARF 5, 3.1.1)
 abbrev pub base_by : DebugSections → RootFields → Option Value → Result ℕ (Located DwarfKind)
 base_by sections root None = Ok 0
 base_by sections root (Some low) = address_of (addresses_for sections root root.at) low >>= λ address. Ok (unwrap_or address 0)
@@ -35,17 +35,17 @@ base_by sections root (Some low) = address_of (addresses_for sections root root.
 unfoldable pub unit_base : DebugSections → RootFields → Result ℕ (Located DwarfKind)
 unit_base sections root = base_by sections root root.low
 
--- the lists of a unit stand in `.debug_ranges`, and from version 5 on in `.debug_rnglists`
+-- the section of a unit's lists: `.debug_ranges` before version 5, `.debug_rnglists` from version 5 on
 abbrev pub list_bytes : DebugSections → Unit → List ℕ
 list_bytes sections unit = if nat_lt unit.version 5 then sections.ranges else sections.rnglists
 
--- the place of a list by its number (DWARF 5, 7.28): from rnglists_base on stand places that count from there
+-- the place of a list, given its index (DWARF 5, 7.28): an array at rnglists_base has the offset of each list from rnglists_base
 abbrev pub list_by_number : DebugSections → Unit → Option ℕ → ℕ → ℕ → Result ℕ (Located DwarfKind)
 list_by_number sections unit None at index = Err (entry_fault is.NoBase at)
 list_by_number sections unit (Some base) at index =
     number_there section.Rnglists (place_width unit.wide) sections.rnglists at (base + place_width unit.wide * index) >>= λ offset. Ok (base + offset)
 
--- the place of an entry's list, where it has one: before version 5 lists have no numbers
+-- the place of an entry's list, if the entry has a list; before version 5 a list cannot be given by index
 unfoldable pub list_place : DebugSections → Unit → RootFields → ℕ → Option Value → Result (Option ℕ) (Located DwarfKind)
 list_place sections unit root at (Some (value.SecOffset place)) = Ok (Some place)
 list_place sections unit root at (Some (value.Num place)) = Ok (Some place)
@@ -53,7 +53,7 @@ list_place sections unit root at (Some (value.ListIndex index)) =
     if nat_lt unit.version 5 then Ok None else (list_by_number sections unit root.rnglists_base at index >>= λ place. Ok (Some place))
 list_place sections unit root at _ = Ok None
 
--- an entry's list, where it has one
+-- the bytes from the start of an entry's list on, if the entry has a list
 abbrev pub list_from : List ℕ → ℕ → Option ℕ → Result (Option Ahead) (Located DwarfKind)
 list_from bytes at None = Ok None
 list_from bytes at (Some place) = ahead_in bytes at place >>= λ list. Ok (Some list)
@@ -61,13 +61,13 @@ list_from bytes at (Some place) = ahead_in bytes at place >>= λ list. Ok (Some 
 unfoldable pub list_of : DebugSections → Unit → RootFields → ℕ → Option Value → Result (Option Ahead) (Located DwarfKind)
 list_of sections unit root at ranges = list_place sections unit root at ranges >>= λ place. list_from (list_bytes sections unit) at place
 
--- the end of the range from a start on (DWARF 5, 2.17.2): an address, or what is added to the start
+-- the end of the range that begins at `start` (DWARF 5, 2.17.2): DW_AT_high_pc is an address, or a number that is added to the start
 unfoldable pub end_of : AddressTable → ℕ → Value → Result (Option ℕ) (Located DwarfKind)
 end_of table start (value.Num len) = Ok (Some (moved start len))
 end_of table start (value.Signed len) = Ok (Some (moved start (cast_unsigned w64 len)))
 end_of table start high = address_of table high
 
--- the pair from a start to an end
+-- the pair of a start and an end, if both are there
 abbrev pub pair_by : ℕ → Option ℕ → List Range
 pair_by start None = []
 pair_by start (Some end) = record { start = start; end = end } ∷ []
@@ -76,70 +76,70 @@ abbrev pub pair_from : AddressTable → Option ℕ → Value → Result (List Ra
 pair_from table None high = Ok []
 pair_from table (Some start) high = end_of table start high >>= λ end. Ok (pair_by start end)
 
--- the pair of low_pc and high_pc, where both are there
+-- the pair of low_pc and high_pc, if the entry has both
 abbrev pub bounds_by : AddressTable → Option Value → Option Value → Result (List Range) (Located DwarfKind)
 bounds_by table (Some low) (Some high) = address_of table low >>= λ start. pair_from table start high
 bounds_by table (Some low) None = Ok []
 bounds_by table None high = Ok []
 
--- the pairs of an entry: those of its list, or else low_pc and high_pc
+-- the pairs of an entry: those of its list or, without a list, low_pc and high_pc
 abbrev pub pairs_by : AddressTable → ℕ → ℕ → DieFields → Option Ahead → Result (List Range) (Located DwarfKind)
 pairs_by table version base die (Some list) = list_pairs version table base list
 pairs_by table version base die None = bounds_by table die.low die.high
 
--- the pairs that an entry gives, or its first fault; an entry that does not count gives none. `base` is the unit's
+-- the pairs that an entry gives, or its first fault; an entry that does not count gives no pairs. `base` is the unit's base
 unfoldable pub pairs_of : DebugSections → Unit → RootFields → ℕ → DieFields → Result (List Range) (Located DwarfKind)
 pairs_of sections unit root base die =
     if counts die
     then (list_of sections unit root die.at die.ranges >>= λ list. pairs_by (addresses_for sections root die.at) unit.version base die list)
     else Ok []
 
--- a pair is code where it is not empty, and one range of the code encloses it
+-- a pair is code if it is not empty and one range of the code encloses it
 abbrev pub is_code : List Range → Range → Bool
 is_code code pair = nat_lt pair.start pair.end && encloses code pair.start pair.end
 
--- whether some pair holds the address and is code
+-- whether the address is in a pair that is code
 abbrev pub in_pairs : List Range → List Range → ℕ → Bool
 in_pairs code [] a = false
 in_pairs code (pair ∷ pairs) a = (is_code code pair && holds pair a) || in_pairs code pairs a
 
--- whether an address is one of those that pairs give, or the first fault
+-- whether an address is in one of the pairs that are code; if the pairs could not be read, their fault
 abbrev pub in_ranges : List Range → Result (List Range) (Located DwarfKind) → ℕ → Result Bool (Located DwarfKind)
 in_ranges code given a = given >>= λ pairs. Ok (in_pairs code pairs a)
 
--- an answer is the set of all addresses in an entry's ranges, or their first fault; out of memory says nothing
+-- a result is the set of all addresses in the given pairs that are code, or the fault of these pairs; out of memory promises nothing
 abbrev pub IsRanges : List Range → Result (List Range) (Stop (Located DwarfKind)) → Result (List Range) (Located DwarfKind) → Type 0
 IsRanges code (Ok set) given = (a : ℕ) → in_ranges code given a ≡ Ok (holds_any set a)
 IsRanges code (Err (Fault fault)) given = given ≡ Err fault
 IsRanges code (Err NoMemory) given = Prim.Unit {0}
 
--- the pairs of the entry of a number; after the last there is none
+-- the pairs of the entry at an index of the table; an index after the last entry has no pairs
 abbrev pub pairs_at : DebugSections → Unit → RootFields → ℕ → Option DieFields → Result (List Range) (Located DwarfKind)
 pairs_at sections unit root base None = Ok []
 pairs_at sections unit root base (Some die) = pairs_of sections unit root base die
 
--- an answer that is no out of memory
+-- the result is not out of memory
 abbrev pub IsGiven : {A F : Type 0} → Result A (Stop F) → Type 0
 IsGiven (Ok x) = Prim.Unit {0}
 IsGiven (Err (Fault fault)) = Prim.Unit {0}
 IsGiven (Err NoMemory) = ⊥
 
--- an entry without DW_AT_ranges, or none
+-- there is no entry, or it has no DW_AT_ranges
 abbrev pub HasNoList : Option DieFields → Type 0
 HasNoList None = Prim.Unit {0}
 HasNoList (Some die) = die.ranges ≡ None
 
--- a place that is told without a fault
+-- a place that was found without a fault
 abbrev pub told_place : Result (Option ℕ) (Located DwarfKind) → Option ℕ
 told_place (Ok place) = place
 told_place (Err fault) = None
 
--- where the list of an entry stands in its section; nowhere where the entry does not count, has no list, or has a fault at its place
+-- the place of an entry's list in its section. There is no place if the entry does not count, has no list, or if finding the place gives a fault
 unfoldable pub place_of_list : DebugSections → Unit → RootFields → DieFields → Option ℕ
 place_of_list sections unit root die =
     if counts die then told_place (list_place sections unit root die.at die.ranges) else None
 
--- where the list of the entry of a number stands; after the last there is none
+-- the place of the list of the entry at an index of the table; an index after the last entry has no place
 abbrev pub listed_at : DebugSections → Unit → RootFields → Option DieFields → Option ℕ
 listed_at sections unit root None = None
 listed_at sections unit root (Some die) = place_of_list sections unit root die

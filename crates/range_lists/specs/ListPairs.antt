@@ -20,12 +20,12 @@ use Rattle.range_lists.specs.AddressTable.{AddressTable}
 use Rattle.range_lists.specs.Places.{address_at}
 use Rattle.range_lists.specs.ListItems.{item_at}
 
--- addresses are added modulo 2^64
+-- the sum of an address and an offset, modulo 2^64
 abbrev pub moved : ℕ → ℕ → ℕ
 moved address offset = (address + offset) % 2 ^ 64
 
--- what an item does, once the addresses that it gives by their numbers are known, the first first: it sets the base, or gives a pair of
--- addresses or a pair of offsets from the base
+-- what an item does: it sets the base, or gives a pair of addresses or a pair of offsets from the base. Addresses that it gives by index are looked
+-- up in order, so the first fault counts
 unfoldable pub effect_of : AddressTable → RangeItem → Result Effect (Located DwarfKind)
 effect_of table (item.BaseAddressx index) = address_at table index >>= λ address. Ok (effect.SetBase address)
 effect_of table (item.StartxEndx first last) =
@@ -36,11 +36,11 @@ effect_of table (item.BaseAddress address) = Ok (effect.SetBase address)
 effect_of table (item.StartEnd start end) = Ok (effect.Absolute start end)
 effect_of table (item.StartLength start len) = Ok (effect.Absolute start (moved start len))
 
--- the section of the lists of a unit of a version
+-- the section of the lists, given the version of the unit
 abbrev pub list_section : ℕ → Sect
 list_section version = if nat_lt version 5 then section.Ranges else section.Rnglists
 
--- the fault of an item of a list
+-- the fault of an item, with its section and place
 unfoldable pub item_fault : Sect → ItemFault → Located DwarfKind
 item_fault section (fault.Cursor f) = in_section section f
 item_fault section (fault.Kind at) = record { kind = is.RangeKind; section = section; at = at }
@@ -49,12 +49,12 @@ abbrev pub in_list : {A : Type 0} → Sect → Result A ItemFault → Result A (
 in_list section (Ok x) = Ok x
 in_list section (Err f) = Err (item_fault section f)
 
--- what an item of a list does; none where the list ends
+-- what an item does; none if the list ends
 abbrev pub effect_by : AddressTable → Option RangeItem → Ahead → Result (Option Effect × Ahead) (Located DwarfKind)
 effect_by table None c = Ok (None, c)
 effect_by table (Some found) c = effect_of table found >>= λ does. Ok (Some does, c)
 
--- what the item that stands ahead does
+-- what the next item does
 unfoldable pub effect_at : ℕ → AddressTable → Ahead → Result (Option Effect × Ahead) (Located DwarfKind)
 effect_at version table c = in_list (list_section version) (item_at version c) >>= λ found. effect_by table found.0 found.1
 
@@ -70,11 +70,11 @@ pair_of base (effect.SetBase address) = []
 pair_of base (effect.Absolute start end) = record { start = start; end = end } ∷ []
 pair_of base (effect.Relative start end) = record { start = moved base start; end = moved base end } ∷ []
 
--- the pairs that items give one after the other, from a base on
+-- the pairs that items give one after another, beginning with the given base
 unfoldable pub pairs_from : ℕ → List Effect → List Range
 pairs_from base [] = []
 pairs_from base (does ∷ later) = pair_of base does ++ pairs_from (base_after base does) later
 
--- the pairs of the list that stands ahead, or the first fault in it
+-- the pairs of the list ahead, or the first fault in the list
 unfoldable pub list_pairs : ℕ → AddressTable → ℕ → Ahead → Result (List Range) (Located DwarfKind)
 list_pairs version table base c = list_at (effect_at version table) c >>= λ effects. Ok (pairs_from base effects.0)

@@ -1,4 +1,4 @@
--- Places in a section to which an entry leads, and numbers that stand there.
+-- Places in a section to which an entry refers, and the numbers at these places.
 use Rattle.std.specs.Prelude.{ℕ, ◌+◌, ◌*◌, nat_lt, if◌then◌else◌, List, length, Option, None, Some, Result, Ok, Err}
 use Rattle.sym_edges.specs.Results.{◌>>=◌}
 use Rattle.sym_edges.specs.declared.located.Located.{Located}
@@ -14,21 +14,20 @@ use Rattle.abbrev_units.specs.Faults.{read_in}
 use Rattle.abbrev_units.specs.Texts.{ahead_from}
 use Rattle.range_lists.specs.AddressTable.{AddressTable}
 
--- a fault of the entry that stands at a place of `.debug_info`
+-- a fault of an entry, given the place of the entry in `.debug_info`
 abbrev pub entry_fault : DwarfKind → ℕ → Located DwarfKind
 entry_fault kind at = record { kind = kind; section = section.Info; at = at }
 
--- a section from the place on to which an entry leads: a place after the end is a fault of the entry
+-- the bytes of a section from `place` on, to which the entry at `at` refers; a place after the end is a fault of the entry
 unfoldable pub ahead_in : List ℕ → ℕ → ℕ → Result Ahead (Located DwarfKind)
 ahead_in bytes at place = if nat_lt (length bytes) place then Err (entry_fault is.OffsetOutside at) else Ok (ahead_from place bytes)
 
--- the number of so many bytes that stands there
+-- the number of `width` bytes at such a place
 unfoldable pub number_there : Sect → ℕ → List ℕ → ℕ → ℕ → Result ℕ (Located DwarfKind)
 number_there section width bytes at place =
     ahead_in bytes at place >>= λ c. read_in section (fixed_at width c) >>= λ number. Ok number.0
 
--- an address by its number: addresses have eight bytes, and stand from addr_base on (DWARF 5, 7.27); without a base it is a fault of
--- the entry
+-- the address at an index: from addr_base on, each address has eight bytes (DWARF 5, 7.27). Without an addr_base it is a fault of the entry
 abbrev pub address_by : AddressTable → Option ℕ → ℕ → Result ℕ (Located DwarfKind)
 address_by table None index = Err (entry_fault is.NoBase table.at)
 address_by table (Some base) index = number_there section.Addr 8 table.bytes table.at (base + 8 * index)
@@ -36,7 +35,7 @@ address_by table (Some base) index = number_there section.Addr 8 table.bytes tab
 unfoldable pub address_at : AddressTable → ℕ → Result ℕ (Located DwarfKind)
 address_at table index = address_by table table.base index
 
--- the address that a value of class address gives (DWARF 5, 7.5.5); none where the value has another class
+-- the address that a value of class address gives (DWARF 5, 7.5.5); none if the value has another class
 unfoldable pub address_of : AddressTable → Value → Result (Option ℕ) (Located DwarfKind)
 address_of table (value.Addr address) = Ok (Some address)
 address_of table (value.AddrIndex index) = address_at table index >>= λ address. Ok (Some address)

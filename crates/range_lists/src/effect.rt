@@ -9,8 +9,8 @@ use abbrev_units::{DwarfFault, DwarfKind, in_section};
 use leb_cursor::Cursor;
 use sym_edges::{Located, Sect};
 
-/// What an item does, once the addresses that it gives by their numbers are known: it sets the base, or
-/// gives a pair of addresses, or a pair of offsets from the base.
+/// What an item does: it sets the base, or gives a pair of addresses or a pair of offsets from the base. The addresses that the item gives by index
+/// are looked up already.
 #[derive(Clone, Copy, PartialEq, Eq, Debug)]
 pub enum Effect {
     SetBase { address: u64 },
@@ -48,7 +48,7 @@ fn effect_of(addresses: &Addresses<'_>, item: RangeItem) -> Result<Effect, Dwarf
     Ok(effect)
 }
 
-/// The section of the lists of a unit of a version.
+/// The section of the lists, given the version of the unit.
 #[inline]
 pub fn list_section(version: u16) -> Sect
     ensures { result ≡ list_section version }
@@ -75,7 +75,7 @@ fn item_fault(section: Sect, fault: ItemFault) -> DwarfFault
     }
 }
 
-/// Reads what the next item of a list does; none where the list ends.
+/// Reads what the next item of a list does; none if the list ends.
 #[inline]
 #[tactic(auto, unfolding(crate::specs::ListPairs::effect_at))]
 pub fn read_effect(

@@ -15,7 +15,7 @@ use range_set::{Enclosing, RangeSet};
 use std::alloc::Global;
 use sym_edges::{Sect, Stop};
 
-/// The addresses by their number, as the entry at `at` asks for them.
+/// The address table for the entry at `at`.
 #[inline]
 fn addresses_for<'a>(sections: &Sections<'a>, root: &Root<'_>, at: usize) -> Addresses<'a>
     ensures { result ≡ addresses_for sections.now root.now at }
@@ -27,10 +27,9 @@ fn addresses_for<'a>(sections: &Sections<'a>, root: &Root<'_>, at: usize) -> Add
     }
 }
 
-/// The address from which the offsets of a unit's range lists count (DWARF 5, 3.1.1): the low address of
-/// its root, or 0. Takes no memory. Where the address is given by its number, faults are in `.debug_info` at
-/// the root: `NoBase` where the unit has no addr_base, `OffsetOutside` where the number leads after the end
-/// of `.debug_addr`; or `Ends` in `.debug_addr`, where the bytes of the address are not all there.
+/// The base of a unit, from which the offsets in its range lists count (DWARF 5, 3.1.1): the low address of its root, or 0. Allocates no memory. If
+/// the address is given by index, there are these faults: in `.debug_info` at the root `NoBase` if the unit has no addr_base, and `OffsetOutside` if
+/// the index leads after the end of `.debug_addr`; in `.debug_addr` `Ends` if not all bytes of the address are there.
 #[tactic(auto, unfolding(crate::specs::EntryRanges::unit_base))]
 pub fn unit_base(
     sections: &Sections<'_>,
@@ -47,7 +46,7 @@ pub fn unit_base(
     Ok(address.unwrap_or(0))
 }
 
-/// The bytes of the section that has the lists of a unit.
+/// The bytes of the section that has the unit's lists.
 #[inline]
 fn list_bytes<'a>(sections: &Sections<'a>, unit: &Unit) -> &'a [u8]
     ensures { result.now ≡ list_bytes sections.now unit.now }
@@ -59,7 +58,7 @@ fn list_bytes<'a>(sections: &Sections<'a>, unit: &Unit) -> &'a [u8]
     }
 }
 
-/// The place of a list by its number, for the entry at `at`.
+/// The place of a list, given its index, for the entry at `at`.
 fn list_by_number(
     sections: &Sections<'_>,
     unit: &Unit,
@@ -77,7 +76,7 @@ fn list_by_number(
     Ok(u128::from(base) + u128::from(offset))
 }
 
-/// The place of the list of the entry at `at`, where it has one.
+/// The place of the list of the entry at `at`, if it has a list.
 #[tactic(auto, unfolding(crate::specs::EntryRanges::list_place))]
 fn list_place(
     sections: &Sections<'_>,
@@ -101,7 +100,7 @@ fn list_place(
     }
 }
 
-/// The list of the entry at `at`, where it has one.
+/// The list of the entry at `at`, if it has a list.
 #[tactic(auto, unfolding(crate::specs::EntryRanges::list_of))]
 fn list_of<'a>(
     sections: &Sections<'a>,
@@ -118,7 +117,7 @@ fn list_of<'a>(
     Ok(Some(cursor_in(list_bytes(sections, unit), at, place)?))
 }
 
-/// The end of the range from a start on.
+/// The end of the range that begins at `start`.
 #[tactic(auto, unfolding(crate::specs::EntryRanges::end_of))]
 fn end_of(addresses: &Addresses<'_>, start: u64, high: Value) -> Result<Option<u64>, DwarfFault>
     ensures { result ≡ end_of addresses.now start high }
@@ -130,7 +129,7 @@ fn end_of(addresses: &Addresses<'_>, start: u64, high: Value) -> Result<Option<u
     }
 }
 
-/// The addresses from low_pc to high_pc, where both are there.
+/// The addresses from low_pc to high_pc, if the entry has both.
 fn ranges_of_bounds(
     addresses: &Addresses<'_>,
     low: Option<Value>,
@@ -193,13 +192,11 @@ fn ranges_of_die(
     }
 }
 
-/// The addresses of an entry, by its number in the table (DWARF 5, 2.17); after the last entry there are
-/// none. `base` is the unit's, as [`unit_base`] gives it. Faults of the entry are in `.debug_info`, at the
-/// entry: `NoBase` where an address or a list is given by its number and the unit has no base for it,
-/// `OffsetOutside` where a list's place or a number leads after the end of its section. Faults of a list
-/// are in its section: `Ends` and `LebLong` at the field, `RangeKind` at the byte that tells the kind. Where
-/// the bytes of a number are not all there, `Ends` is at the place of the number, in `.debug_addr` or
-/// `.debug_rnglists`. An entry without a list takes no memory.
+/// The addresses of the entry at an index of the table (DWARF 5, 2.17); an index after the last entry has none. `base` is the unit's base, as
+/// [`unit_base`] gives it. Faults of the entry are in `.debug_info`, at the entry: `NoBase` if an address or a list is given by index and the unit
+/// has no base for it, `OffsetOutside` if the place of a list or of an index is after the end of its section. Faults of a list are in the section of
+/// the list: `Ends` and `LebLong` at the field, `RangeKind` at the byte of the kind. If a number at an index is cut off, `Ends` is at the place of
+/// the number, in `.debug_addr` or `.debug_rnglists`. For an entry without a list no memory is allocated.
 pub fn ranges_of(
     alloc: Global,
     sections: &Sections<'_>,
@@ -218,7 +215,7 @@ pub fn ranges_of(
     }
 }
 
-/// Where the list of an entry stands.
+/// The place of an entry's list.
 #[inline(always)]
 #[tactic(auto, unfolding(crate::specs::EntryRanges::place_of_list))]
 fn place_of_list(
@@ -238,8 +235,7 @@ fn place_of_list(
     }
 }
 
-/// Whether an entry counts, by its number in the table; after the last entry there is none. An entry that does not count gives no
-/// addresses.
+/// Whether the entry at an index of the table counts; an index after the last entry does not count. An entry that does not count gives no addresses.
 #[inline]
 pub fn counts_at(table: &DieTable<'_>, entry: u32) -> bool
     ensures { result ≡ false → (sections : DebugSections) (unit : UnitHead) (base : ℕ) → pairs_at sections unit table.now.root base (slice_get table.now.dies entry) ≡ Ok [] }
@@ -250,9 +246,9 @@ pub fn counts_at(table: &DieTable<'_>, entry: u32) -> bool
     }
 }
 
-/// Where the list of an entry stands in its section, by the entry's number in the table: `None` where the
-/// entry does not count, has no list, or its place has a fault, and after the last entry. Entries of one unit
-/// whose lists stand at one place have one set: [`lists_at_one_place`](crate::laws::lists_at_one_place).
+/// The place of an entry's list in its section, given the index of the entry in the table. It is `None` if the entry does not count, has no list, or
+/// if finding the place gives a fault; and after the last entry. Entries of one unit with lists at the same place have the same set:
+/// [`lists_at_one_place`](crate::laws::lists_at_one_place).
 #[inline(always)]
 pub fn listed_at(
     sections: &Sections<'_>,

@@ -1,4 +1,4 @@
-//! The ranges of an entry, as its list is read.
+//! The ranges of an entry, gathered while its list is read.
 ghost use Rattle.std.specs.Prelude.{◌≡◌, ℕ, ◌||◌, ◌&&◌, [], ◌∷◌, IfOk, IfSome, OnOk};
 ghost use Rattle.std.specs.Option.{option_to_list};
 ghost use Rattle.range_set.specs.Members.{holds, holds_any};
@@ -11,8 +11,8 @@ use std::alloc::Global;
 use std::marker::Model;
 use sym_edges::{OutOfMemory, Span};
 
-/// The ranges so far. The last one is kept apart, since the next one may widen it: ranges that touch or
-/// overlap one after the other take no memory.
+/// The ranges so far. The last one is separate, since the next one may widen it: if each range touches or overlaps the one before, no memory is
+/// allocated.
 #[derive(Drop)]
 pub struct Gathering {
     done: Vec<Span>,
@@ -29,7 +29,7 @@ impl Model for Gathering {
     ghost view = { λ g. g.done.items ++ option_to_list g.last };
 }
 
-/// One range in place of two that touch or overlap.
+/// One range for two ranges, if they touch or overlap.
 #[inline]
 fn joined(last: Span, span: Span) -> Option<Span>
     ensures { IfSome result (λ both. (a : ℕ) → holds both a ≡ (holds last a || holds span a)) }
@@ -45,7 +45,7 @@ fn joined(last: Span, span: Span) -> Option<Span>
     Some(Span::new(start, end))
 }
 
-/// A pair of addresses as a range, where it is code.
+/// A pair of addresses as a range, if it is code.
 #[inline]
 fn code_span(code: &Enclosing, start: u64, end: u64) -> Option<Span>
     ensures { (a : ℕ) → holds_any (option_to_list result) a ≡ in_pairs code.now (record { start = start; end = end } ∷ []) a }
@@ -56,7 +56,7 @@ fn code_span(code: &Enclosing, start: u64, end: u64) -> Option<Span>
     None
 }
 
-/// The set of a pair of addresses, where it is code. Takes no memory.
+/// The set of the addresses in a pair, if it is code. Allocates no memory.
 #[inline]
 pub fn set_of_pair(code: &Enclosing, start: u64, end: u64) -> RangeSet
     ensures { (a : ℕ) → holds_any result a ≡ in_pairs code.now (record { start = start; end = end } ∷ []) a }
@@ -95,7 +95,7 @@ impl Gathering {
         Ok(())
     }
 
-    /// Adds a pair of addresses, where it is code.
+    /// Adds a pair of addresses, if it is code.
     #[inline]
     fn add(&mut self, code: &Enclosing, start: u64, end: u64) -> Result<(), OutOfMemory>
         ensures { OnOk result ((a : ℕ) → holds_any self.new a ≡ (holds_any self.old a || in_pairs code.now (record { start = start; end = end } ∷ []) a)) }
@@ -106,7 +106,7 @@ impl Gathering {
         Ok(())
     }
 
-    /// Adds what an item gives, and answers the base after it.
+    /// Adds the pair that an item gives, and returns the base after the item.
     #[inline]
     pub fn take(&mut self, code: &Enclosing, base: u64, effect: Effect) -> Result<u64, OutOfMemory>
         ensures base { IfOk result (λ after. after ≡ base_after base effect) }
@@ -125,7 +125,7 @@ impl Gathering {
         }
     }
 
-    /// The set of the addresses in these ranges. Of one range it takes no memory.
+    /// The set of the addresses in these ranges. For a single range it allocates no memory.
     pub fn finish(self, alloc: Global) -> Result<RangeSet, OutOfMemory>
         ensures { IfOk result (λ set. (a : ℕ) → holds_any set a ≡ holds_any self a) }
     {

@@ -6,9 +6,9 @@ ghost use Rattle.range_lists.specs.ListItems.{item_of_pair, pair_at, item_by, rn
 
 use leb_cursor::{Cursor, CursorFault};
 
-/// An item of a range list, named as DWARF 5, 7.25, names those of `.debug_rnglists`; what ends a list is
-/// none. A name with an `x` has numbers of addresses in the place of addresses. A pair of `.debug_ranges`
-/// (DWARF 4, 2.17.3) is an `OffsetPair`, and one that selects the base a `BaseAddress`.
+/// An item of a range list, with the names that DWARF 5, 7.25, gives the items of `.debug_rnglists`; the end of a list is no item. An item with an
+/// `x` in its name gives addresses by index. A pair of `.debug_ranges` (DWARF 4, 2.17.3) is an `OffsetPair`, or a `BaseAddress` if it selects the
+/// base.
 #[derive(Clone, Copy, PartialEq, Eq, Debug)]
 pub enum RangeItem {
     BaseAddressx { index: u64 },
@@ -20,12 +20,12 @@ pub enum RangeItem {
     StartLength { start: u64, length: u64 },
 }
 
-/// Why an item is not read.
+/// Why an item cannot be read.
 #[derive(Clone, Copy, PartialEq, Eq, Debug)]
 pub enum ItemFault {
     Cursor(CursorFault),
 
-    /// There is no such kind: `at` is the place of the byte that tells it.
+    /// There is no such kind: `at` is the place of the byte of the kind.
     Kind { at: usize },
 }
 
@@ -81,7 +81,7 @@ fn read_pair(cursor: &mut Cursor<'_>) -> Result<Option<RangeItem>, CursorFault>
     Ok(item_of_pair(first, second))
 }
 
-/// Reads an item of `.debug_rnglists` after its kind, whose place is `at`.
+/// Reads an item of `.debug_rnglists` after its kind, whose byte is at `at`.
 #[tactic(auto, unfolding(crate::specs::ListItems::item_by))]
 fn read_operands(
     kind: u8,
@@ -139,7 +139,7 @@ fn read_rnglist_item(cursor: &mut Cursor<'_>) -> Result<Option<RangeItem>, ItemF
     read_operands(kind, at, cursor)
 }
 
-/// Reads an item of a list of a unit of a version; none where the list ends.
+/// Reads the next item of a list, given the version of the unit; none if the list ends.
 #[inline]
 #[tactic(auto, unfolding(crate::specs::ListItems::item_at))]
 pub fn read_item(version: u16, cursor: &mut Cursor<'_>) -> Result<Option<RangeItem>, ItemFault>

@@ -1,4 +1,4 @@
-//! Laws of the definitions, for proofs above. Each function does nothing: its contract is the law.
+//! Laws of the definitions, for proofs in other crates. Each function has an empty body: its contract is the law.
 ghost use Rattle.std.specs.Prelude.{◌≡◌, ℕ, List, Option, Some, Result, Ok};
 ghost use Rattle.sym_edges.specs.Addresses.{Range};
 ghost use Rattle.sym_edges.specs.declared.located.Located.{Located};
@@ -13,21 +13,19 @@ ghost use Rattle.range_lists.specs.AddressTable.{AddressTable};
 ghost use Rattle.range_lists.specs.ListPairs.{effect_at};
 ghost use Rattle.range_lists.specs.EntryRanges.{in_ranges, pairs_at, listed_at};
 
-/// A range list is what its first item does and the items after it: no count of readings is part of
-/// what it is.
+/// A range list is its first item and then the items after it; it does not depend on a count of readings.
 #[tactic(auto, using(crate::proofs::LawLemmas::items_follow))]
 pub fn lists_follow()
     ensures { (version : ℕ) (table : AddressTable) (c : Ahead) → list_at (effect_at version table) c ≡ list_cases (effect_at version table) c }
 {}
 
-/// Which addresses pairs give rests on nothing of the ranges of code but on what they enclose: an
-/// `Enclosing` that is made of them serves in their place.
+/// The addresses that pairs give depend only on what the ranges of code enclose: an `Enclosing` made of these ranges can replace them.
 #[tactic(auto, using(crate::proofs::LawLemmas::same_ranges))]
 pub fn code_by_what_it_encloses()
     ensures { (code other : List Range) → ((start end : ℕ) → encloses code start end ≡ encloses other start end) → (given : Result (List Range) (Located DwarfKind)) (a : ℕ) → in_ranges code given a ≡ in_ranges other given a }
 {}
 
-/// Entries of one unit whose lists stand at one place give the same pairs: only faults name the entry.
+/// Entries of one unit with lists at the same place give the same pairs, if there is no fault: only faults name the entry.
 #[tactic(auto, using(crate::proofs::PlaceLemmas::one_place))]
 pub fn lists_at_one_place()
     ensures { (sections : DebugSections) (unit : Unit) (root : RootFields) (base place : ℕ) (one other : Option DieFields) (pairs : List Range) → listed_at sections unit root one ≡ Some place → listed_at sections unit root other ≡ Some place → pairs_at sections unit root base one ≡ Ok pairs → pairs_at sections unit root base other ≡ Ok pairs }

@@ -11,7 +11,7 @@ use range_set::{Enclosing, RangeSet};
 use std::alloc::Global;
 use sym_edges::Stop;
 
-/// The addresses of the list that stands ahead, in a unit of a version; its offsets count from `base`.
+/// The addresses of the list ahead, given the version of its unit; its offsets count from `base`.
 pub fn ranges_of_list(
     alloc: Global,
     version: u16,

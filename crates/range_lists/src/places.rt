@@ -1,4 +1,4 @@
-//! Places to which an entry leads, and addresses by their number.
+//! Places to which an entry refers, and addresses by index.
 ghost use Rattle.std.specs.Prelude.{◌≡◌, ◌+◌, ◌*◌};
 ghost use Rattle.abbrev_units.specs.Texts.{place_width};
 ghost use Rattle.range_lists.specs.Places.{entry_fault, ahead_in, number_there, address_by, address_at, address_of};
@@ -8,7 +8,7 @@ use leb_cursor::Cursor;
 use std::marker::Model;
 use sym_edges::{Located, Sect};
 
-/// A fault of the entry that stands at a place of `.debug_info`.
+/// A fault of an entry, given the place of the entry in `.debug_info`.
 #[inline]
 pub fn entry_fault(kind: DwarfKind, at: usize) -> DwarfFault
     ensures { result ≡ entry_fault kind at }
@@ -20,7 +20,7 @@ pub fn entry_fault(kind: DwarfKind, at: usize) -> DwarfFault
     }
 }
 
-/// A cursor at a place of a section to which the entry at `at` leads.
+/// A cursor at a place of a section, to which the entry at `at` refers.
 #[inline]
 #[tactic(auto, unfolding(crate::specs::Places::ahead_in))]
 pub fn cursor_in(bytes: &[u8], at: usize, place: u128) -> Result<Cursor<'_>, DwarfFault>
@@ -32,8 +32,7 @@ pub fn cursor_in(bytes: &[u8], at: usize, place: u128) -> Result<Cursor<'_>, Dwa
     Ok(cursor_from(bytes, place as usize))
 }
 
-/// The place of a number of a table that begins at `base`, by its index: numbers have four bytes, or
-/// eight where `wide`.
+/// The place of a number in a table that begins at `base`, given the number's index. Each number has four bytes, or eight if `wide`.
 #[inline]
 pub fn numbered_place(base: u64, wide: bool, index: u64) -> u128
     ensures { result ≡ base + place_width wide * index }
@@ -42,7 +41,7 @@ pub fn numbered_place(base: u64, wide: bool, index: u64) -> u128
     u128::from(base) + width * u128::from(index)
 }
 
-/// Reads the number that stands at such a place of a section to which the entry at `at` leads.
+/// Reads the number at such a place, to which the entry at `at` refers.
 #[inline]
 #[tactic(auto, unfolding(crate::specs::Places::number_there))]
 pub fn number_there(
@@ -61,8 +60,8 @@ pub fn number_there(
     }
 }
 
-/// The addresses of a unit by their number (DWARF 5, 7.27), as an entry asks for them: the bytes of
-/// `.debug_addr`, the unit's addr_base, and the place of the entry in `.debug_info`.
+/// The table in which an entry finds addresses by index (DWARF 5, 7.27): the bytes of `.debug_addr`, the unit's addr_base, and the place of the entry
+/// in `.debug_info`.
 #[derive(Debug, Drop)]
 pub struct Addresses<'a> {
     pub bytes: &'a [u8],
@@ -79,7 +78,7 @@ impl<'a> Model for Addresses<'a> {
 }
 
 impl<'a> Addresses<'a> {
-    /// The address of a number.
+    /// The address at an index.
     #[inline]
     #[tactic(auto, unfolding(crate::specs::Places::address_at))]
     pub fn by_number(&self, index: u64) -> Result<u64, DwarfFault>

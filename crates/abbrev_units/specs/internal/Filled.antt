@@ -1,4 +1,4 @@
--- Which slots have had their value: the first of an attribute counts.
+-- Which slots already have a value: the first value of an attribute counts.
 use Rattle.std.specs.Prelude.{◌≡◌, ℕ, ◌==◌, ◌||◌, Bool, true, false, if◌then◌else◌, List, [], ◌∷◌, map, get_or, slice_set}
 use Rattle.abbrev_units.specs.declared.slots.Slot.{Slot}
 use Rattle.abbrev_units.specs.declared.slots.Slot.TheVariants as slot
@@ -29,7 +29,7 @@ abbrev pub is_among : ℕ → List ℕ → Bool
 is_among attribute [] = false
 is_among attribute (other ∷ others) = other == attribute || is_among attribute others
 
--- the slots of these attributes, each at its number
+-- for each slot, at its number, whether its attribute is among these
 abbrev pub filled_by : List ℕ → List Bool
 filled_by attributes =
     is_among 0x11 attributes ∷
@@ -53,31 +53,31 @@ filled_by attributes =
 abbrev pub attributes_of : List SpecFields → List ℕ
 attributes_of specs = map (λ s. s.attribute) specs
 
--- a slot that is free, else none
+-- the slot if it has no value yet, else `Passed`
 abbrev pub free_in : List Bool → Slot → Slot
 free_in filled wanted = if get_or filled (slot_number wanted) false then slot.Passed else wanted
 
 abbrev pub fill_in : List Bool → Slot → List Bool
 fill_in filled wanted = slice_set filled (slot_number wanted) true
 
--- the slot of an attribute was filled, where it was free
+-- an attribute is given its slot if that is free, and then the slot is filled
 pub record Fills (before after : List Bool) (attribute : ℕ) (given : Slot) : Type 0 where
   pub wanted : Slot
   pub is : IsSlot wanted attribute
   pub free : given ≡ free_in before wanted
   pub filled : after ≡ fill_in before wanted
 
--- the slot that the value of an attribute goes to, behind those of these attributes: none where entries are not kept
+-- the slot for the value of an attribute after the attributes `before`; `Passed` if entries are not kept
 abbrev pub GoesTo : Bool → List SpecFields → ℕ → Slot → Type 0
 GoesTo false before attribute given = given ≡ slot.Passed
 GoesTo true before attribute given = (wanted : Slot) × (IsSlot wanted attribute) × (given ≡ free_in (filled_by (attributes_of before)) wanted)
 
--- where entries are kept, the slots of these attributes are filled
+-- if entries are kept, exactly the slots of these attributes are filled
 abbrev pub FilledFor : Bool → List SpecFields → List Bool → Type 0
 FilledFor false before filled = Prim.Unit {0}
 FilledFor true before filled = filled ≡ filled_by (attributes_of before)
 
--- a slot was given to an attribute
+-- an attribute was given a slot; `Passed` if entries are not kept
 abbrev pub GivesSlot : Bool → List Bool → List Bool → ℕ → Slot → Type 0
 GivesSlot false before after attribute given = given ≡ slot.Passed
 GivesSlot true before after attribute given = Fills before after attribute given

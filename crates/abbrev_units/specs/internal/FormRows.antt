@@ -1,4 +1,4 @@
--- The rows of forms, as they are looked up once.
+-- The rows of the table of forms, each looked up once.
 use Rattle.std.specs.Prelude.{◌≡◌, ℕ, Bool, List, Option, None, Some}
 use Rattle.std.specs.List.{slice_get}
 use Rattle.leb_cursor.specs.Ahead.{Ahead}
@@ -11,20 +11,20 @@ use Rattle.abbrev_units.specs.SpecFields.{SpecFields}
 use Rattle.abbrev_units.specs.FormValue.{value_by}
 use Rattle.abbrev_units.specs.Values.{value_at}
 
--- the row of a form, from what is kept of it
+-- the row of a form, made from what is kept of it
 abbrev pub row_said : ℕ → Option Known → Option FormRow
 row_said form None = None
 row_said form (Some known) = Some (record { code = form; layout = known.layout; class = known.class })
 
--- the rows of forms in a list, each at the place of its code
+-- a list has rows of the table of forms, each at the index that is the form's code
 abbrev pub AreRows : Bool → List (Option Known) → Type 0
 AreRows wide rows = (form : ℕ) (known : Option Known) → slice_get rows form ≡ Some known → row_said form known ≡ form_row form (forms wide)
 
--- the values of an attribute are read by a row
+-- each value of the attribute is read as this row says
 abbrev pub HasRow : SpecFields → FormRow → Type 0
 HasRow spec row = (c : Ahead) → value_at spec c ≡ value_by (Some row) spec.implicit c
 
--- the bytes of an operand, where they are as many for each of its layout
+-- the size of the operands of a layout in bytes, if it is fixed
 abbrev pub size_in : Kind → Option ℕ
 size_in kind.Nothing = Some 0
 size_in kind.U8 = Some 1

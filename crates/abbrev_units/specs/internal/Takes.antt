@@ -1,4 +1,4 @@
--- A short way over the values of an entry, by steps that each pass so many bytes and read one operand.
+-- The short way over the values of an entry: each step skips some bytes and reads one operand.
 use Rattle.std.specs.Prelude.{◌≡◌, ℕ, ◌+◌, Bool, true, false, List, [], ◌∷◌, ℤ, Some, Result, Ok, Err}
 use Rattle.std.specs.Int.{w64, cast_signed, cast_unsigned}
 use Rattle.std.specs.Option.{option_and_then}
@@ -26,7 +26,7 @@ use Rattle.abbrev_units.specs.SpecFields.{SpecFields}
 use Rattle.abbrev_units.specs.Values.{values_at}
 use Rattle.abbrev_units.specs.internal.FormRows.{size_in}
 
--- the number of an operand; where it has no bytes, the constant
+-- the number of an operand; for an operand without bytes it is the constant
 abbrev pub number_of : ℕ → Operand → ℕ
 number_of constant operand.Nothing = constant
 number_of constant (operand.Num n) = n
@@ -36,7 +36,7 @@ number_of constant (operand.Run start len) = start
 abbrev pub number_at : Kind → ℕ → Ahead → Result (ℕ × Ahead) CursorFault
 number_at layout constant c = kind_at layout c >>= λ x. Ok (number_of constant x.0, x.1)
 
--- a take passes so many bytes, and puts an operand into its slot
+-- a take skips `take.bytes` bytes, and then puts an operand into its slot
 abbrev pub put_taken : Take → PickFields → ℕ × Ahead → Result (PickFields × Ahead) CursorFault
 put_taken take picks number = Ok (put_in take.slot (value_in take.class number.0) picks, number.1)
 
@@ -47,11 +47,11 @@ unfoldable pub take_all : List Take → PickFields → Ahead → Result (PickFie
 take_all [] picks c = Ok (picks, c)
 take_all (take ∷ takes) picks c = take_one take picks c >>= λ x. take_all takes x.0 x.1
 
--- takes, and so many bytes after the last
+-- the takes, after which `tail` bytes are skipped
 abbrev pub takes_at : List Take → ℕ → PickFields → Ahead → Result (PickFields × Ahead) CursorFault
 takes_at takes tail picks c = take_all takes picks c >>= λ x. take_at tail x.1 >>= λ run. Ok (x.0, run.1)
 
--- what is kept of values: the picks where entries are kept, else nothing
+-- what is kept of values: the picks if the entries are kept, else nothing
 abbrev pub kept_with : {F : Type 0} → Bool → Result (List Given × Ahead) F → Result (PickFields × Ahead) F
 kept_with true reading = with_picks reading
 kept_with false (Ok x) = Ok (no_picks, x.1)
@@ -60,11 +60,11 @@ kept_with false (Err fault) = Err fault
 abbrev pub kept_at : Bool → List SpecFields → Ahead → Result (PickFields × Ahead) FormFault
 kept_at kept specs c = kept_with kept (values_at specs c)
 
--- where the takes succeed, they leave what is kept of the values of these attributes, and pass them all
+-- if the takes succeed, they leave what is kept of the values of these attributes, and pass all these values
 abbrev pub AreTakes : Bool → List Take → ℕ → List SpecFields → Type 0
 AreTakes kept takes tail specs = (c d : Ahead) (picks : PickFields) → takes_at takes tail no_picks c ≡ Ok (picks, d) → kept_at kept specs c ≡ Ok (picks, d)
 
--- whether the operands of a layout are numbers without a sign
+-- whether the operands of a layout are unsigned numbers
 abbrev pub has_numbers : Kind → Bool
 has_numbers kind.U8 = true
 has_numbers kind.U16 = true
@@ -74,17 +74,17 @@ has_numbers kind.U64 = true
 has_numbers kind.Uleb = true
 has_numbers _ = false
 
--- numbers of this class are the values that a form of that class makes of numbers
+-- a number of the class `class` stands for the value that a form of the class `form` makes of that number
 abbrev pub MakesNumbers : FormClass → Class → Type 0
 MakesNumbers form class = (implicit : ℤ) (n : ℕ) → value_in class n ≡ Some (value_of form implicit (operand.Num n))
 
--- the constant of an operand without bytes
+-- the constant for an operand without bytes
 abbrev pub HasConstant : FormClass → ℤ → ℕ → Type 0
 HasConstant form.Present implicit constant = constant ≡ 1
 HasConstant form.Implicit implicit constant = cast_signed w64 constant ≡ implicit
 HasConstant _ implicit constant = Prim.Unit {0}
 
--- each slot keeps of the values of a form what it keeps of numbers of this class
+-- a slot keeps the same of a form's value as of the number with this class that stands for that value
 abbrev pub HasClass : FormClass → Kind → Class → Type 0
 HasClass form layout class =
     (implicit : ℤ) (constant : ℕ) (c d : Ahead) (x : Operand) (s : Slot) →
@@ -92,14 +92,14 @@ HasClass form layout class =
     kind_at layout c ≡ Ok (x, d) →
     option_and_then (kept_by s) (value_in class (number_of constant x)) ≡ kept_by s (value_of form implicit x)
 
--- the take of an attribute by the row of its form
+-- the take of an attribute whose form has this row
 pub record TakesValue (spec : SpecFields) (row : FormRow) (front : ℕ) (given : Slot) (take : Take) : Type 0 where
   pub bytes : take.bytes ≡ front
   pub into : take.slot ≡ given
   pub layout : take.layout ≡ row.layout
   pub keeps : (c d : Ahead) (x : Operand) → kind_at row.layout c ≡ Ok (x, d) → value_in take.class (number_of take.constant x) ≡ kept_by given (value_of row.class spec.implicit x)
 
--- an operand that goes to no slot joins the bytes in front of it
+-- an operand of fixed size that goes to no slot is added to the bytes that are skipped
 pub record Joins (given : Slot) (layout : Kind) (before after : ℕ) : Type 0 where
   pub unasked : given ≡ slot.Passed
   pub size : ℕ

@@ -1,4 +1,4 @@
--- Attributes and abbreviations as they are read for a unit, with its format.
+-- Attributes and abbreviations as they are read for a unit of a given format.
 use Rattle.std.specs.Prelude.{ℕ, Bool, List, map, Option, Result, Ok}
 use Rattle.std.specs.Option.{option_map}
 use Rattle.sym_edges.specs.Results.{◌>>=◌}
@@ -8,7 +8,7 @@ use Rattle.leb_cursor.specs.Lists.{list_at}
 use Rattle.abbrev_units.specs.SpecFields.{SpecFields, Abbrev}
 use Rattle.abbrev_units.specs.Abbreviations.{spec_at, abbrev_by, abbrev_at, used_spec, used_abbrev}
 
--- a member of a list, and a list, with a change of what was read
+-- a function applied to the member or to the list that was read
 abbrev pub one_by : {A B : Type 0} → (A → B) → Option A × Ahead → Result (Option B × Ahead) CursorFault
 one_by f x = Ok (option_map f x.0, x.1)
 

@@ -1,4 +1,4 @@
--- How a table holds a kept entry: a head, and where it has more a site, or all that does not fit into a head in a list of its own.
+-- How a table stores a kept entry: as a head and, if there is more, as a site, or as a wide entry with all that does not fit into a head.
 use Rattle.std.specs.Prelude.{ℕ, ◌<◌, ◌≤◌, ◌≡◌, ◌==◌, ◌/◌, ◌%◌, ◌^◌, ◌*◌, ◌+◌, Bool, true, false, if◌then◌else◌, List, [], ◌∷◌, ◌++◌, length, drop, get_or, ◌-◌, Option, None, Some, unwrap_or}
 use Rattle.std.specs.List.{slice_get}
 use Rattle.std.specs.Option.{option_and_then}
@@ -16,15 +16,15 @@ use Rattle.die_walk.specs.internal.Sites.{SiteFields, WideFields, Homes, HeldEnt
 use Rattle.die_walk.specs.Picking.{text_by, die_by}
 use Rattle.abbrev_units.specs.declared.unit.Unit.{Unit}
 
--- the sections in which texts stand
+-- the sections that have texts
 abbrev pub homes_of : DebugSections → Homes
 homes_of sections = record { info = sections.info; strs = sections.strs; line_strs = sections.line_str; sup_strs = unwrap_or sections.sup_strs [] }
 
--- the text at a place, which has an end
+-- the text at a place: up to the next zero byte, or else up to the end of the section
 abbrev pub text_from : List ℕ → ℕ → Option (List ℕ)
 text_from bytes place = Some (unwrap_or (front_text (drop place bytes)) (drop place bytes))
 
--- a text by where it stands
+-- a text, given its section and its place there
 abbrev pub text_at_home : Homes → Home → ℕ → Option (List ℕ)
 text_at_home homes home.Missing place = None
 text_at_home homes home.Strs place = text_from homes.strs place
@@ -62,13 +62,13 @@ site_by picks = record {
   call_line = line_of (option_and_then as_number picks.call_line);
 }
 
--- what is there only where it is said
+-- a value that is there only if the condition holds
 abbrev pub where_said : {A : Type 0} → Bool → A → Option A
 where_said true x = Some x
 where_said false x = None
 
--- the four numbers that a byte of a head holds: whether it has a parent, whether it is a declaration, what its target is (0 nothing, 1 the
--- origin, 2 the declaration), and where the rest is (0 nowhere, 1 in a site, 2 in a list of its own)
+-- the four numbers in a head's flags: whether the entry has a parent; whether it is a declaration; what the target is (0 nothing, 1 the origin, 2 the
+-- declaration); and where the rest is (0 nowhere, 1 in a site, 2 in a wide entry)
 abbrev pub has_parent : Head → Bool
 has_parent head = head.flags % 2 == 1
 
@@ -81,18 +81,18 @@ link_of head = head.flags / 4 % 4
 abbrev pub rest_of : Head → ℕ
 rest_of head = head.flags / 16
 
--- the same head with a rest
+-- the head with a rest, given the kind of the rest and its index
 abbrev pub with_rest : Head → ℕ → ℕ → Head
 with_rest head rest number = record head { flags = head.flags + 16 * rest; number = number }
 
--- a target, where it is the origin, and where it is the declaration
+-- the target, if it is the origin; and if it is the declaration
 abbrev pub origin_said : ℕ → ℕ → Option ℕ
 origin_said link n = where_said (link == 1) n
 
 abbrev pub spec_said : ℕ → ℕ → Option ℕ
 spec_said link n = where_said (link == 2) n
 
--- an entry by its head and its site, and one whose rest does not fit into these
+-- an entry, given its head and its site; then one whose rest is a wide entry
 abbrev pub slim : Homes → Head → SiteFields → DieFields
 slim homes head site = record {
   at = head.at;
@@ -114,7 +114,7 @@ slim homes head site = record {
 abbrev pub broad : Homes → Head → WideFields → DieFields
 broad homes head wide = record (slim homes head wide.site) { tag = wide.tag; origin = wide.origin; spec = wide.spec }
 
--- what stands in a list of its own
+-- the rest of a head, if it is of the kind `rest`; then the entry of a head
 abbrev pub found_in : {A : Type 0} → ℕ → Head → List A → Option A
 found_in rest head xs = if rest_of head == rest then slice_get xs head.number else None
 
@@ -125,7 +125,7 @@ held_by homes head site (Some wide) = broad homes head wide
 abbrev pub held_in : Homes → List SiteFields → List WideFields → Head → DieFields
 held_in homes sites wides head = held_by homes head (found_in 1 head sites) (found_in 2 head wides)
 
--- what a head leads to is there
+-- the site or the wide entry that a head names is there
 abbrev pub IsThere : ℕ → ℕ → Head → Type 0
 IsThere sites wides head = (rest_of head ≡ 1 → head.number < sites) × (rest_of head ≡ 2 → head.number < wides)
 
@@ -133,28 +133,28 @@ abbrev pub AreThere : ℕ → ℕ → List Head → Type 0
 AreThere sites wides [] = Prim.Unit {0}
 AreThere sites wides (head ∷ heads) = IsThere sites wides head × AreThere sites wides heads
 
--- where it is said, the last byte is zero
+-- if the condition holds, the last byte is zero
 abbrev pub IsClosed : Bool → List ℕ → Type 0
 IsClosed true bytes = get_or bytes (length bytes - 1) 1 ≡ 0
 IsClosed false bytes = Prim.Unit {0}
 
--- places in the sections of texts fit into four bytes
+-- no section of texts is longer than 2^29 bytes, so places in it fit into four bytes
 pub record AreSmall (homes : Homes) : Type 0 where
   pub info : length homes.info ≤ 2 ^ 29
   pub strs : length homes.strs ≤ 2 ^ 29
   pub line_strs : length homes.line_strs ≤ 2 ^ 29
   pub sup_strs : length homes.sup_strs ≤ 2 ^ 29
 
--- the place of a text in a section, where there is one
+-- a place at which a section has the text, or none if there is no text
 abbrev pub FitsPlace : List ℕ → Option ℕ → Option (List ℕ) → Type 0
 FitsPlace bytes None text = text ≡ None
 FitsPlace bytes (Some place) text = text ≡ text_from bytes place
 
--- a target says where an entry leads
+-- a target gives both links of an entry
 abbrev pub IsTarget : ℕ → ℕ → Links → Type 0
 IsTarget link place links = (origin_said link place ≡ links.origin) × (spec_said link place ≡ links.spec)
 
--- a head without a rest says what the parts of an entry say
+-- a head without a rest has the values of an entry's parts, except the tag and the target
 pub record IsHead (head : Head) (parts : Parts) : Type 0 where
   pub at : head.at ≡ parts.frame.at
   pub parent : where_said (has_parent head) head.parent ≡ parts.frame.parent
@@ -165,13 +165,13 @@ pub record IsHead (head : Head) (parts : Parts) : Type 0 where
   pub linkage : head.linkage ≡ parts.names.linkage.place
   pub flags : head.flags < 16
 
--- the same with its tag and its target
+-- the same with the tag and the target
 pub record IsWhole (head : Head) (parts : Parts) (tag : ℕ) : Type 0 where
   pub says : IsHead head parts
   pub tagged : head.tag ≡ tag
   pub target : IsTarget (link_of head) head.target parts.links
 
--- the parts of an entry say what was picked
+-- the parts of an entry have the values of its picks
 pub record Says (sections : DebugSections) (unit : Unit) (base : Option ℕ) (picks : PickFields) (parts : Parts) : Type 0 where
   pub declared : parts.declaration ≡ is_yes (option_and_then as_flag picks.declaration)
   pub name : text_at_home (homes_of sections) parts.names.name.home parts.names.name.place ≡ text_by sections unit base picks.name
@@ -180,7 +180,7 @@ pub record Says (sections : DebugSections) (unit : Unit) (base : Option ℕ) (pi
   pub origin : parts.links.origin ≡ option_and_then (as_reference sections unit) picks.origin
   pub spec : parts.links.spec ≡ option_and_then (as_reference sections unit) picks.spec
 
--- an entry was added: it is the one that was picked, where its parts say so
+-- one entry was added: that of these picks, if its parts have their values
 abbrev pub IsAdded : HeldEntries → HeldEntries → Parts → ℕ → PickFields → Type 0
 IsAdded before after parts tag picks =
     (sections : DebugSections) (unit : Unit) (base : Option ℕ) → before.homes ≡ homes_of sections → Says sections unit base picks parts

@@ -1,9 +1,9 @@
--- What is known of the scopes around the first entries of a unit.
+-- A list of the nearest scopes around the first entries of a unit.
 use Rattle.std.specs.Prelude.{◌≡◌, ℕ, List, Option, Some}
 use Rattle.std.specs.List.{slice_get}
 use Rattle.die_walk.specs.EntryTable.{DieFields}
 use Rattle.die_walk.specs.Scopes.{scope_of}
 
--- a list says of each of so many entries the nearest scope around it
+-- the list has at each of its indices the nearest scope around the entry at that index
 abbrev pub AreNear : List DieFields → List (Option ℕ) → Type 0
 AreNear dies near = (entry : ℕ) (said : Option ℕ) → slice_get near entry ≡ Some said → said ≡ scope_of dies entry

@@ -1,9 +1,9 @@
--- What an entry says beside its names and its place in the tree.
+-- What an entry has besides its names and its place in the tree.
 use Rattle.std.specs.Prelude.{ℕ, List, Option}
 use Rattle.abbrev_units.specs.declared.value.Value.{Value}
 use Rattle.die_walk.specs.EntryTable.{DieFields}
 
--- its addresses, and where it is called
+-- the addresses of an entry, and the file and line of the call
 pub record SiteFields : Type 0 where
   pub low : Option Value
   pub high : Option Value
@@ -11,7 +11,7 @@ pub record SiteFields : Type 0 where
   pub call_file : Option ℕ
   pub call_line : ℕ
 
--- the same with what does not fit into a head
+-- the same, with the tag and the links that do not fit into a head
 pub record WideFields : Type 0 where
   pub tag : ℕ
   pub origin : Option ℕ
@@ -25,7 +25,7 @@ pub record Homes : Type 0 where
   pub line_strs : List ℕ
   pub sup_strs : List ℕ
 
--- kept entries, and the sections that have their names
+-- kept entries, and the sections that have their texts
 pub record HeldEntries : Type 0 where
   pub dies : List DieFields
   pub homes : Homes

@@ -1,8 +1,8 @@
--- The directories of a line table as the code keeps them.
+-- The directories of a line table as the code stores them.
 use Rattle.std.specs.Prelude.{ℕ, Bool, if◌then◌else◌, List, [], ◌∷◌, map}
 use Rattle.line_program.specs.FileFields.{FileFields}
 use Rattle.line_program.specs.Paths.{joined}
 
--- the first directory, and those that stand in it
+-- the first directory, and those that are relative to it
 abbrev pub directories_in : Bool → List ℕ → List FileFields → List (List ℕ)
 directories_in some root entries = if some then root ∷ map (λ d. joined root d.path) entries else []

@@ -1,4 +1,4 @@
--- Rows as the code keeps them: a file number of 2^32 - 1 and above, which no file of a table has, is kept as that one.
+-- Rows as the code stores them: a file number above 2^32 - 1 is stored as 2^32 - 1, which is the number of no file of a table.
 use Rattle.std.specs.Prelude.{◌-◌, ◌^◌, min, List, [], ◌∷◌, ◌++◌, map, Result, Ok, Err}
 use Rattle.sym_edges.specs.Results.{◌>>=◌}
 use Rattle.leb_cursor.specs.Ahead.{Ahead}
@@ -23,7 +23,7 @@ kept_state s = record { registers = s.registers; rows = map kept_row s.rows; seq
 abbrev pub kept_lines : Lines → Lines
 kept_lines l = record { sequences = map kept_sequence l.sequences; first = l.first; files = l.files }
 
--- what was read, with its rows as they are kept
+-- what was read, with its rows as they are stored
 abbrev pub or_kept_state : Result State Fault → Result State Fault
 or_kept_state (Ok state) = Ok (kept_state state)
 or_kept_state (Err fault) = Err fault
@@ -32,14 +32,14 @@ abbrev pub or_kept_lines : Result Lines Fault → Result Lines Fault
 or_kept_lines (Ok lines) = Ok (kept_lines lines)
 or_kept_lines (Err fault) = Err fault
 
--- the kept rows after an opcode
+-- the stored rows after an opcode
 abbrev pub rows_kept : ProgramFields → Opcode → State → List Row
 rows_kept p (Special adjusted) s = s.rows ++ kept_row (row_of (moved p (Special adjusted) s.registers)) ∷ []
 rows_kept p Copy s = s.rows ++ kept_row (row_of s.registers) ∷ []
 rows_kept p EndSequence s = []
 rows_kept p _ s = s.rows
 
--- the kept state after an opcode, after a list of them, and after those ahead
+-- the stored state after an opcode, after a list of opcodes, and after the opcodes ahead
 unfoldable pub carried_kept : ProgramFields → Opcode → State → State
 carried_kept p opcode s = record (carried p opcode s) { rows = rows_kept p opcode s }
 

@@ -1,4 +1,4 @@
--- Rows by the numbers of their paths.
+-- The lines of rows with path numbers.
 use Rattle.std.specs.Prelude.{ℕ, ◌-◌, ◌==◌, nat_lt, Bool, if◌then◌else◌, List, Option, Some, None}
 use Rattle.std.specs.List.{slice_get}
 use Rattle.line_program.specs.declared.row.Row.{Row}
@@ -7,7 +7,7 @@ use Rattle.line_program.specs.LineAt.{row_in}
 use Rattle.line_program.specs.LineMaps.{no_line}
 use Rattle.line_program.specs.LineRows.{Sequence}
 
--- the number of a file's path, where the table has that file
+-- the number of a file's path, if the table has a file with that number
 abbrev pub number_of : ℕ → List ℕ → ℕ → Option ℕ
 number_of first numbers file = if nat_lt file first then None else slice_get numbers (file - first)
 

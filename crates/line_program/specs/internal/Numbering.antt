@@ -1,4 +1,4 @@
--- Paths by their numbers, as the code keeps them.
+-- Paths and their numbers, as the code stores them.
 use Rattle.std.specs.Prelude.{◌≡◌, ◌≢◌, ℕ, ◌<◌, ◌-◌, ◌^◌, nat_lt, if◌then◌else◌, List, [], ◌∷◌, map, length, drop, slice_index, slice_index_or, Some}
 use Rattle.std.specs.List.{slice_get}
 use Rattle.leb_cursor.specs.Readings.{fixed_sum}
@@ -6,15 +6,15 @@ use Rattle.step_maps.specs.Stepping.{Stepping, value_at}
 use Rattle.line_program.specs.declared.path_line.PathLine.{PathLine}
 use Rattle.line_program.specs.LineMaps.{no_line, AreDistinct}
 
--- the texts at these places
+-- the texts at the given indices
 abbrev pub picked : List (List ℕ) → List ℕ → List (List ℕ)
 picked texts places = map (λ k. slice_index_or texts k []) places
 
--- the last eight bytes of a path as a number, or 0 where there are fewer
+-- the last eight bytes of a path as a number, or 0 for a shorter path
 unfoldable pub ending_of : List ℕ → ℕ
 ending_of text = if nat_lt (length text) 8 then 0 else fixed_sum 8 (drop (length text - 8) text)
 
--- each number is that of the path beside it
+-- the numbers are those of the files' paths, in the same order
 abbrev pub AreNumbered : List (List ℕ) → List ℕ → List (List ℕ) → Type 0
 AreNumbered paths [] [] = Unit {0}
 AreNumbered paths [] (file ∷ files) = ⊥
@@ -25,7 +25,7 @@ AreNumbered paths (n ∷ numbers) (file ∷ files) = (slice_get paths n ≡ Some
 abbrev pub AllBelow : ℕ → List ℕ → Type 0
 AllBelow bound numbers = (k : ℕ) → k < length numbers → slice_index numbers k < bound
 
--- the texts are there, the lines and the files name paths, and no two paths are equal
+-- `firsts` has indices of texts, lines and files have numbers of paths, and no two paths are equal
 pub record IsLineMap (lines : Stepping PathLine) (texts : List (List ℕ)) (firsts files : List ℕ) : Type 0 where
   pub texts_there : AllBelow (length texts) firsts
   pub files_named : AllBelow (length firsts) files

@@ -1,11 +1,11 @@
--- The lines of a table as the code paints them.
+-- How the code paints the lines of a table.
 use Rattle.std.specs.Prelude.{ℕ, ◌+◌, ◌≤◌, ◌&&◌, min, nat_le, Bool, if◌then◌else◌, List, [], ◌∷◌, Option, Some, None}
 use Rattle.std.specs.List.{slice_get}
 use Rattle.step_maps.specs.declared.stretch.Stretch.{Stretch}
 use Rattle.step_maps.specs.declared.stretch.FirstItem.{FirstItem}
 use Rattle.line_program.specs.declared.row.Row.{Row}
 
--- a sequence that counts: the first and the last address that it has, and its rows in the order of their addresses
+-- a sequence that counts: the first and the last address that it covers, and its rows in the order of their addresses
 pub record Counted : Type 0 where
   pub first : ℕ
   pub last : ℕ
@@ -14,13 +14,13 @@ pub record Counted : Type 0 where
 abbrev pub has : Counted → ℕ → Bool
 has k a = nat_le k.first a && nat_le a k.last
 
--- the addresses of counted sequences, which are numbered from a number on
+-- the addresses of counted sequences, as stretches with consecutive indices
 abbrev pub stretches_from : ℕ → List Counted → List Stretch
 stretches_from number [] = []
 stretches_from number (k ∷ kept) =
     record { first = k.first; last = k.last; index = number; class = 0 } ∷ stretches_from (number + 1) kept
 
--- rows in the order of their addresses, from an address on
+-- rows in the order of their addresses, none of them below the address `low`
 abbrev pub SortedFrom : ℕ → List Row → Type 0
 SortedFrom low [] = Unit {0}
 SortedFrom low (r ∷ rows) = (low ≤ r.address) × SortedFrom r.address rows
@@ -30,27 +30,27 @@ abbrev pub AllUpTo : ℕ → List Row → Type 0
 AllUpTo high [] = Unit {0}
 AllUpTo high (r ∷ rows) = (r.address ≤ high) × AllUpTo high rows
 
--- the first, or else the second
+-- the first row or, if there is none, the second
 abbrev pub or_row : Option Row → Option Row → Option Row
 or_row None other = other
 or_row (Some r) other = Some r
 
--- of rows in order, the last one at or below an address
+-- of sorted rows, the last one at or below an address
 unfoldable pub last_at : List Row → ℕ → Option Row
 last_at [] a = None
 last_at (r ∷ rows) a = or_row (last_at rows a) (if nat_le r.address a then Some r else None)
 
--- the row of the first counted sequence that has the address
+-- the row at an address, by the first counted sequence that covers it
 unfoldable pub counted_row : List Counted → ℕ → Option Row
 counted_row [] a = None
 counted_row (k ∷ kept) a = if has k a then last_at k.rows a else counted_row kept a
 
--- the row of the last counted sequence that has the address, or else this one
+-- the row at an address, by the last counted sequence that covers it; if none does, the row `under`
 unfoldable pub back_row : Option Row → List Counted → ℕ → Option Row
 back_row under [] a = under
 back_row under (k ∷ kept) a = back_row (if has k a then last_at k.rows a else under) kept a
 
--- the counted sequence that covers an address, and its row there
+-- the counted sequence that a first item names, and the row of a counted sequence at an address
 abbrev pub covering : List Counted → Option FirstItem → Option Counted
 covering kept None = None
 covering kept (Some item) = slice_get kept item.index
@@ -59,7 +59,7 @@ abbrev pub row_by : Option Counted → ℕ → Option Row
 row_by None a = None
 row_by (Some k) a = last_at k.rows a
 
--- the least address so far, with another
+-- the lesser of the least address so far, if there is one, and another address
 abbrev pub least_step : Option ℕ → ℕ → Option ℕ
 least_step None address = Some address
 least_step (Some other) address = Some (min address other)

@@ -1,16 +1,16 @@
--- Rows as they are painted from an address on.
+-- The rows that are painted above an address.
 use Rattle.std.specs.Prelude.{◌≡◌, ℕ, ◌≤◌, List, Option, None, Some}
 use Rattle.line_program.specs.declared.row.Row.{Row}
 use Rattle.line_program.specs.declared.path_line.PathLine.{PathLine}
 use Rattle.line_program.specs.internal.Numbered.{numbered_line_of}
 use Rattle.line_program.specs.internal.Painting.{SortedFrom, AllUpTo, last_at}
 
--- the line of a row, or else this one
+-- the line of a row; without a row, `line`
 abbrev pub line_or : PathLine → ℕ → List ℕ → Option Row → PathLine
 line_or line first numbers None = line
 line_or line first numbers (Some r) = numbered_line_of first numbers (Some r)
 
--- the rows above an address, and the line of those at or below it
+-- the rows above `start`, and the line of the last row at or below it
 pub record Parts (first : ℕ) (numbers : List ℕ) (rows : List Row) (start : ℕ) (line : PathLine) (above : List Row) : Type 0 where
   pub sorted : SortedFrom start above
   pub rest : (a : ℕ) → start ≤ a → line_or line first numbers (last_at above a) ≡ numbered_line_of first numbers (last_at rows a)
