@@ -26,14 +26,14 @@ pub record FileSays : Type 0 where
   pub headers : List Unit
   pub units : List UnitSays
 
--- the first fault is that of a header, or else of the units, in their order
+-- what a file says, or its first fault: of a header, or else of the units, in their order
 unfoldable pub file_says : DebugSections → Result FileSays (Located DwarfKind)
 file_says sections =
     units_in sections.info >>= λ headers.
     each_of (unit_says sections) (read_units headers) >>= λ units.
     Ok (record { headers = headers; units = units })
 
--- the headers of all units, of a file and of its supplementary file, and what the units that are read say, first those of the file
+-- the headers of all units of a file and of its supplementary file, and what the units that are read say, those of the file first
 pub record BothSays : Type 0 where
   pub headers : List Unit
   pub sup_headers : List Unit
@@ -47,7 +47,7 @@ pub record DebugSays : Type 0 where
   pub first : List Entry
   pub second : List Entry
 
--- a fault of debugging information, in the file and in its supplementary file, and one of a frame section
+-- a fault of the file's debugging information, of its supplementary file's, and of a frame section, as a fault of all
 abbrev pub as_dwarf : {A : Type 0} → Result A (Located DwarfKind) → Result A DebugFault
 as_dwarf (Ok x) = Ok x
 as_dwarf (Err fault) = Err (Dwarf fault)
@@ -60,14 +60,14 @@ abbrev pub as_frame : {A : Type 0} → Result A (Located FrameKind) → Result A
 as_frame (Ok x) = Ok x
 as_frame (Err fault) = Err (Frame fault)
 
--- the units of a file and of its supplementary file (DWARF 5, 7.3.6), or the first fault, those of the file first
+-- the units of a file and of its supplementary file (DWARF 5, 7.3.6), or the first fault; faults of the file come first
 unfoldable pub both_says : ImageParts → Result BothSays DebugFault
 both_says image =
     as_dwarf (file_says (sections_of image)) >>= λ own.
     as_sup (file_says (sup_sections_of image.sup)) >>= λ sup.
     Ok (record { headers = own.headers; sup_headers = sup.headers; units = own.units ++ sup.units })
 
--- what a file says, or its first fault after its image: of the units, of `.eh_frame`, of `.debug_frame`
+-- what a file says, or its first fault after its image was read: of the units, of `.eh_frame`, or of `.debug_frame`, in this order
 unfoldable pub debug_says : ImageParts → Result DebugSays DebugFault
 debug_says image =
     both_says image >>= λ both.
@@ -75,7 +75,7 @@ debug_says image =
     as_frame (frame_entries image.debug_frame.bytes image.debug_frame.address DebugFrame) >>= λ second.
     Ok (record { headers = both.headers; sup_headers = both.sup_headers; units = both.units; first = first; second = second })
 
--- what is kept of a file that says this, where these addresses are code
+-- what is kept of a file that says `says`, if the addresses `code` are code
 pub record IsKept (code : List Range) (says : DebugSays) (read : DebugRead) : Type 0 where
   pub headers : read.headers ≡ says.headers
   pub sup_headers : read.sup_headers ≡ says.sup_headers

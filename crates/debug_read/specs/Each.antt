@@ -7,13 +7,13 @@ unfoldable pub each_of : {A B F : Type 0} → (A → Result B F) → List A → 
 each_of gives [] = Ok []
 each_of gives (x ∷ xs) = gives x >>= λ first. each_of gives xs >>= λ later. Ok (first ∷ later)
 
--- two lists of one length, whose members stand in a relation one by one
+-- two lists of the same length, whose members are in the relation R one by one
 abbrev pub Match : {A B : Type 0} → (A → B → Type 0) → List A → List B → Type 0
 Match R [] [] = Prim.Unit {0}
 Match R (x ∷ xs) (y ∷ ys) = R x y × Match R xs ys
 Match R _ _ = ⊥
 
--- the definition gives a value, and it stands in a relation to this one
+-- the definition gives a value, which is in the relation R to `y`
 abbrev pub Says : {A B F : Type 0} → (A → B → Type 0) → Result A F → B → Type 0
 Says R (Ok x) y = R x y
 Says R (Err fault) y = ⊥

@@ -19,7 +19,7 @@ sections_of image = record {
   is_sup = false;
 }
 
--- of a supplementary file only entries are read and their names, and no ranges and line tables; none is one without units
+-- of a supplementary file only entries and their names are read, but no ranges or line tables; without a supplementary file there are no units
 abbrev pub sup_sections_of : Option ImageDebug → DebugSections
 sup_sections_of None = record {
   info = [];

@@ -1,4 +1,5 @@
--- The function that owns an address, its inline chain and its line, over what DWARF says of each unit (DWARF 5, 2.17, 3.3 and 6.2).
+-- The function that owns an address, and the inline chain and the line of the address, from what DWARF says of each unit (DWARF 5, 2.17, 3.3 and
+-- 6.2).
 use Rattle.std.specs.Prelude.{ℕ, Bool, false, ◌+◌, ◌==◌, ◌&&◌, if◌then◌else◌, List, [], ◌∷◌, ◌++◌, Option, None, Some, option_and_then}
 use Rattle.std.specs.List.{find, slice_get}
 use Rattle.std.specs.Option.{option_map_or}
@@ -11,7 +12,7 @@ use Rattle.line_program.specs.LineAt.{line_at}
 use Rattle.debug_units.specs.Owners.{Covering, inside_of}
 use Rattle.debug_read.specs.UnitSays.{UnitSays}
 
--- an entry with its numbers and the pairs of addresses that it gives
+-- an entry with the number of its unit, its own number there, and the pairs of addresses that it gives
 pub record SaidEntry : Type 0 where
   pub unit : ℕ
   pub entry : ℕ
@@ -27,15 +28,16 @@ abbrev pub said_entries : ℕ → List UnitSays → List SaidEntry
 said_entries unit [] = []
 said_entries unit (says ∷ later) = numbered_entries unit 0 says.table.dies says.pairs ++ said_entries (unit + 1) later
 
--- whether an address is one of an entry's, where these spans are code
+-- whether an entry has an address, if the spans `code` are code
 abbrev pub is_at : List Range → ℕ → SaidEntry → Bool
 is_at code a e = in_pairs code e.pairs a
 
--- the first function, in the order of the section, that has the address
+-- the owner of an address: the first function, in the order of the section, that has the address
 unfoldable pub said_owner : List Range → List UnitSays → ℕ → Option SaidEntry
 said_owner code units a = find (λ e. is_function e.die && is_at code a e) (said_entries 0 units)
 
--- the inlined copies at an address inside of an entry, level by level: at each level the first one that stands in the one before; it stands after that one
+-- the inlined copies at an address inside the entry `entry`, level by level: the first copy at the address directly in `entry`, then the first later
+-- copy directly in that copy, and so on
 abbrev pub said_inside : List Range → List DieFields → ℕ → ℕ → List SaidEntry → List SaidEntry
 said_inside code dies a entry [] = []
 said_inside code dies a entry (e ∷ later) =
@@ -54,7 +56,7 @@ said_under code units a (Some e) = said_by code e.unit e.entry a (slice_get unit
 unfoldable pub said_chain : List Range → List UnitSays → ℕ → List SaidEntry
 said_chain code units a = said_under code units a (said_owner code units a)
 
--- path and line of an address, by the line table of its owner's unit, where that has one
+-- path and line of an address, from the line table of its owner's unit, if that unit has a table
 abbrev pub said_line_in : List Range → ℕ → Option UnitSays → Option (List ℕ × ℕ)
 said_line_in code a None = None
 said_line_in code a (Some says) = option_and_then (λ lines. line_at (encloses code) lines a) says.lines
@@ -66,7 +68,7 @@ said_line_under code units a (Some e) = said_line_in code a (slice_get units e.u
 unfoldable pub said_line : List Range → List UnitSays → ℕ → Option (List ℕ × ℕ)
 said_line code units a = said_line_under code units a (said_owner code units a)
 
--- an entry by its numbers, with what its attributes say
+-- the numbers of an entry, with what its attributes say
 abbrev pub said_place : SaidEntry → ℕ × ℕ × DieFields
 said_place e = (e.unit, e.entry, e.die)
 

@@ -17,7 +17,7 @@ pub record SameUnit (u w : UnitRead) : Type 0 where
   pub spans : u.spans ≡ w.spans
   pub lines : SameLines u.lines w.lines
 
--- two answers to the reading of a unit: one fault, or the same
+-- two results of reading a unit: the same fault, or units of which the same is kept
 abbrev pub SameAnswers : Result UnitRead (Located DwarfKind) → Result UnitRead (Located DwarfKind) → Type 0
 SameAnswers (Ok u) (Ok w) = SameUnit u w
 SameAnswers (Err fault) (Err other) = fault ≡ other

@@ -6,20 +6,20 @@ use Rattle.abbrev_units.specs.declared.unit.Unit.{Unit}
 use Rattle.die_walk.specs.EntryTable.{DieFields}
 use Rattle.debug_units.specs.declared.unit_read.UnitRead.{UnitRead}
 
--- a place, counted through both files, is one of this unit of the supplementary file
+-- a place, counted through both files, is in the unit `unit` of the supplementary file
 abbrev pub is_place_in : Unit → Option ℕ → Bool
 is_place_in unit None = false
 is_place_in unit (Some place) = nat_le (first_place true + unit.start) place && nat_lt place (first_place true + unit.end)
 
--- an entry leads into the unit, as an inlined copy or as what a declaration declares
+-- an entry leads into the unit, by its abstract origin or by its specification
 abbrev pub leads_into : Unit → DieFields → Bool
 leads_into unit die = is_place_in unit die.origin || is_place_in unit die.spec
 
--- a place of the supplementary file alone is one of the unit
+-- a place, counted in the supplementary file alone, is in the unit
 abbrev pub lies_in : Unit → ℕ → Bool
 lies_in unit place = nat_le unit.start place && nat_lt place unit.end
 
--- these places of the supplementary file say for each unit whether one of the entries leads into it
+-- for each unit of the supplementary file, one of the places is in it exactly if one of the entries leads into it
 pub record AreTargets (entries : List DieFields) (places : List ℕ) : Type 0 where
   pub each : (unit : Unit) → list_any (lies_in unit) places ≡ list_any (leads_into unit) entries
 

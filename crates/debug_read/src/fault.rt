@@ -18,7 +18,7 @@ pub enum DebugFault {
     Frame(FrameFault),
 }
 
-/// A fault of debugging information, as one of the file.
+/// A fault of debugging information, as a fault of the file.
 pub fn dwarf_stop(stop: Stop<DwarfFault>) -> Stop<DebugFault>
     ensures { result ≡ dwarf_stop stop }
 {
@@ -28,7 +28,7 @@ pub fn dwarf_stop(stop: Stop<DwarfFault>) -> Stop<DebugFault>
     }
 }
 
-/// A fault of debugging information of the supplementary file.
+/// A fault of the supplementary file's debugging information, as a fault of the file.
 pub fn sup_stop(stop: Stop<DwarfFault>) -> Stop<DebugFault>
     ensures { result ≡ sup_stop stop }
 {
@@ -38,7 +38,7 @@ pub fn sup_stop(stop: Stop<DwarfFault>) -> Stop<DebugFault>
     }
 }
 
-/// A fault of a frame section, as one of the file.
+/// A fault of a frame section, as a fault of the file.
 pub fn frame_stop(stop: Stop<FrameFault>) -> Stop<DebugFault>
     ensures { result ≡ frame_stop stop }
 {

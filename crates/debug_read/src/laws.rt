@@ -1,4 +1,4 @@
-//! What holds of debugging information that was read. Each function does nothing: its contract is the law.
+//! What holds for debugging information that was read. Each function does nothing: its contract is the law.
 ghost use Rattle.std.specs.Prelude.{◌≡◌, ◌≤◌, ◌<◌, ◌^◌, ℕ, List, Some, Result, map};
 ghost use Rattle.std.specs.Option.{option_map};
 ghost use Rattle.sym_edges.specs.Addresses.{Range};
@@ -28,14 +28,14 @@ pub fn paths_are_clean()
     ensures { (image : ImageParts) (read : DebugRead) → IsDebugRead image read → HaveCleanPaths read.units }
 {}
 
-/// An address that a function owns is code, so it is not below the base of an image whose code begins there.
+/// An address that a function owns is code. So if the code of an image begins at its base, the address is not below the base.
 #[tactic(auto, using(crate::proofs::OwnerLemmas::owners_above))]
 pub fn owners_are_code()
     ensures { (image : ImageParts) (read : DebugRead) → IsDebugRead image read → AllFrom image.base image.code → (a : ℕ) (c : Covering) → owner read.units a ≡ Some c → image.base ≤ a }
 {}
 
-/// The owner, the inline chain and the line of an address are those of what DWARF says of the units, and so are the name of each entry and
-/// the paths of the calls on a chain: of what is kept of the units nothing is lost that these depend on.
+/// The owner, the inline chain and the line of an address are the same by what is kept of the units as by what DWARF says of them, and so are the
+/// name of each entry and the paths of the calls on a chain: nothing that these depend on is lost.
 pub fn what_is_kept_says_what_the_units_say()
     ensures owner { (code : List Range) (says : List UnitSays) (units : List UnitRead) (a : ℕ) → Match (IsUnitRead code) says units → option_map said_place (said_owner code says a) ≡ option_map kept_place (owner units a) }
     ensures chain { (code : List Range) (says : List UnitSays) (units : List UnitRead) (a : ℕ) → Match (IsUnitRead code) says units → map said_place (said_chain code says a) ≡ map kept_place (chain units a) }
@@ -44,8 +44,8 @@ pub fn what_is_kept_says_what_the_units_say()
     ensures calls { (code : List Range) (says : List UnitSays) (units : List UnitRead) (a : ℕ) → Match (IsUnitRead code) says units → map (said_call_path says) (said_chain code says a) ≡ map (λ (c : Covering). path_of_call units c.unit c.die) (chain units a) }
 {}
 
-/// Two answers to the reading of one unit say the same, whoever reads it: one fault, or the same entries with the same addresses, and at
-/// each address below 2^64 the same path and line.
+/// Two results of reading one unit say the same, whoever reads it: the same fault, or the same entries with the same addresses, and at each address
+/// below 2^64 the same path and line.
 #[tactic(auto, using(crate::proofs::SameLemmas::same_answers))]
 pub fn answers_for_a_unit_say_the_same()
     ensures { (sections : DebugSections) (unit : Unit) (code : List Range) (one other : Result UnitRead (Located DwarfKind)) → IsUnitAnswer code (unit_says sections unit) one → IsUnitAnswer code (unit_says sections unit) other → SameAnswers one other }

@@ -1,4 +1,4 @@
-//! The line table that a unit names, and whether lines are asked of the unit.
+//! The line table that a unit names, and whether the unit is asked for lines.
 ghost use Rattle.std.specs.Prelude.{◌≡◌, if◌then◌else◌, List, [], unwrap_or, Err};
 ghost use Rattle.std.specs.List.{list_any};
 ghost use Rattle.sym_edges.specs.Addresses.{Range};
@@ -31,7 +31,7 @@ pub fn has_function(dies: &DieList<'_>) -> bool
     false
 }
 
-/// The directory of the compilation, or the empty text.
+/// The compilation directory, or the empty text.
 pub fn comp_dir_of<'a>(root: &Root<'a>) -> &'a [u8]
     ensures { result.now ≡ unwrap_or root.now.comp_dir [] }
 {
@@ -41,7 +41,7 @@ pub fn comp_dir_of<'a>(root: &Root<'a>) -> &'a [u8]
     }
 }
 
-/// Reads the line table at the offset that a root has.
+/// Reads the line table at the offset that a root gives.
 pub fn read_table(
     alloc: Global,
     sections: &Sections<'_>,

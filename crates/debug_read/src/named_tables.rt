@@ -1,5 +1,5 @@
-//! The line tables that units name. A table whose lines are kept is read once for all units that name it with one compilation
-//! directory. Where no unit keeps the lines at an offset, the table there is read once, for its faults.
+//! The line tables that units name. A table whose lines are kept is read once for all units that name it with one compilation directory. If no unit
+//! keeps the lines at an offset, the table there is read once, for its faults.
 ghost use Rattle.std.specs.Prelude.{◌≡◌, true, ℕ, List, [], unwrap_or, IfOk, IfSome};
 ghost use Rattle.std.specs.List.{All};
 ghost use Rattle.abbrev_units.specs.DebugSections.{DebugSections};
@@ -21,8 +21,7 @@ use std::thread::Threads;
 use sym_edges::{OutOfMemory, Stop};
 use unit_workers::{Crew, NoGate, UnitJob};
 
-/// What tells line tables apart: the offset, whether lines are kept, and, where they are, the compilation directory, which is a part of
-/// the paths.
+/// What distinguishes line tables: the offset, whether lines are kept and, if they are, the compilation directory, which is a part of the paths.
 #[derive(Clone, Copy)]
 pub struct TableName<'a> {
     pub offset: u64,
@@ -30,8 +29,8 @@ pub struct TableName<'a> {
     pub comp_dir: &'a [u8],
 }
 
-/// What stands at an offset: nothing, since it leaves the section, or a line table without a fault, whose lines are kept or not,
-/// or one with a fault.
+/// What is at an offset: nothing, since the offset is outside of the section; a line table without a fault, whose lines are kept or not; or a line
+/// table with a fault.
 #[derive(Drop)]
 pub enum TableRead {
     Outside,
@@ -92,7 +91,7 @@ fn read_named<'a>(
     }
 }
 
-/// Line tables by the numbers of their names.
+/// Reads line tables by the numbers of their names.
 #[derive(Drop)]
 struct NameReader<'s, 'a> {
     sections: &'s Sections<'a>,
@@ -149,7 +148,7 @@ impl<'s, 'a> UnitJob for NameReader<'s, 'a> {
     }
 }
 
-/// Names by their offsets, those whose lines are kept before others, then by their directories.
+/// The order of names: by their offsets, then those whose lines are kept before others, then by their directories.
 fn compare_names(name: &TableName<'_>, other: &TableName<'_>) -> Ordering {
     match name.offset.cmp(&other.offset) {
         Ordering::Equal => match other.kept.cmp(&name.kept) {
@@ -160,7 +159,7 @@ fn compare_names(name: &TableName<'_>, other: &TableName<'_>) -> Ordering {
     }
 }
 
-/// Where a name stands from one that is sought: where no lines are kept, each at the offset will do.
+/// The order of a name and the one that is sought: if the sought one keeps no lines, each name with its offset is equal to it.
 fn seek_name(name: &TableName<'_>, sought: &TableName<'_>) -> Ordering {
     if sought.kept {
         return compare_names(name, sought);
@@ -168,14 +167,14 @@ fn seek_name(name: &TableName<'_>, sought: &TableName<'_>) -> Ordering {
     name.offset.cmp(&sought.offset)
 }
 
-/// Whether what is read for a name tells what is asked for another.
+/// Whether what is read for one name also answers for the name that is sought.
 fn is_for(name: &TableName<'_>, sought: &TableName<'_>) -> bool
     ensures { result ≡ true → IsFor name.now sought.now }
 {
     name.offset == sought.offset && (!sought.kept || name.comp_dir == sought.comp_dir)
 }
 
-/// The name of the line table at the offset that a root has, in a unit with a function, or without.
+/// The name of the line table at the offset that a root gives, in a unit with a function or without.
 pub fn name_of<'a>(root: &Root<'a>, offset: u64, function: bool) -> TableName<'a>
     ensures offset { result.offset ≡ offset }
     ensures kept { result.kept ≡ function }
@@ -188,7 +187,7 @@ pub fn name_of<'a>(root: &Root<'a>, offset: u64, function: bool) -> TableName<'a
     }
 }
 
-/// The names of the tables of all units, in their order: none for which another is read.
+/// The sorted names of the tables of all units, without those for which the table of another name is read.
 fn names_of<'a>(
     alloc: Global,
     found: &[Result<UnitFound<'a>, DwarfFault>],
@@ -224,7 +223,7 @@ pub fn read_tables<'a, R: Threads + Sync>(
     Ok(tables)
 }
 
-/// The table that was read for a name, where it is among these.
+/// The table that was read for a name, if it is among these.
 pub fn find_table<'t, 'a>(
     tables: &'t [NamedTable<'a>],
     name: &TableName<'_>,

@@ -35,7 +35,7 @@ fn read_set(
 {
     match ranges_of(alloc, sections, unit, table, entry, base, code) {
         Ok(set) => {
-            // That the list is the one of its addresses is said by this call.
+            // The contract of this call says that the list is canonical.
             let _spans = set.spans();
             Ok(set)
         }
@@ -43,15 +43,15 @@ fn read_set(
     }
 }
 
-/// Where a list stands that was read, and the entry that it was read for.
+/// Where a list that was read is, and the entry for which it was read.
 #[derive(Clone, Copy)]
 struct ListRead {
     place: u32,
     entry: u32,
 }
 
-/// The lists that were read: those that stood after all before them in the order of their places, and the others. What is found
-/// here is a guess, which counts only where the entry's list is seen to stand there.
+/// The lists that were read: those whose place was above the places of all before them, and the others. What is found here is a guess, which counts
+/// only if the list of the found entry is seen to be at the place.
 #[derive(Drop)]
 struct ListsRead {
     rising: Vec<ListRead>,
@@ -66,7 +66,7 @@ impl ListsRead {
         }
     }
 
-    /// Whether a place is after all those that rise.
+    /// Whether a place is above all places in `rising`.
     #[inline]
     fn rises(&self, place: u32) -> bool {
         match self.rising.last() {
@@ -75,8 +75,8 @@ impl ListsRead {
         }
     }
 
-    /// An earlier entry whose list stood at that place. Where there is none, the list is that of this entry from now on, and it may be so
-    /// where there is one.
+    /// An earlier entry whose list was at that place. If there is none, the list is that of this entry from now on; if there is one, it may be so
+    /// too.
     fn find_or_add(&mut self, place: u32, entry: u32) -> Result<Option<u32>, OutOfMemory> {
         if self.rises(place) {
             self.rising.push(ListRead { place, entry })?;
@@ -90,7 +90,7 @@ impl ListsRead {
     }
 }
 
-/// Whether the list of an entry stands at a place.
+/// Whether the list of an entry is at a place.
 fn is_listed_at(
     sections: &Sections<'_>,
     unit: &Unit,
@@ -106,7 +106,7 @@ fn is_listed_at(
     }
 }
 
-/// An earlier entry whose list stands where this entry's does.
+/// An earlier entry whose list is at the same place as this entry's.
 fn find_earlier(
     sections: &Sections<'_>,
     unit: &Unit,
@@ -169,7 +169,7 @@ fn read_sets(
     Ok(sets)
 }
 
-/// No addresses of each entry.
+/// No addresses for each entry.
 fn no_sets(alloc: Global, table: &DieTable<'_>) -> Result<SpanSets, OutOfMemory>
     requires { length table.now.dies < 2 ^ 32 }
     ensures { (code : List Range) → IfOk result (λ sets. Match (IsSet code) (no_pairs table.now.dies) sets) }
@@ -182,8 +182,8 @@ fn no_sets(alloc: Global, table: &DieTable<'_>) -> Result<SpanSets, OutOfMemory>
     Ok(sets)
 }
 
-/// The addresses of all entries of a unit, or the first fault, that of the base of its range lists first. The entries of a
-/// supplementary file have none (DWARF 5, 7.3.6).
+/// The addresses of all entries of a unit, or the first fault; a fault of the base of its range lists comes first. The entries of a supplementary
+/// file have no addresses (DWARF 5, 7.3.6).
 #[tactic(auto, unfolding(crate::specs::UnitSays::unit_pairs))]
 pub fn read_pairs(
     alloc: Global,

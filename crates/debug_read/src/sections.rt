@@ -30,7 +30,7 @@ pub fn sections_of<'a>(image: &Image<'a>) -> Sections<'a>
     }
 }
 
-/// The sections of a supplementary file (DWARF 5, 7.3.6), of which only entries are read and their names.
+/// The sections of a supplementary file (DWARF 5, 7.3.6), of which only entries and their names are read.
 pub fn sup_sections_of<'a>(sup: Option<DebugParts<'a>>) -> Sections<'a>
     ensures { result ≡ sup_sections_of (option_map debug_view sup.entry) }
 {

@@ -12,8 +12,8 @@ use std::thread::Threads;
 use sym_edges::{OutOfMemory, Stop};
 use unit_workers::{Crew, NoGate, UnitJob};
 
-/// The abbreviations that several units name, each with one of these units, and for each unit the number of its own, if there is
-/// one.
+/// The abbreviations that several units name, each with one of these units, and for each unit the number of its abbreviations, if they are among
+/// these.
 #[derive(Drop)]
 pub struct SharedAbbrevs {
     firsts: Vec<Unit>,
@@ -46,7 +46,7 @@ fn table_at(
     tables.get(k)
 }
 
-/// Whether two units name the same abbreviations, which stand in the section.
+/// Whether two units name the same abbreviations, and these are in the section.
 fn is_shared(sections: &Sections<'_>, first: &Unit, unit: &Unit) -> bool
     ensures { result ≡ true → (first.now.abbrev_at ≡ unit.now.abbrev_at) × (first.now.wide ≡ unit.now.wide) × (unit.now.abbrev_at ≤ length sections.now.abbrevs) }
 {
@@ -56,7 +56,7 @@ fn is_shared(sections: &Sections<'_>, first: &Unit, unit: &Unit) -> bool
 }
 
 impl SharedAbbrevs {
-    /// The abbreviations of unit `k`, where they were read for several.
+    /// The abbreviations of unit `k`, if they were read for several units.
     pub fn table(
         &self,
         sections: &Sections<'_>,
@@ -83,7 +83,7 @@ impl SharedAbbrevs {
     }
 }
 
-/// Abbreviations by their numbers: those of these units.
+/// Reads abbreviations by number: those of the units `firsts`.
 #[derive(Drop)]
 struct AbbrevReader<'s, 'a> {
     sections: &'s Sections<'a>,
@@ -135,21 +135,21 @@ impl<'s, 'a> UnitJob for AbbrevReader<'s, 'a> {
     }
 }
 
-/// A unit by what tells its abbreviations.
+/// A unit, with a key of its abbreviations.
 #[derive(Clone, Copy)]
 struct Keyed {
     key: u64,
     place: usize,
 }
 
-/// One unit for all abbreviations that several units name, and for each of these the number of that one.
+/// For all abbreviations that several units name, one of these units, and for each of these units the number of that one.
 #[derive(Drop)]
 struct Grouping {
     firsts: Vec<Unit>,
     numbers: Vec<usize>,
 }
 
-/// The units by what tells their abbreviations.
+/// The units, sorted by the keys of their abbreviations.
 fn sort_units(alloc: Global, units: &[Unit]) -> Result<Vec<Keyed>, OutOfMemory> {
     let mut keys = Vec::with_capacity(alloc, units.len())?;
     'units: for place in 0..units.len() {
@@ -163,7 +163,7 @@ fn sort_units(alloc: Global, units: &[Unit]) -> Result<Vec<Keyed>, OutOfMemory> 
     Ok(keys)
 }
 
-/// As many numbers that stand for nothing.
+/// `count` numbers that mean no unit.
 fn no_numbers(alloc: Global, count: usize) -> Result<Vec<usize>, OutOfMemory> {
     let mut numbers = Vec::with_capacity(alloc, count)?;
     'places: for _place in 0..count {
@@ -172,7 +172,7 @@ fn no_numbers(alloc: Global, count: usize) -> Result<Vec<usize>, OutOfMemory> {
     Ok(numbers)
 }
 
-/// Whether the one at a place is like that one.
+/// Whether there is a unit with the same key at a place.
 fn is_like(keys: &[Keyed], place: usize, one: Keyed) -> bool {
     match keys.get(place) {
         Some(other) => other.key == one.key,

@@ -12,10 +12,10 @@ use std::alloc::Global;
 use std::marker::Model;
 use sym_edges::{FILE_LIMIT, OutOfMemory};
 
-/// The places of the file come before those of the supplementary file.
+/// The first place of the supplementary file, counted through both files: the places of the file come before it.
 const FIRST_OF_SUP: u32 = FILE_LIMIT as u32;
 
-/// Adds a place, where it is one of the supplementary file.
+/// Adds a place, if it is in the supplementary file.
 fn push_place(places: &mut Vec<u32>, place: Option<u32>) -> Result<(), OutOfMemory>
     ensures { OnOk result (places.new.items ≡ places.old.items ++ sup_places place) }
 {
@@ -36,7 +36,7 @@ fn push_targets(places: &mut Vec<u32>, die: &Die<'_, '_>) -> Result<(), OutOfMem
     push_place(places, die.spec())
 }
 
-/// Adds those of the entries of a unit.
+/// Adds the places to which the entries of a unit lead.
 fn push_entries(places: &mut Vec<u32>, dies: &DieList<'_>) -> Result<(), OutOfMemory>
     ensures { OnOk result (places.new.items ≡ places.old.items ++ flat_map targets_of dies.now) }
 {
@@ -49,7 +49,7 @@ fn push_entries(places: &mut Vec<u32>, dies: &DieList<'_>) -> Result<(), OutOfMe
     Ok(())
 }
 
-/// Adds those of the entries of units.
+/// Adds the places to which the entries of units lead.
 fn push_units(places: &mut Vec<u32>, units: &[UnitRead<'_>]) -> Result<(), OutOfMemory>
     ensures { OnOk result (places.new.items ≡ places.old.items ++ flat_map unit_targets units.now) }
 {
@@ -70,7 +70,7 @@ fn first_units<'u, 'a>(units: &'u [UnitRead<'a>], count: usize) -> &'u [UnitRead
     units
 }
 
-/// Whether one of the places, which are in their order, lies in a unit.
+/// Whether one of the places, which are sorted, is in a unit.
 fn lie_in(places: &[u32], unit: &Unit) -> bool
     requires { IsNonDecreasing places.now }
     ensures { result ≡ list_any (lies_in unit.now) places.now }
@@ -82,7 +82,7 @@ fn lie_in(places: &[u32], unit: &Unit) -> bool
     }
 }
 
-/// The places of the supplementary file to which entries lead, in their order, so that a unit of it is found by halves.
+/// The places of the supplementary file to which entries lead, sorted, so that those in a unit are found by binary search.
 #[derive(Drop)]
 pub struct SupTargets {
     places: Vec<u32>,
@@ -100,7 +100,7 @@ impl Model for SupTargets {
 }
 
 impl SupTargets {
-    /// Of the entries of the first `count` units.
+    /// The places to which the entries of the first `count` units lead.
     pub fn of(alloc: Global, units: &Units<'_>, count: usize) -> Result<SupTargets, OutOfMemory>
         ensures { IfOk result (λ targets. AreTargets (entries_of (take count units.now)) targets) }
     {

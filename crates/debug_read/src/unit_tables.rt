@@ -1,5 +1,5 @@
-//! The line table of each unit, once the entries of all were read: a handle of the table that it names, or its fault. Of a unit
-//! without a function no lines are kept.
+//! The line table of each unit, after the entries of all units were read: a handle of the table that the unit names, or its fault. No lines are kept
+//! of a unit without a function.
 ghost use Rattle.std.specs.Prelude.{◌≡◌, if◌then◌else◌, Some, List, Err, IfOk};
 ghost use Rattle.sym_edges.specs.Addresses.{Range};
 ghost use Rattle.sym_edges.specs.Outside.{MatchStop};
@@ -22,7 +22,7 @@ use std::thread::Threads;
 use sym_edges::{OutOfMemory, Span, Stop};
 use unit_workers::Crew;
 
-/// What a worker found of a unit: all but its line table, and whether one of its entries is a function.
+/// What a worker found in a unit: everything but its line table, and whether one of its entries is a function.
 #[derive(Drop)]
 pub struct UnitFound<'a> {
     pub die: DieTable<'a>,
@@ -30,7 +30,7 @@ pub struct UnitFound<'a> {
     pub function: bool,
 }
 
-/// The line tables that were read, and the empty one; of these sections, where ranges that `code` encloses are code.
+/// The line tables that were read, and the empty one, with their sections; ranges that `code` encloses are code.
 #[derive(Drop)]
 struct KnownTables<'s, 'a> {
     sections: &'s Sections<'a>,
@@ -39,7 +39,7 @@ struct KnownTables<'s, 'a> {
     empty: SharedLines,
 }
 
-/// What is kept of a line table in a unit with a function, or without.
+/// What is kept of a line table in a unit with a function or without.
 fn keep_lines(
     known: &KnownTables<'_, '_>,
     lines: &SharedLines,
@@ -54,7 +54,7 @@ fn keep_lines(
     known.empty.again()
 }
 
-/// Reads the line table at the offset that a root has, for that unit alone.
+/// Reads the line table at the offset that a root gives, for that unit alone.
 fn own_lines(
     alloc: Global,
     known: &KnownTables<'_, '_>,
@@ -77,7 +77,7 @@ fn own_lines(
     }
 }
 
-/// The lines that are kept of a unit with a function, or without, or the fault of its table.
+/// The lines that are kept of a unit with a function or without, or the fault of its table.
 fn lines_of(
     alloc: Global,
     known: &KnownTables<'_, '_>,
@@ -109,7 +109,7 @@ fn lines_of(
     }
 }
 
-/// A unit, or its fault, once its line table is known.
+/// A unit with its line table, or the first fault of the unit.
 fn settle<'a>(
     alloc: Global,
     known: &KnownTables<'_, 'a>,
@@ -133,7 +133,7 @@ fn settle<'a>(
     }
 }
 
-/// All units, once their line tables are known, or the fault of the first one that has one.
+/// All units, once their line tables are known, or the fault of the first unit that has one.
 fn settle_all<'a>(
     alloc: Global,
     known: &KnownTables<'_, 'a>,
@@ -157,8 +157,7 @@ fn settle_all<'a>(
     Ok(parts)
 }
 
-/// All units, with the line tables that they name, or the fault of the first one that has one. Ranges that one of the spans encloses are
-/// code.
+/// All units, with the line tables that they name, or the fault of the first unit that has one. Ranges that one of the spans encloses are code.
 pub fn settle_units<'a, R: Threads + Sync>(
     crew: &Crew<'_, R>,
     sections: &Sections<'a>,

@@ -56,7 +56,7 @@ fn pick_read(alloc: Global, units: &[Unit]) -> Result<Vec<Unit>, OutOfMemory>
     Ok(read)
 }
 
-/// Reads a unit by its abbreviations, all but its line table: its entries, and their addresses.
+/// Reads a unit, given its abbreviations, except for its line table: its entries, and their addresses.
 #[tactic(auto, unfolding(crate::specs::UnitSays::unit_says))]
 fn read_entries<'a>(
     alloc: Global,
@@ -90,7 +90,7 @@ fn read_entries<'a>(
     })
 }
 
-/// Reads a unit whose abbreviations no other names: they are read in place of those before.
+/// Reads a unit whose abbreviations no other unit names; they replace those that were read before.
 #[tactic(auto, unfolding(crate::specs::UnitSays::unit_says))]
 fn read_alone<'a>(
     alloc: Global,
@@ -112,7 +112,7 @@ fn read_alone<'a>(
     }
 }
 
-/// Reads unit `k`: its abbreviations, if they are not among the shared ones, and what follows.
+/// Reads unit `k`: its abbreviations, if they are not among the shared ones, and then the rest.
 #[tactic(auto, unfolding(crate::specs::UnitSays::unit_says))]
 fn read_unit<'a>(
     alloc: Global,
@@ -140,7 +140,7 @@ fn read_unit<'a>(
     }
 }
 
-/// The units that are to be read, of these sections; ranges that `code` encloses are code.
+/// The units to be read, of these sections; ranges that `code` encloses are code.
 #[derive(Drop)]
 struct UnitReader<'s, 'a> {
     sections: &'s Sections<'a>,
@@ -236,7 +236,7 @@ fn find_all<'a, R: Threads + Sync, G: Gate + Sync>(
     Ok(found)
 }
 
-/// The units that are read, or the fault of the first one that has one.
+/// The units that are read, or the fault of the first unit that has one.
 fn read_parts<'a, R: Threads + Sync, G: Gate + Sync>(
     crew: &Crew<'_, R>,
     sections: &Sections<'a>,
@@ -289,7 +289,7 @@ fn read_file<'a, R: Threads + Sync, G: Gate + Sync>(
     }
 }
 
-/// The headers of the units of a file and of its supplementary file, and the units of both that are read, first those of the file.
+/// The headers of the units of a file and of its supplementary file, and the units of both that are read, those of the file first.
 #[derive(Drop)]
 pub struct BothRead<'a> {
     pub headers: UnitList,
@@ -297,7 +297,7 @@ pub struct BothRead<'a> {
     pub units: Units<'a>,
 }
 
-/// The units of a file, and behind them those of its supplementary file.
+/// The units of a file, followed by those of its supplementary file.
 fn join_files<'a>(
     parts: Vec<UnitRead<'a>>,
     others: Vec<UnitRead<'a>>,

@@ -1,4 +1,4 @@
--- The paths of line tables, as records may carry them.
+-- The paths of line tables, cleaned for records.
 use Rattle.std.specs.Prelude.{List, [], ◌∷◌}
 use Rattle.clean_names.specs.Cleaning.{AreClean}
 use Rattle.debug_units.specs.declared.unit_read.UnitRead.{UnitRead}

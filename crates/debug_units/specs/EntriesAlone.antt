@@ -1,10 +1,10 @@
--- Units by their entries alone, without addresses and lines: names are made of these.
+-- Units with their entries only, without addresses and lines: names are made from these.
 use Rattle.std.specs.Prelude.{[]}
 use Rattle.line_program.specs.LineMaps.{no_lines}
 use Rattle.die_walk.specs.EntryTable.{EntryTable}
 use Rattle.debug_units.specs.declared.unit_read.UnitRead.{UnitRead}
 
--- a unit that has these entries and nothing else
+-- a unit with the entries of a table and nothing else
 abbrev pub with_entries : EntryTable → UnitRead
 with_entries table = record { die = table; spans = []; lines = no_lines }
 

@@ -1,4 +1,4 @@
--- The function that owns an address, its inline chain and its line (DWARF 5, 3.3).
+-- The function that owns an address, and the inline chain and the line of the address (DWARF 5, 3.3).
 use Rattle.std.specs.Prelude.{ℕ, zero, suc, ◌+◌, ◌==◌, ◌&&◌, ◌||◌, false, if◌then◌else◌, List, [], ◌∷◌, ◌++◌, Option, None, Some}
 use Rattle.std.specs.List.{find, slice_get}
 use Rattle.std.specs.Option.{option_map_or}
@@ -9,7 +9,7 @@ use Rattle.line_program.specs.LineMaps.{named_line, numbered_line}
 use Rattle.debug_units.specs.declared.unit_read.UnitRead.{UnitRead}
 use Rattle.die_walk.specs.EntryKinds.{is_function, is_inlined}
 
--- an entry with its numbers and its addresses
+-- an entry with the number of its unit, its own number in the unit, and its addresses
 pub record Covering : Type 0 where
   pub unit : ℕ
   pub entry : ℕ
@@ -24,11 +24,12 @@ abbrev pub covering_from : ℕ → List UnitRead → List Covering
 covering_from unit [] = []
 covering_from unit (part ∷ parts) = unit_covering unit 0 part.die.dies part.spans ++ covering_from (unit + 1) parts
 
--- the first function, in the order of the section, whose addresses hold this one
+-- the owner of an address: the first function, in the order of the section, that has the address
 unfoldable pub owner : List UnitRead → ℕ → Option Covering
 owner units a = find (λ c. is_function c.die && holds_any c.spans a) (covering_from 0 units)
 
--- the nearest function or inlined copy around an entry with this parent; it stands before it, so among the first `number` of the unit
+-- the number of the nearest function or inlined copy around an entry whose parent is `parent`, among the first `number` entries: an entry comes after
+-- its parent
 unfoldable pub inside_of : List DieFields → ℕ → Option ℕ → Option ℕ
 inside_of dies zero parent = None
 inside_of dies (suc number) parent =
@@ -36,7 +37,8 @@ inside_of dies (suc number) parent =
     then option_map_or (λ die. if die.tag == 0x2e || is_inlined die then Some number else inside_of dies number die.parent) (slice_get dies number) None
     else inside_of dies number parent
 
--- the inlined copies at an address inside of an entry, level by level: at each level the first one that stands in the one before; it stands after that one
+-- the inlined copies at an address inside the entry `entry`, level by level: the first copy at the address directly in `entry`, then the first later
+-- copy directly in that copy, and so on
 abbrev pub chain_from : List DieFields → ℕ → ℕ → List Covering → List Covering
 chain_from dies a entry [] = []
 chain_from dies a entry (c ∷ later) =
@@ -48,7 +50,7 @@ abbrev pub chain_by : ℕ → ℕ → ℕ → Option UnitRead → List Covering
 chain_by unit entry a None = []
 chain_by unit entry a (Some part) = chain_from part.die.dies a entry (unit_covering unit 0 part.die.dies part.spans)
 
--- the same inside of the entry of these numbers
+-- the inlined copies at an address inside the entry `entry` of unit `unit`
 unfoldable pub entry_chain : List UnitRead → ℕ → ℕ → ℕ → List Covering
 entry_chain units unit entry a = chain_by unit entry a (slice_get units unit)
 
@@ -59,7 +61,7 @@ chain_under units a (Some c) = entry_chain units c.unit c.entry a
 unfoldable pub chain : List UnitRead → ℕ → List Covering
 chain units a = chain_under units a (owner units a)
 
--- path and line of an address, by the table of its owner's unit
+-- path and line of an address, from the line table of its owner's unit
 abbrev pub line_in : ℕ → Option UnitRead → Option (List ℕ × ℕ)
 line_in a None = None
 line_in a (Some part) = named_line part.lines.paths (numbered_line part.lines a)

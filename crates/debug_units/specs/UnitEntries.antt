@@ -9,7 +9,7 @@ use Rattle.die_walk.specs.EntryTable.{DieFields}
 use Rattle.debug_units.specs.declared.unit_read.EntryRef.{EntryRef}
 use Rattle.debug_units.specs.declared.unit_read.UnitRead.{UnitRead}
 
--- an entry with the number of its unit and its own number there
+-- an entry with the number of its unit and its own number in the unit
 pub record Placed : Type 0 where
   pub unit : ℕ
   pub entry : ℕ
@@ -20,7 +20,7 @@ abbrev pub unit_entries : ℕ → ℕ → List DieFields → List Placed
 unit_entries unit entry [] = []
 unit_entries unit entry (die ∷ dies) = record { unit = unit; entry = entry; die = die } ∷ unit_entries unit (entry + 1) dies
 
--- the entries of units, which are numbered from `unit`
+-- the entries of units that are numbered from `unit`
 abbrev pub entries_from : ℕ → List UnitRead → List Placed
 entries_from unit [] = []
 entries_from unit (part ∷ parts) = unit_entries unit 0 part.die.dies ++ entries_from (unit + 1) parts
@@ -29,7 +29,7 @@ entries_from unit (part ∷ parts) = unit_entries unit 0 part.die.dies ++ entrie
 unfoldable pub entry_at : List UnitRead → ℕ → Option Placed
 entry_at units place = find (λ p. p.die.at == place) (entries_from 0 units)
 
--- the entry of these numbers
+-- the entry `entry` of unit `unit`
 abbrev pub entry_in : ℕ → ℕ → Option UnitRead → Option Placed
 entry_in unit entry None = None
 entry_in unit entry (Some part) = option_map (λ die. record { unit = unit; entry = entry; die = die }) (slice_get part.die.dies entry)
@@ -37,7 +37,7 @@ entry_in unit entry (Some part) = option_map (λ die. record { unit = unit; entr
 unfoldable pub entry_of : List UnitRead → ℕ → ℕ → Option Placed
 entry_of units unit entry = entry_in unit entry (slice_get units unit)
 
--- the entry of these numbers, alone
+-- the same entry without the numbers
 abbrev pub die_from : ℕ → Option UnitRead → Option DieFields
 die_from entry None = None
 die_from entry (Some part) = slice_get part.die.dies entry
@@ -45,7 +45,7 @@ die_from entry (Some part) = slice_get part.die.dies entry
 abbrev pub die_in : List UnitRead → EntryRef → Option DieFields
 die_in units s = die_from s.entry (slice_get units s.unit)
 
--- each entry has a set of addresses, and those that do not count have none
+-- each entry has a set of addresses, which is empty if the entry does not count
 abbrev pub ArePaired : List DieFields → List (List Range) → Type 0
 ArePaired [] [] = Prim.Unit {0}
 ArePaired (die ∷ dies) (spans ∷ sets) = (counts die ≡ false → spans ≡ []) × ArePaired dies sets
@@ -55,12 +55,12 @@ abbrev pub ArePairs : List UnitRead → Type 0
 ArePairs [] = Prim.Unit {0}
 ArePairs (part ∷ parts) = ArePaired part.die.dies part.spans × ArePairs parts
 
--- the places of the entries
+-- the places of the entries of all units
 abbrev pub places : List UnitRead → List ℕ
 places [] = []
 places (part ∷ parts) = map (λ die. die.at) part.die.dies ++ places parts
 
--- what holds of the units of a file
+-- what holds for the units that were read of a file
 pub record AreRead (units : List UnitRead) : Type 0 where
   pub few : length units < 2 ^ 32
   pub few_entries : length (places units) < 2 ^ 32

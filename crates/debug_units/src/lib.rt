@@ -1,10 +1,10 @@
 //! The units of a file together, as they were read.
 //!
-//! [`Units`] are what was read of each unit, in the order of their places: its entries, the addresses of each ([`SpanSets`]), and its
-//! line table, which units that name the same one share ([`SharedLines`]).
+//! [`Units`] has what was read of each unit, in the order of their places: its entries, the addresses of each entry ([`SpanSets`]), and its line
+//! table. Units that name the same line table share it ([`SharedLines`]).
 //!
-//! Here stands which function owns an address, which inlined copies are on its chain, and which line it has
-//! (`specs/Owners.antt`), for the crates above.
+//! `specs/Owners.antt` defines, for the crates above, which function owns an address, which inlined copies are on the chain of the address, and which
+//! line it has.
 //!
 //! To read: `specs/UnitEntries.antt` and `Owners.antt`; then `unit_read`, `span_sets` and `shared_lines`.
 #![tactic(auto)]

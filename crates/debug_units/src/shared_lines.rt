@@ -7,7 +7,7 @@ use std::marker::Model;
 use std::sync::Arc;
 use sym_edges::OutOfMemory;
 
-/// A line table that many units may hold, read by many threads. It is in memory once.
+/// A line table that many units share and many threads read. It is in memory once.
 #[derive(Drop)]
 pub struct SharedLines {
     lines: Arc<LineTable, Global>,

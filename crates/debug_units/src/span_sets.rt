@@ -1,4 +1,4 @@
-//! The addresses of entries, of which most have none, and many have those of another entry.
+//! The addresses of entries. Most entries have none, and many have those of another entry.
 ghost use Rattle.std.specs.Prelude.{◌≡◌, ◌<◌, [], ◌∷◌, ◌++◌, Some, true, length, IfOk, IfSome, OnOk, List};
 ghost use Rattle.std.specs.List.{slice_get};
 ghost use Rattle.std.specs.Option.{option_copied};
@@ -11,11 +11,11 @@ use std::alloc::Global;
 use std::marker::Model;
 use sym_edges::{OutOfMemory, Span};
 
-/// For how many sets, and for how many ranges, room is taken at once.
+/// The number of sets, and of ranges, for which memory is reserved at first.
 const USUAL: usize = 16;
 
-/// The addresses of a unit's entries, one set for each: empty for those that do not count. An entry without addresses takes four
-/// bytes, and so does one with the set of an earlier entry: sets have numbers, and number 0 is the empty set.
+/// The addresses of a unit's entries, one set for each entry; the set is empty if the entry does not count. Sets have numbers, and number 0 is the
+/// empty set. So an entry without addresses takes four bytes, and so does an entry with the set of an earlier one.
 #[derive(Drop)]
 pub struct SpanSets {
     numbers: Vec<u32>,
@@ -46,7 +46,7 @@ fn number_of(numbers: &[u32], entry: usize) -> Option<u32>
 }
 
 impl SpanSets {
-    /// No entry yet, and room for so many.
+    /// No entry yet, and room for `count`.
     #[tactic(auto, using(crate::proofs::SetLemmas::none_numbered))]
     pub fn with_room(alloc: Global, count: usize) -> Result<SpanSets, OutOfMemory>
         ensures { IfOk result (λ sets. sets ≡ []) }
@@ -102,7 +102,7 @@ impl SpanSets {
         Ok(())
     }
 
-    /// Gives back the room that no set took.
+    /// Releases the memory that is not used.
     #[tactic(auto, using(crate::proofs::SetLemmas::numbered_kept))]
     pub fn shrink(&mut self)
         ensures { self.new ≡ self.old }
@@ -130,7 +130,7 @@ impl SpanSets {
         }
     }
 
-    /// A number of the entry's set: entries of one number have one set. 0 after the last entry.
+    /// The number of the entry's set: entries with the same number have the same set. 0 if there is no such entry.
     #[inline]
     pub fn number(&self, entry: usize) -> usize {
         match number_of(self.numbers.as_slice(), entry) {
@@ -139,7 +139,8 @@ impl SpanSets {
         }
     }
 
-    /// Whether both entries are there and have one number, so that their sets are one. Sets that were added apart count as two.
+    /// Whether both entries exist and their sets have the same number, so that the sets are equal. Sets that were added separately have different
+    /// numbers, unless they are empty.
     #[inline]
     #[tactic(auto, using(crate::proofs::SetLemmas::same_there))]
     pub fn are_same(&self, one: usize, other: usize) -> bool

@@ -11,7 +11,7 @@ use die_walk::{Die, DieTable};
 use std::marker::Model;
 use sym_edges::Span;
 
-/// An entry: the number of its unit, and its own number there.
+/// An entry, given by the number of its unit and its own number in the unit.
 #[derive(Clone, Copy, Debug, PartialEq, Eq)]
 pub struct EntryRef {
     pub unit: u32,
@@ -64,9 +64,8 @@ impl<'a> Model for Units<'a> {
 }
 
 impl<'a> Units<'a> {
-    /// Takes no memory. There are less than 2^32 parts, and less than 2^32 entries in all of them; each
-    /// entry has a set, which is empty where it does not count; and the places of the entries rise through
-    /// all parts.
+    /// Allocates no memory. There must be less than 2^32 parts, and less than 2^32 entries in all of them. Each entry must have a set, which is empty
+    /// if the entry does not count. The places of the entries must rise through all parts.
     pub fn of(parts: Vec<UnitRead<'a>>) -> Units<'a>
         requires { AreRead parts.items }
         ensures { result ≡ parts.entry.items }

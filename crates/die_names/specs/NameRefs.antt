@@ -18,7 +18,8 @@ has_linkage p = is_some p.die.linkage
 abbrev pub has_name : Placed → Bool
 has_name p = is_some p.die.name
 
--- the first entry on a way with a linkage name, else the first one with a name, else the one that was asked for
+-- the entry that gives the name: the first entry on the way with a linkage name, or else the first one with a name, or else the entry whose name is
+-- asked for
 abbrev pub joined_or : NameRef → Option Placed → NameRef
 joined_or omitted None = omitted
 joined_or omitted (Some p) = name_at p Joined
@@ -32,7 +33,7 @@ name_ref units unit entry =
     let entries = way units 16 (entry_of units unit entry) in
     linkage_or (joined_or (record { unit = unit; entry = entry; how = Omitted }) (find has_name entries)) (find has_linkage entries)
 
--- the bytes of a name, before they are cleaned
+-- the bytes of a name before it is cleaned
 abbrev pub bytes_by : List UnitRead → How → Placed → Option (List ℕ)
 bytes_by units Linkage p = p.die.linkage
 bytes_by units Joined p = option_map (λ name. front_of units p ++ name) p.die.name
@@ -41,7 +42,7 @@ bytes_by units Omitted p = None
 unfoldable pub name_bytes : List UnitRead → NameRef → List ℕ
 name_bytes units name = unwrap_or (option_and_then (bytes_by units name.how) (entry_of units name.unit name.entry)) (codes "<name omitted>")
 
--- a name that stands in the file as it is, before it is cleaned: all but those that have scopes
+-- the bytes of a name before it is cleaned, if the file has them as they are: all names but those that have scopes
 abbrev pub unless_front : List ℕ → Option (List ℕ) → Option (List ℕ)
 unless_front [] name = name
 unless_front (b ∷ front) name = None
@@ -54,10 +55,10 @@ slice_by units Omitted p = None
 unfoldable pub name_slice : List UnitRead → NameRef → Option (List ℕ)
 name_slice units name = option_and_then (slice_by units name.how) (entry_of units name.unit name.entry)
 
--- what the scopes around the entry of a name put in front
+-- the prefix that the scopes around the entry of a name give
 abbrev pub scopes_of : List UnitRead → NameRef → List ℕ
 scopes_of units name = option_map_or (front_of units) (entry_of units name.unit name.entry) []
 
--- bytes, after the names of the scopes where they are joined with them
+-- the bytes, after the names of the scopes if `joined`
 abbrev pub joined_bytes : List UnitRead → NameRef → Bool → List ℕ → List ℕ
 joined_bytes units name joined bytes = if joined then scopes_of units name ++ bytes else bytes

@@ -10,7 +10,7 @@ use debug_units::{EntryRef, UnitRead};
 use die_walk::DieList;
 use place_guesses::{guess_at, note_guess, slot_of};
 
-/// Where an entry stands, as it is looked up.
+/// The numbers of a unit and of an entry in it, while the entry is looked up.
 #[derive(Clone, Copy, Debug)]
 pub struct Standing {
     pub unit: usize,
@@ -34,7 +34,7 @@ fn find_in_unit(dies: &DieList<'_>, place: u64) -> Option<usize>
     Some(count)
 }
 
-/// The same after so many units.
+/// The same entry in a list with `count` more units in front.
 fn behind(count: usize, standing: Option<Standing>) -> Option<Standing>
     requires { IfSome standing (λ s. count + s.unit < 2 ^ 63) }
     ensures { result ≡ moved count standing }
@@ -48,7 +48,7 @@ fn behind(count: usize, standing: Option<Standing>) -> Option<Standing>
     }
 }
 
-/// The entry of some units that begins at a place, by halves.
+/// The entry of some units that begins at a place, by binary search.
 fn find_among(units: &[UnitRead<'_>], place: u64) -> Option<Standing>
     requires { RisesFrom 0 (places units.now) }
     ensures found { (first : ℕ) → found_from first units.now result ≡ find (is_at place) (entries_from first units.now) }
@@ -75,7 +75,7 @@ fn find_among(units: &[UnitRead<'_>], place: u64) -> Option<Standing>
     }
 }
 
-/// A number of an entry of a unit, where the entry begins at a place.
+/// The guessed number, if the entry of that number begins at the place.
 #[tactic(auto, using(crate::proofs::FindLemmas::guess_here, crate::proofs::FindLemmas::die_inside))]
 fn guess_in_unit(dies: &DieList<'_>, guess: usize, place: u64) -> Option<usize>
     requires { RisesFrom 0 (map (λ (d : DieFields). d.at) dies.now) }
@@ -91,7 +91,7 @@ fn guess_in_unit(dies: &DieList<'_>, guess: usize, place: u64) -> Option<usize>
     Some(guess)
 }
 
-/// The number of the entry of a unit that begins at a place; where one is guessed, only if it is that one.
+/// The number of the entry of a unit that begins at a place. If a number is guessed, only that entry is tried.
 fn look_in_unit(dies: &DieList<'_>, guess: Option<usize>, place: u64) -> Option<usize>
     requires { RisesFrom 0 (map (λ (d : DieFields). d.at) dies.now) }
     ensures found { IfSome result (λ entry. (unit : ℕ) → found_in unit dies.now (Some entry) ≡ find (is_at place) (unit_entries unit 0 dies.now)) }
@@ -103,7 +103,7 @@ fn look_in_unit(dies: &DieList<'_>, guess: Option<usize>, place: u64) -> Option<
     }
 }
 
-/// The entry that begins at a place, where it is in the unit of a number, and, where a number of an entry is guessed, is that one.
+/// The entry that begins at a place, if it is in unit `near`. If a number of an entry is guessed, only that entry is tried.
 fn find_near(
     units: &[UnitRead<'_>],
     near: usize,
@@ -134,7 +134,7 @@ fn find_near(
     }
 }
 
-/// The entry that begins at a place, first looked for in the unit of a number.
+/// The entry that begins at a place. Unit `near` is searched first.
 fn find_from(units: &[UnitRead<'_>], near: usize, place: u64) -> Option<Standing>
     requires { RisesFrom 0 (places units.now) }
     ensures found { (first : ℕ) → found_from first units.now result ≡ find (is_at place) (entries_from first units.now) }
@@ -146,7 +146,7 @@ fn find_from(units: &[UnitRead<'_>], near: usize, place: u64) -> Option<Standing
     }
 }
 
-/// The entry that begins at a place, first the guessed one, then in the unit of a number.
+/// The entry that begins at a place. The guessed entry is tried first, then unit `near` is searched.
 fn find_from_guess(
     units: &[UnitRead<'_>],
     guess: Option<EntryRef>,
@@ -171,8 +171,8 @@ fn find_from_guess(
     }
 }
 
-/// The entry that begins at a place of `.debug_info`. Most places that an entry names are in its own unit, which is `near`, and many
-/// entries name the same places, which `guesses` keeps.
+/// The entry that begins at a place of `.debug_info`. Most places that an entry names are in its own unit, which is `near`. Many entries name the
+/// same places, and `guesses` keeps where those were found.
 #[tactic(auto, using(crate::proofs::AmongLemmas::found_none, crate::proofs::AmongLemmas::found_some, crate::proofs::FollowLemmas::small_unit, crate::proofs::FollowLemmas::small_entry))]
 pub(crate) fn find_entry(
     units: &[UnitRead<'_>],

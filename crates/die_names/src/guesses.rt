@@ -1,19 +1,19 @@
-//! Where links led: guesses of where the next one leads.
+//! Where links led before, as guesses for later links.
 use debug_units::EntryRef;
 use std::alloc::Global;
 use sym_edges::OutOfMemory;
 
-/// How many slots there are.
+/// The number of slots.
 const SLOTS: usize = 16384;
 
-/// Entries that links led to, in the slots of their places.
+/// Entries that links led to, each in the slot of its place.
 #[derive(Drop)]
 pub struct LinkGuesses {
     slots: Vec<EntryRef>,
 }
 
 impl LinkGuesses {
-    /// Takes memory once.
+    /// Allocates memory once.
     pub fn new(alloc: Global) -> Result<LinkGuesses, OutOfMemory> {
         let none = EntryRef { unit: 0, entry: 0 };
         Ok(LinkGuesses {

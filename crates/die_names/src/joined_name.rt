@@ -23,7 +23,7 @@ fn entry_in<'u, 'a>(dies: &'u DieList<'a>, entry: usize) -> Option<Die<'u, 'a>>
     dies.get(entry)
 }
 
-/// The name that a scope puts in front of others. One that stands in the supplementary file is not known.
+/// The name of a scope in the prefix of other names. A name in a supplementary file that was not read is unknown.
 pub fn scope_name<'a>(die: &Die<'_, 'a>) -> &'a [u8]
     ensures { result.now ≡ scope_name die.now }
 {
@@ -34,7 +34,7 @@ pub fn scope_name<'a>(die: &Die<'_, 'a>) -> &'a [u8]
     }
 }
 
-/// Adds what an entry puts in front of a name.
+/// Adds the prefix that an entry gives to a name.
 #[tactic(auto, unfolding(crate::specs::Names::scope_front))]
 fn add_front(text: &mut Vec<u8>, die: &Die<'_, '_>) -> Result<(), OutOfMemory>
     ensures { OnOk result (text.new.items ≡ text.old.items ++ scope_front die.now) }
@@ -47,7 +47,7 @@ fn add_front(text: &mut Vec<u8>, die: &Die<'_, '_>) -> Result<(), OutOfMemory>
     Ok(())
 }
 
-/// The numbers of the scopes around the entry of a number, the innermost first.
+/// The numbers of the scopes around the entry `entry`, the innermost first.
 fn scopes_around(alloc: Global, dies: &DieList<'_>, entry: usize) -> Result<Vec<u32>, OutOfMemory>
     ensures { IfOk result (λ v. v.items ≡ scopes_of dies.now entry) }
 {
@@ -62,7 +62,7 @@ fn scopes_around(alloc: Global, dies: &DieList<'_>, entry: usize) -> Result<Vec<
     }
 }
 
-/// The first place from this one on where no space stands, or the end.
+/// The first place, from `from` on, at which there is no space, or the end.
 fn past_spaces(text: &[u8], from: usize) -> usize
     ensures { from ≤ result }
 {
@@ -73,7 +73,7 @@ fn past_spaces(text: &[u8], from: usize) -> usize
     place
 }
 
-/// Whether a name keeps nothing of what follows these bytes: at this place stands no space, and so many bytes that the name is cut.
+/// Whether cleaning drops everything after these bytes: `place` has no space, and so many bytes begin there that the name is cut.
 #[tactic(auto, using(crate::proofs::CutLemmas::cleaned_cut))]
 fn is_full(text: &[u8], place: usize) -> bool
     ensures { result ≡ true → (more : List ℕ) → cleaned (text.now ++ more) ≡ cleaned text.now }
@@ -87,7 +87,7 @@ fn is_full(text: &[u8], place: usize) -> bool
     text.len() - place >= NAME_LIMIT
 }
 
-/// A name after the names of its scopes, as far as cleaning keeps them.
+/// The names of the scopes and then the name, as far as cleaning keeps them.
 #[tactic(auto, using(crate::proofs::JoinLemmas::fronts_more, crate::proofs::CutLemmas::cut_whole, crate::proofs::CutLemmas::uncut))]
 fn join(
     alloc: Global,
@@ -113,8 +113,7 @@ fn join(
     Ok(text)
 }
 
-/// The bytes of a name where they stand in the file as they are, before they are cleaned: a linkage name, or a name
-/// that has no scopes. Takes no memory.
+/// The bytes of a name before it is cleaned, if the file has them as they are: a linkage name, or a name that has no scopes. Allocates no memory.
 #[tactic(auto, using(crate::proofs::TextLemmas::slice_no_part, crate::proofs::TextLemmas::slice_no_die, crate::proofs::TextLemmas::slice_linkage, crate::proofs::TextLemmas::slice_omitted, crate::proofs::TextLemmas::slice_bare, crate::proofs::TextLemmas::slice_scoped))]
 pub fn name_slice<'a>(units: &Units<'a>, name: NameRef) -> Option<&'a [u8]>
     ensures { option_copied result ≡ name_slice units.now name }
@@ -136,7 +135,7 @@ pub fn name_slice<'a>(units: &Units<'a>, name: NameRef) -> Option<&'a [u8]>
     }
 }
 
-/// The text of a name, made as a record may carry it.
+/// The text of a name, cleaned for records, in new memory.
 #[tactic(auto, using(crate::proofs::TextLemmas::text_sliced, crate::proofs::TextLemmas::text_joined, crate::proofs::TextLemmas::text_no_part, crate::proofs::TextLemmas::text_no_die, crate::proofs::TextLemmas::text_no_name, crate::proofs::TextLemmas::text_no_linkage, crate::proofs::TextLemmas::text_omitted))]
 fn made_text(alloc: Global, units: &Units<'_>, name: NameRef) -> Result<ByteRun, OutOfMemory>
     ensures { IfOk result (λ t. t ≡ cleaned (name_bytes units.now name)) }
@@ -164,8 +163,8 @@ fn made_text(alloc: Global, units: &Units<'_>, name: NameRef) -> Result<ByteRun,
     }
 }
 
-/// The text of a name, as a record may carry it: `name_text` of what `name_of` gave is the name of the entry. Takes no memory where
-/// the name stands in the file as it is, and is clean.
+/// The text of a name, cleaned for records: `name_text` of what `name_of` returned is the name of the entry. Allocates no memory if the file has the
+/// name as it is and the name is clean.
 pub fn name_text<'a>(
     alloc: Global,
     units: &Units<'a>,

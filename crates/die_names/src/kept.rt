@@ -1,4 +1,4 @@
-//! Names as records carry them.
+//! Names, cleaned for records.
 ghost use Rattle.std.specs.Prelude.{◌≡◌, IfSome};
 ghost use Rattle.clean_names.specs.Cleaning.{cleaned};
 ghost use Rattle.die_names.specs.NameRefs.{name_bytes};
@@ -17,7 +17,7 @@ pub(crate) enum KeptName<'a> {
     Made(ByteRun),
 }
 
-/// A name as a record carries it, which contracts see as its bytes. Where they stand in the file as they are, they are not copied.
+/// A name as a record carries it; contracts see it as its bytes. If the file has the bytes as they are, they are not copied.
 #[derive(Drop)]
 pub struct EntryNameText<'a> {
     kept: KeptName<'a>,
@@ -42,7 +42,7 @@ impl<'a> EntryNameText<'a> {
         }
     }
 
-    /// A name that stands in the file.
+    /// A name whose bytes are in the file.
     fn in_file(bytes: &'a [u8]) -> EntryNameText<'a>
         ensures { result ≡ bytes.now }
     {
@@ -61,7 +61,7 @@ impl<'a> EntryNameText<'a> {
     }
 }
 
-/// The bytes of a name that stands in the file as a record may carry it. Takes no memory.
+/// The bytes of a name, if the file has them as a record may carry them. Allocates no memory.
 pub fn clean_slice<'a>(units: &Units<'a>, name: NameRef) -> Option<&'a [u8]>
     ensures name { IfSome result (λ bytes. bytes.now ≡ cleaned (name_bytes units.now name)) }
     ensures clean { IfSome result (λ bytes. cleaned bytes.now ≡ bytes.now) }
@@ -73,7 +73,7 @@ pub fn clean_slice<'a>(units: &Units<'a>, name: NameRef) -> Option<&'a [u8]>
     None
 }
 
-/// A name that stands in the file as a record may carry it.
+/// A name, if the file has its bytes as a record may carry them.
 pub(crate) fn whole_name<'a>(units: &Units<'a>, name: NameRef) -> Option<EntryNameText<'a>>
     ensures { IfSome result (λ text. text ≡ cleaned (name_bytes units.now name)) }
 {

@@ -1,11 +1,11 @@
 //! The names of the entries of a file's units (DWARF 5, 2.15 and 3.3.8).
 //!
-//! The way of an entry is itself and the entries that at most 16 links lead to, by DW_AT_abstract_origin or else by
-//! DW_AT_specification, into any unit. Its name is the first linkage name on the way, or else the first name, after the names
-//! of the classes, structures, unions and namespaces around the entry that has it, joined by `::`; or else `<name omitted>`.
-//! [`name_of`] says which entry gives the name, and how; [`name_text`] gives its text, cleaned, a [`EntryNameText`]; [`name_slice`] gives
-//! the bytes of the file where the name stands there as it is. A link is looked up by halves, in the entry's own unit first, then
-//! among all units.
+//! The way of an entry is the entry itself and the entries that at most 16 links lead to, by DW_AT_abstract_origin or else by DW_AT_specification,
+//! into any unit. The name of the entry is the first linkage name on its way. If there is none, it is the first name on the way, after the names of
+//! the classes, structures, unions and namespaces around the entry that has this name, joined by `::`. If there is no name either, it is
+//! `<name omitted>`. [`name_of`] says which entry gives the name, and how. [`name_text`] gives the cleaned text of the name, an [`EntryNameText`].
+//! [`name_slice`] gives the bytes of the file if it has the name as it is. The target of a link is found by binary search, in the entry's own unit
+//! first, then among all units.
 //!
 //! To read: `specs/Names.antt` and `NameRefs.antt`; then `guesses`, `entry_search`, `name_source`, `joined_name`, `kept` and `parts`.
 #![tactic(auto)]

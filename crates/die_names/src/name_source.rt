@@ -23,7 +23,7 @@ pub enum How {
     Omitted,
 }
 
-/// The entry that gives a name, and how. Two that are equal are one name; two that are not may still have one text.
+/// The entry that gives a name, and how. If two are equal, so are their names; if not, their names may still have the same text.
 #[derive(Clone, Copy, Debug, PartialEq, Eq)]
 pub struct NameRef {
     pub unit: u32,
@@ -31,10 +31,10 @@ pub struct NameRef {
     pub how: How,
 }
 
-/// How many links are followed at most.
+/// The greatest number of links that are followed.
 const LINKS: u32 = 16;
 
-/// The entry that an entry of a unit is linked to.
+/// The entry that the link of an entry leads to.
 fn follow_link(
     units: &Units<'_>,
     unit: u32,
@@ -61,7 +61,7 @@ fn refer(at: EntryRef, how: How) -> NameRef
     }
 }
 
-/// The name if no linkage name comes: that of the first entry that has one.
+/// What the name is if no linkage name follows: that of the first entry that has a name.
 fn note(die: &Die<'_, '_>, at: EntryRef, best: NameRef) -> NameRef
     ensures { result ≡ noted_at best at die.now }
 {
@@ -71,7 +71,7 @@ fn note(die: &Die<'_, '_>, at: EntryRef, best: NameRef) -> NameRef
     }
 }
 
-/// The name from an entry on, where `best` is what it is if no linkage name comes.
+/// The name from an entry on. It is `best` if no later entry has a linkage name or, while `best` is omitted, a name.
 #[tactic(auto, using(crate::proofs::FollowLemmas::way_none, crate::proofs::FollowLemmas::way_lost, crate::proofs::FollowLemmas::linkage_is, crate::proofs::FollowLemmas::last_is, crate::proofs::FollowLemmas::next_is))]
 fn follow(
     units: &Units<'_>,
@@ -99,7 +99,7 @@ fn follow(
     follow(units, next, links - 1, noted, guesses)
 }
 
-/// The entry that gives the name of an entry, by these guesses of where links lead.
+/// The entry that gives the name of an entry, with guesses of where links lead.
 #[tactic(auto, using(crate::proofs::NameLemmas::reference_is, crate::proofs::NameLemmas::name_from), unfolding(debug_units::specs::UnitEntries::entry_of))]
 fn name_among(units: &Units<'_>, unit: u32, entry: u32, guesses: &mut [EntryRef]) -> NameRef
     ensures reference { result ≡ name_ref units.now unit entry }
@@ -113,8 +113,8 @@ fn name_among(units: &Units<'_>, unit: u32, entry: u32, guesses: &mut [EntryRef]
     follow(units, Some(EntryRef { unit, entry }), LINKS, asked, guesses)
 }
 
-/// The entry that gives the name of an entry: the first one with a linkage name, else the first one with a name, among the entry and those that at most 16 links reach. A link goes by `DW_AT_abstract_origin`,
-/// or else by `DW_AT_specification`, to a kept entry of any unit. Takes no memory.
+/// The entry that gives the name of an entry: the first one with a linkage name, or else the first one with a name, among the entry and those that at
+/// most 16 links reach. A link goes by `DW_AT_abstract_origin`, or else by `DW_AT_specification`, to a kept entry of any unit. Allocates no memory.
 pub fn name_of(units: &Units<'_>, unit: u32, entry: u32) -> NameRef
     ensures reference { result ≡ name_ref units.now unit entry }
     ensures name { cleaned (name_bytes units.now result) ≡ entry_name units.now unit entry }
@@ -122,7 +122,7 @@ pub fn name_of(units: &Units<'_>, unit: u32, entry: u32) -> NameRef
     name_among(units, unit, entry, &mut [])
 }
 
-/// The same for one of many entries, whose links often lead to the same entries: `guesses` keeps where they led. Takes no memory.
+/// The same for one of many entries whose links often lead to the same entries: `guesses` keeps where they led. Allocates no memory.
 pub fn name_by(units: &Units<'_>, unit: u32, entry: u32, guesses: &mut LinkGuesses) -> NameRef
     ensures reference { result ≡ name_ref units.now unit entry }
     ensures name { cleaned (name_bytes units.now result) ≡ entry_name units.now unit entry }

@@ -6,14 +6,14 @@ use crate::name_source::{How, NameRef};
 use clean_names::name_omitted;
 use debug_units::Units;
 
-/// The bytes of a name as they stand in the file, and whether the names of the scopes around its entry go in front of them.
+/// The bytes of a name as they are in the file, and whether the names of the scopes around its entry come before them.
 #[derive(Clone, Copy, Debug)]
 pub struct NameParts<'a> {
     pub is_joined: bool,
     pub bytes: &'a [u8],
 }
 
-/// The parts of a name, before it is cleaned. Takes no memory.
+/// The parts of a name, before it is cleaned. Allocates no memory.
 #[tactic(auto, using(crate::proofs::PartLemmas::part_no_unit, crate::proofs::PartLemmas::part_no_die, crate::proofs::PartLemmas::part_linkage, crate::proofs::PartLemmas::part_no_linkage, crate::proofs::PartLemmas::part_joined, crate::proofs::PartLemmas::part_no_name, crate::proofs::PartLemmas::part_omitted))]
 pub fn name_parts<'a>(units: &Units<'a>, name: NameRef) -> NameParts<'a>
     ensures { name_bytes units.now name ≡ joined_bytes units.now name result.is_joined result.bytes.now }

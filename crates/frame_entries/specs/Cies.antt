@@ -1,5 +1,5 @@
--- A common information entry, from the bytes of its body (DWARF 5, 6.4.1; LSB Core, ".eh_frame").
--- Its fields are read in their order up to the first that cannot be, and that gives the reason.
+-- A common information entry (CIE), from the bytes of its body (DWARF 5, 6.4.1; LSB Core, ".eh_frame"). Its fields are read in their order. The first
+-- field that cannot be read gives the reason for which the FDEs of the CIE are left out.
 use Rattle.std.specs.Prelude.{ℕ, ◌/◌, ◌%◌, ◌==◌, ◌&&◌, ◌||◌, not, Bool, true, if◌then◌else◌, List, [], ◌∷◌, length, drop, Result, Ok, Err}
 use Rattle.std.specs.List.{list_all}
 use Rattle.sym_edges.specs.declared.reason.Reason.{Reason}
@@ -15,12 +15,12 @@ use Rattle.frame_entries.specs.Listing.{from_start}
 use Rattle.frame_entries.specs.Pointers.{is_format, format_of, is_encoding, number_at}
 use Rattle.frame_entries.specs.CieFields.{CieFields}
 
--- a field of the CIE that cannot be read
+-- if a field of the CIE cannot be read, the reason is `cie`
 abbrev pub or_cie : {A : Type 0} → Result A CursorFault → Result A Reason
 or_cie (Ok x) = Ok x
 or_cie (Err fault) = Err reason.Cie
 
--- the versions that are read: 1 of `.eh_frame` and DWARF 2, 3, and 4 of DWARF 4 and 5
+-- the versions that are read: 1 (`.eh_frame` and DWARF 2), 3, and 4 (DWARF 4 and 5)
 unfoldable pub is_version : ℕ → Bool
 is_version version = version == 1 || version == 3 || version == 4
 
@@ -28,27 +28,27 @@ is_version version = version == 1 || version == 3 || version == 4
 unfoldable pub is_letter : ℕ → Bool
 is_letter letter = letter == 76 || letter == 80 || letter == 82 || letter == 83
 
--- an augmentation that is understood: none, or z and letters after it
+-- an augmentation string that is understood: empty, or z and then these letters
 unfoldable pub is_understood : List ℕ → Bool
 is_understood [] = true
 is_understood (first ∷ letters) = first == 122 && list_all is_letter letters
 
--- an augmentation with bytes of its own
+-- there is augmentation data if the augmentation string is not empty
 unfoldable pub is_augmented : List ℕ → Bool
 is_augmented text = not (length text == 0)
 
--- in version 4 the sizes of an address and of a segment, which must be 8 and 0
+-- whether address_size and segment_selector_size, which only version 4 has, are 8 and 0, as they must be
 unfoldable pub sizes_at : ℕ → Ahead → Result (Bool × Ahead) CursorFault
 sizes_at version c =
     if version == 4
     then (fixed_at 1 c >>= λ address. fixed_at 1 address.1 >>= λ segment. Ok (address.0 == 8 && segment.0 == 0, segment.1))
     else Ok (true, c)
 
--- the return address column: one byte in version 1
+-- the return address column: one byte in version 1, otherwise an unsigned LEB128
 unfoldable pub column_at : ℕ → Ahead → Result (ℕ × Ahead) CursorFault
 column_at version c = if version == 1 then fixed_at 1 c else uleb_at c
 
--- the numbers after the augmentation's text
+-- the numbers after the augmentation string
 unfoldable pub numbers_at : ℕ → Ahead → Result (Numbers × Ahead) CursorFault
 numbers_at version c =
     sizes_at version c >>= λ sizes.
@@ -57,15 +57,15 @@ numbers_at version c =
     column_at version factor.1 >>= λ column.
     Ok (record { sizes = sizes.0; code_align = code.0; data_align = factor.0; column = column.0 }, column.1)
 
--- the bytes of an augmentation, after their count
+-- the bytes of the augmentation data, after their count; without augmentation data, none
 unfoldable pub augmentation_at : Bool → Ahead → Result (List ℕ × Ahead) CursorFault
 augmentation_at augmented c = if augmented then (uleb_at c >>= λ count. take_at count.0 count.1) else Ok ([], c)
 
--- a personality's encoding: a known format, and not aligned (50)
+-- an encoding of a personality pointer that is read: a known format, and not aligned (50)
 unfoldable pub is_personality : ℕ → Bool
 is_personality encoding = is_format encoding && not (encoding / 16 % 8 == 5)
 
--- the pointer to a personality, which is passed; ff leaves it out
+-- the encoding of a personality pointer and the pointer, which is skipped; after ff there is no pointer
 unfoldable pub personality_at : Encodings → Ahead → Result (Encodings × Ahead) Reason
 personality_at before c =
     or_cie (fixed_at 1 c) >>= λ encoding.
@@ -74,30 +74,30 @@ personality_at before c =
     then (or_cie (number_at (format_of encoding.0) encoding.1) >>= λ n. Ok (before, n.1))
     else Err reason.Encoding
 
--- the encoding of pointers, which may be one that is not read
+-- the encoding of pointers; it may be one that is not read, which `known` says
 unfoldable pub encoding_at : Encodings → Ahead → Result (Encodings × Ahead) Reason
 encoding_at before c =
     or_cie (fixed_at 1 c) >>= λ encoding.
     Ok (record { pointer = encoding.0; known = before.known && is_encoding encoding.0 }, encoding.1)
 
--- what a letter has among the augmentation's bytes
+-- the part of the augmentation data for a letter: R, P, L (one byte, which is skipped), or S (none)
 unfoldable pub letter_at : ℕ → Encodings → Ahead → Result (Encodings × Ahead) Reason
 letter_at letter before c =
     if letter == 82 then encoding_at before c else
     if letter == 80 then personality_at before c else
     if letter == 76 then (or_cie (fixed_at 1 c) >>= λ encoding. Ok (before, encoding.1)) else Ok (before, c)
 
--- what the letters have, one after the other: of two R the last counts
+-- the parts for the letters, one after the other; of two R the last counts
 unfoldable pub letters_at : List ℕ → Encodings → Ahead → Result Encodings Reason
 letters_at [] before c = Ok before
 letters_at (letter ∷ letters) before c = letter_at letter before c >>= λ after. letters_at letters after.0 after.1
 
--- without R pointers have eight bytes
+-- the encoding of pointers, which R gives; without R pointers have eight bytes
 unfoldable pub encodings_of : List ℕ → List ℕ → Result Encodings Reason
 encodings_of text augmentation =
     letters_at (drop 1 text) (record { pointer = 0; known = true }) (from_start augmentation)
 
--- all fields were read: the encoding, then the return address column, which must be that of x86-64
+-- the fields of the CIE after all were read: first the encoding must be known, then the return address column must be that of x86-64
 unfoldable pub cie_fields : Bool → Numbers → Encodings → List ℕ → Result CieFields Reason
 cie_fields augmented numbers encodings initial_instructions =
     if not encodings.known then Err reason.Encoding else
@@ -110,7 +110,7 @@ cie_fields augmented numbers encodings initial_instructions =
       initial_instructions = initial_instructions;
     })
 
--- the fields after an augmentation's text that is understood; the instructions are the rest of the body
+-- the fields after an augmentation string that is understood; the instructions are the rest of the body
 unfoldable pub cie_behind : ℕ → List ℕ → List ℕ → Ahead → Result CieFields Reason
 cie_behind version text body c =
     or_cie (numbers_at version c) >>= λ numbers.

@@ -1,8 +1,8 @@
--- What a frame description entry says.
+-- The fields of a frame description entry.
 use Rattle.std.specs.Prelude.{ℕ, ℤ, List}
 
--- a frame description entry (DWARF 5, 6.4.1): the place of its CIE in the section, its address range, what its CIE says with the
--- initial instructions, its own instructions, and the address of these
+-- a frame description entry (FDE; DWARF 5, 6.4.1): the place of its CIE in the section, its address range, the fields of the CIE with the initial
+-- instructions, its own instructions, and the address of its own instructions
 pub record FdeFields : Type 0 where
   pub cie : ℕ
   pub start : ℕ

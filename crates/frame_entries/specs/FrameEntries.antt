@@ -1,5 +1,5 @@
--- The frame description entries of a section, each with what it says or the first reason to leave it
--- out (DWARF 5, 6.4.1; LSB Core, ".eh_frame").
+-- The frame description entries (FDEs) of a section, each with its fields or the first reason to leave it out (DWARF 5, 6.4.1; LSB Core,
+-- ".eh_frame").
 use Rattle.std.specs.Prelude.{ℕ, ◌+◌, ◌-◌, ◌%◌, ◌^◌, ◌==◌, not, nat_le, Bool, if◌then◌else◌, List, map, filter, find, drop, Option, Some, None, option_and_then, Result, Ok, Err}
 use Rattle.sym_edges.specs.declared.part.Sect.{Sect}
 use Rattle.sym_edges.specs.declared.part.Sect.TheVariants.{EhFrame, DebugFrame}
@@ -26,7 +26,8 @@ IsFrameSection EhFrame = Unit {0}
 IsFrameSection DebugFrame = Unit {0}
 IsFrameSection _ = ⊥
 
--- the id of a CIE: 0 in `.eh_frame`, in `.debug_frame` the greatest that its format has; every other entry is an FDE
+-- the id of a CIE: 0 in `.eh_frame`; in `.debug_frame` the greatest number of four bytes, or of eight bytes in the 64-bit format. An entry with any
+-- other id is an FDE
 unfoldable pub cie_id : Sect → Bool → ℕ
 cie_id which wide = if is_eh which then 0 else (if wide then 0xffffffffffffffff else 0xffffffff)
 
@@ -40,25 +41,26 @@ cie_at raw = record { at = raw.at; parts = cie_of raw.body }
 unfoldable pub cies_of : Sect → List Raw → List Cie
 cies_of which raws = map cie_at (filter (is_cie which) raws)
 
--- where the CIE of an FDE starts: in `.eh_frame` so far in front of the id, in `.debug_frame` at that place of the section
+-- where the CIE of an FDE starts: in `.eh_frame` the id is the distance from the CIE to the id itself, in `.debug_frame` it is the place of the CIE
+-- in the section
 unfoldable pub cie_place : Sect → Raw → Option ℕ
 cie_place which raw =
     if is_eh which then (if nat_le raw.id raw.id_at then Some (raw.id_at - raw.id) else None) else Some raw.id
 
--- the CIE that starts at a place, where there is one
+-- the CIE that starts at a place, if there is one
 unfoldable pub cie_from : List Cie → ℕ → Option Cie
 cie_from cies place = find (λ cie. cie.at == place) cies
 
--- the CIE of an FDE, where there is one
+-- the CIE of an FDE, if there is one
 unfoldable pub cie_named : Sect → List Cie → Raw → Option Cie
 cie_named which cies raw = option_and_then (cie_from cies) (cie_place which raw)
 
--- an address, modulo 2^64, from the address of the place that others are counted from
+-- the address of a place that is counted from the address `base`, modulo 2^64
 unfoldable pub address_at : ℕ → ℕ → ℕ
 address_at base place = (base + place) % 2 ^ 64
 
--- the fields of an FDE from the place of its CIE, what that says, its body and the address of that; its own instructions are the rest
--- of the body
+-- the fields of an FDE, given the place of its CIE, the fields of the CIE, the address of the FDE's body, and the body; the FDE's own instructions
+-- are the rest of the body
 unfoldable pub fde_of : ℕ → CieFields → ℕ → List ℕ → Result FdeFields CursorFault
 fde_of place cie base body =
     pointer_at cie.encoding base (from_start body) >>= λ start.
@@ -76,7 +78,7 @@ fde_of place cie base body =
       instructions_address = address_at base augmentation.1.at;
     })
 
--- what an FDE is: its fields, or the first reason to leave it out
+-- the result for an FDE: its fields, or the first reason to leave it out
 abbrev pub body_read : Result FdeFields CursorFault → Body
 body_read (Ok fde) = Good fde
 body_read (Err fault) = Bad reason.Entry
@@ -89,12 +91,12 @@ abbrev pub body_by : Option Cie → ℕ → List ℕ → Body
 body_by (Some cie) base body = body_under cie.at cie.parts base body
 body_by None base body = Bad reason.Cie
 
--- the reason to leave an entry out, where there is one
+-- the reason to leave an entry out, if there is one
 abbrev pub reason_in : Body → Option Reason
 reason_in (Good fde) = None
 reason_in (Bad why) = Some why
 
--- the reasons that the fields of a CIE and of an FDE give; the others come from instructions and ranges
+-- the reasons that come from the fields of a CIE or an FDE; the others come from instructions and ranges
 abbrev pub IsOfFields : Reason → Type 0
 IsOfFields reason.Cie = Unit {0}
 IsOfFields reason.Augmentation = Unit {0}
@@ -103,7 +105,7 @@ IsOfFields reason.Column = Unit {0}
 IsOfFields reason.Entry = Unit {0}
 IsOfFields _ = ⊥
 
--- an FDE of a section that is loaded at an address, and has those CIEs
+-- an FDE, given the address at which its section is loaded, and the CIEs of the section
 unfoldable pub entry_of : Sect → ℕ → List Cie → Raw → Entry
 entry_of which address cies raw = record {
   section = which;

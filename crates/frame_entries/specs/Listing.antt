@@ -13,21 +13,21 @@ use Rattle.frame_entries.specs.declared.raw_entries.Mark.{Mark}
 use Rattle.frame_entries.specs.declared.raw_entries.Mark.TheVariants.{Terminator, Padding, Listed}
 use Rattle.frame_entries.specs.Raw.{id_width, Raw}
 
--- `.eh_frame` and not `.debug_frame`
+-- whether the section is `.eh_frame`, and not `.debug_frame`
 unfoldable pub is_eh : Sect → Bool
 is_eh EhFrame = true
 is_eh _ = false
 
--- all bytes are ahead
+-- a cursor that has all bytes ahead
 abbrev pub from_start : List ℕ → Ahead
 from_start bytes = record { bytes = bytes; at = 0 }
 
--- a reading that must not be refused, by the place of the entry
+-- if a reading fails, the fault is `length`, at the place of the entry
 abbrev pub or_length : {A : Type 0} → Sect → ℕ → Result A CursorFault → Result A (Located FrameKind)
 or_length which at (Ok x) = Ok x
 or_length which at (Err fault) = Err (record { kind = Length; section = which; at = at })
 
--- after a length in either format: as many bytes, which have room for the id, and of which the rest is the body
+-- the entry after a length in either format: `count` bytes, of which the first are the id, and the rest is the body
 unfoldable pub entry_at : Sect → ℕ → Bool → ℕ → Ahead → Result (Mark × Ahead) (Located FrameKind)
 entry_at which at wide count c =
     if nat_lt count (id_width wide) then Err (record { kind = Length; section = which; at = at }) else
@@ -44,13 +44,13 @@ entry_at which at wide count c =
       bytes.1,
     ))
 
--- after ffffffff: a length of eight bytes in `.debug_frame`; `.eh_frame` has no 64-bit format
+-- the entry after ffffffff: in `.debug_frame` a length of eight bytes follows; `.eh_frame` has no 64-bit format
 unfoldable pub wide_behind : Sect → ℕ → Ahead → Result (Mark × Ahead) (Located FrameKind)
 wide_behind which at c =
     if is_eh which then Err (record { kind = Format64; section = which; at = at }) else
     (or_length which at (fixed_at 8 c) >>= λ count. entry_at which at true count.0 count.1)
 
--- what stands behind a length: a length of 0 is no entry, and ends `.eh_frame`
+-- what follows a length of four bytes; a length of 0 is no entry, and ends `.eh_frame`
 unfoldable pub mark_behind : Sect → ℕ → ℕ → Ahead → Result (Mark × Ahead) (Located FrameKind)
 mark_behind which at count c =
     if count == 0 then Ok (if is_eh which then Terminator else Padding, c) else
@@ -58,27 +58,27 @@ mark_behind which at count c =
     if nat_le 0xfffffff0 count then Err (record { kind = Length; section = which; at = at }) else
     entry_at which at false count c
 
--- what stands next: its length comes first
+-- the next mark, which begins with its length
 unfoldable pub mark_at : Sect → Ahead → Result (Mark × Ahead) (Located FrameKind)
 mark_at which c = or_length which c.at (fixed_at 4 c) >>= λ count. mark_behind which c.at count.0 count.1
 
--- the entries from a mark on, by those after it
+-- the entries from a mark on, given those after it
 abbrev pub listed_from : Mark → Result (List Raw) (Located FrameKind) → Result (List Raw) (Located FrameKind)
 listed_from Terminator later = Ok []
 listed_from Padding later = later
 listed_from (Listed raw) later = later >>= λ raws. Ok (raw ∷ raws)
 
--- the entries ahead, n marks at most, or the first fault
+-- the entries ahead, from at most n marks, or the first fault
 unfoldable pub listed_in : ℕ → Sect → Ahead → Result (List Raw) (Located FrameKind)
 listed_in zero which c = Ok []
 listed_in (suc n) which c =
     if length c.bytes == 0 then Ok [] else (mark_at which c >>= λ m. listed_from m.0 (listed_in n which m.1))
 
--- the entries ahead: each mark has four bytes at least, so there are no more marks than bytes
+-- the entries ahead; each mark has at least four bytes, so there are no more marks than bytes
 unfoldable pub listed_at : Sect → Ahead → Result (List Raw) (Located FrameKind)
 listed_at which c = listed_in (length c.bytes) which c
 
--- the entries ahead by the first mark, where the entries after it are known
+-- the entries ahead, given `later`, which gives the entries after the first mark
 unfoldable pub listed_by : (Sect → Ahead → Result (List Raw) (Located FrameKind)) → Sect → Ahead → Result (List Raw) (Located FrameKind)
 listed_by later which c =
     if length c.bytes == 0 then Ok [] else (mark_at which c >>= λ m. listed_from m.0 (later which m.1))

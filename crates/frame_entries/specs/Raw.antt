@@ -1,15 +1,15 @@
--- Entries as they lie in their section.
+-- Entries as they are in their section.
 use Rattle.std.specs.Prelude.{ℕ, Bool, if◌then◌else◌, List}
 
--- how many bytes a length has with what tells the 64-bit format, and how many an id has (DWARF 5, 7.4)
+-- how many bytes a length has, in the 64-bit format with the ffffffff before it, and how many bytes an id has (DWARF 5, 7.4)
 abbrev pub length_width : Bool → ℕ
 length_width wide = if wide then 12 else 4
 
 abbrev pub id_width : Bool → ℕ
 id_width wide = if wide then 8 else 4
 
--- an entry as it lies in its section: the place of its first byte, whether it has the 64-bit format, the places of its id and of its body,
--- and the bytes of the body
+-- an entry as it is in its section: the place of its first byte, whether it has the 64-bit format, the place of its id and the id, the place of its
+-- body, and the bytes of the body
 pub record Raw : Type 0 where
   pub at : ℕ
   pub wide : Bool

@@ -1,4 +1,4 @@
-//! The augmentation of a CIE: its letters, and what each has among the augmentation's bytes.
+//! The augmentation of a CIE: the letters of its string, and the part of the augmentation data for each letter.
 ghost use Rattle.std.specs.Prelude.{◌≡◌, true, IfOk};
 ghost use Rattle.std.specs.List.{list_all};
 ghost use Rattle.leb_cursor.specs.Ahead.{gave};
@@ -11,7 +11,7 @@ use crate::raw_entries::cursor_over;
 use leb_cursor::Cursor;
 use sym_edges::Reason;
 
-/// The encoding of pointers, by the last `R`, and whether that of each `R` is one that is read.
+/// The encoding of pointers, from the last `R`, and whether the encoding of each `R` is one that is read.
 #[derive(Clone, Copy, PartialEq, Eq, Debug)]
 pub struct Encodings {
     pub pointer: u8,
@@ -32,7 +32,7 @@ fn are_letters(letters: &[u8]) -> bool
     letters.iter().all(|letter| is_letter(*letter))
 }
 
-/// Whether the text is empty, or `z` and known letters.
+/// Whether the text is empty, or `z` and then known letters.
 #[tactic(auto, unfolding(crate::specs::Cies::is_understood))]
 pub fn is_understood(text: &[u8]) -> bool
     ensures { result ≡ is_understood text.now }
@@ -90,7 +90,7 @@ fn read_encoding(cursor: &mut Cursor<'_>, before: Encodings) -> Result<Encodings
     })
 }
 
-/// Reads what a letter has among the augmentation's bytes.
+/// Reads the part of the augmentation data for a letter.
 #[tactic(auto, unfolding(crate::specs::Cies::letter_at))]
 fn read_letter(cursor: &mut Cursor<'_>, letter: u8, before: Encodings) -> Result<Encodings, Reason>
     requires { LastIsRead before }

@@ -10,8 +10,8 @@ use leb_cursor::Cursor;
 use std::marker::Model;
 use sym_edges::Reason;
 
-/// What the FDEs of a CIE need of it: the code and data alignment factors, the encoding of pointers,
-/// whether there is an augmentation, and the initial instructions.
+/// What the FDEs of a CIE need from it: the code and data alignment factors, the encoding of pointers, whether there is an augmentation, and the
+/// initial instructions.
 #[derive(Debug, Drop)]
 pub struct CieParts<'a> {
     pub code_align: u64,
@@ -39,14 +39,14 @@ impl<'a> Model for CieParts<'a> {
     ghost invariant = { λ p. IsTrue (is_encoding p.encoding) };
 }
 
-/// A CIE, read once: its place, and what it says or why it cannot be used.
+/// A CIE, read once: its place, and its fields or the reason why it cannot be used.
 #[derive(Debug, Drop)]
 pub struct Cie<'a> {
     pub at: usize,
     pub parts: Result<CieParts<'a>, Reason>,
 }
 
-/// The bytes after a place.
+/// The bytes from a place on.
 #[inline]
 pub fn rest_from(bytes: &[u8], at: usize) -> &[u8]
     ensures { result.now ≡ drop at bytes.now }
@@ -62,7 +62,7 @@ fn is_version(version: u8) -> bool
     version == 1 || version == 3 || version == 4
 }
 
-/// All fields were read: what the encoding of pointers and the return address column say.
+/// The fields of a CIE after all were read, or the reason against the encoding of pointers or the return address column.
 #[tactic(auto, unfolding(crate::specs::Cies::cie_fields))]
 fn judge<'a>(
     augmented: bool,
@@ -88,7 +88,7 @@ fn judge<'a>(
     })
 }
 
-/// Reads a CIE after its augmentation's text.
+/// Reads a CIE after its augmentation string.
 #[tactic(auto, unfolding(crate::specs::Cies::cie_behind, crate::specs::Cies::is_augmented))]
 fn read_behind<'a>(
     cursor: &mut Cursor<'a>,

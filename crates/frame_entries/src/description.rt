@@ -10,9 +10,8 @@ use leb_cursor::CursorFault;
 use std::marker::Model;
 use sym_edges::{Reason, Sect};
 
-/// A frame description entry that can be used (DWARF 5, 6.4.1): the place of its CIE in the section,
-/// its address range, what its CIE says with the initial instructions, its own instructions, and the
-/// address of these. Its encoding is one that [`read_pointer`] reads.
+/// A frame description entry that can be used (DWARF 5, 6.4.1): the place of its CIE in the section, its address range, the fields of the CIE with
+/// the initial instructions, its own instructions, and the address of its own instructions. Its encoding is one that [`read_pointer`] reads.
 #[derive(Debug, Drop)]
 pub struct Fde<'a> {
     pub cie: usize,
@@ -48,7 +47,7 @@ impl<'a> Model for Fde<'a> {
     ghost invariant = { λ f. IsTrue (is_encoding f.encoding) };
 }
 
-/// What an entry says, or the first reason to leave it out.
+/// The fields of an entry, or the first reason to leave it out.
 #[derive(Debug, Drop)]
 pub enum Body<'a> {
     Good(Fde<'a>),
@@ -90,7 +89,7 @@ fn read_fde<'a>(
     })
 }
 
-/// What an FDE under the CIE at a place is.
+/// The fields of an FDE whose CIE is at a place, or the reason to leave the FDE out.
 pub fn read_body<'a>(
     place: usize,
     parts: &Result<CieParts<'a>, Reason>,

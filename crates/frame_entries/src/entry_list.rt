@@ -13,8 +13,8 @@ use std::alloc::Global;
 use std::marker::Model;
 use sym_edges::{Part, Sect, Stop};
 
-/// Entries of one section in the order of their places. Held are the CIEs, each read once, and of an FDE where it lies, in 24
-/// bytes; [`EntryList::entry`] reads it.
+/// Entries of one section in the order of their places. The list has the CIEs, each read once, and for each FDE where it is, in 24 bytes;
+/// [`EntryList::entry`] reads the FDE.
 #[derive(Debug, Drop)]
 pub struct EntryList<'a> {
     which: Sect,
@@ -52,7 +52,7 @@ impl<'a> EntryList<'a> {
         self.fdes.is_empty()
     }
 
-    /// Reads the entry at an index. Entries whose CIE stands at one place have one CIE's fields.
+    /// Reads the entry at an index. Entries whose CIEs are at the same place have the same fields of a CIE.
     #[tactic(auto, using(crate::proofs::SharedLemmas::entries_counted, crate::proofs::SharedLemmas::entry_read, crate::proofs::SharedLemmas::entries_share))]
     pub fn entry(&self, i: usize) -> Entry<'a>
         requires { i < length self.now }
@@ -64,16 +64,15 @@ impl<'a> EntryList<'a> {
     }
 }
 
-/// Leaves the FDEs.
+/// Keeps only the FDEs.
 fn keep_fdes(raws: &mut Vec<RawEntry<'_>>, which: Sect)
     ensures { raws.new.items ≡ filter (λ raw. not (is_cie which raw)) raws.old.items }
 {
     raws.retain(|raw| !is_cie(which, raw));
 }
 
-/// The frame description entries of a section, in their order, or its first fault (DWARF 5, 6.4.1;
-/// LSB Core, ".eh_frame"). Each has what it says, or the first reason to leave it out. A section of
-/// more than 2^29 bytes, which no file that is dumped has, wants more memory than there is.
+/// The frame description entries of a section, in their order, or its first fault (DWARF 5, 6.4.1; LSB Core, ".eh_frame"). Each has its fields, or
+/// the first reason to leave it out. A section of more than 2^29 bytes, which no file that is dumped has, counts as out of memory.
 #[tactic(auto, using(crate::proofs::PlaceLemmas::cies_rise), unfolding(crate::specs::FrameEntries::frame_entries, crate::specs::FrameEntries::entries_of))]
 pub fn entries<'a>(
     alloc: Global,

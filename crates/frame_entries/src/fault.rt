@@ -4,7 +4,7 @@ use sym_edges::Located;
 /// What is wrong with an entry's length.
 #[derive(Clone, Copy, PartialEq, Eq, Debug)]
 pub enum FrameKind {
-    /// The length is reserved, has no room for the id, or leaves the section; or its own bytes are cut.
+    /// The length is reserved, has no room for the id, or leaves the section; or the section ends within the length.
     Length,
 
     /// The length begins the 64-bit format, which `.eh_frame` does not have.
@@ -26,5 +26,5 @@ impl FrameKind {
     }
 }
 
-/// The first entry of a section whose length is bad: its place is that of its first byte.
+/// The first entry of a section with a bad length, at the place of its first byte.
 pub type FrameFault = Located<FrameKind>;

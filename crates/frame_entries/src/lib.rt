@@ -1,22 +1,19 @@
-//! The frame description entries of `.eh_frame` and `.debug_frame` (DWARF 5, 6.4.1; LSB Core,
-//! ".eh_frame"), and pointers by their encoding.
+//! The frame description entries (FDEs) of `.eh_frame` and `.debug_frame` (DWARF 5, 6.4.1; LSB Core, ".eh_frame"), and pointers by their encoding.
 //!
-//! [`entries`] gives the FDEs of a section in their order, in `.debug_frame` those of the 64-bit format too. Each has its range, the factors of its
-//! CIE, the encoding of pointers, the CIE's instructions and its own, or the first reason to leave it
-//! out: its CIE (none starts at the place that it names, or a field of it cannot be), an augmentation
-//! that is not understood, an encoding that is not read, a return address column that is not that of
-//! x86-64, or a field of its own. A section whose entries do not follow each other up to its end is
-//! refused with its first fault, at the entry where that stands.
+//! [`entries`] gives the FDEs of a section in their order, in `.debug_frame` also those in the 64-bit format. Each FDE has its range, the factors of
+//! its CIE, the encoding of pointers, the CIE's instructions and its own, or the first reason to leave it out: its CIE (no CIE starts at the place
+//! that the FDE names, or a field of the CIE cannot be read), an augmentation that is not understood, an encoding that is not read, a return address
+//! column that is not that of x86-64, or a field of its own. If the entries of a section do not follow each other up to its end, the section is
+//! refused with its first fault, at the entry with the fault.
 //!
-//! The contract compares the answer with a definition over the list of all entries of the section:
-//! `specs/Listing.antt` has that list, `specs/Cies.antt` what a CIE's bytes say, and
-//! `specs/FrameEntries.antt` which CIE an FDE means and what the FDE says. The code goes over the
-//! section once and reads each CIE once. An [`EntryList`] holds where the FDEs lie, and reads one when it
-//! is asked for; its CIE is found by halves, since places rise. An [`Fde`] has the place of its CIE; those
-//! of one section with one such place have one CIE's fields (`specs/SharedCies.antt`).
+//! The contract compares the result with a definition on the list of all entries of the section: `specs/Listing.antt` has that list,
+//! `specs/Cies.antt` says what the bytes of a CIE mean, and `specs/FrameEntries.antt` says which CIE an FDE has and what the FDE's fields are. The
+//! code goes over the section once and reads each CIE once. An [`EntryList`] has the places of the FDEs, and reads an FDE when it is asked for. The
+//! CIE of an FDE is found by binary search, since places rise. An [`Fde`] has the place of its CIE; if FDEs of one section have the same place, they
+//! have the same fields of a CIE (`specs/SharedCies.antt`).
 //!
-//! [`read_pointer`] reads a pointer whose field has an address. The instructions of an [`Fde`] use it
-//! with the entry's encoding, which always is one that it reads.
+//! [`read_pointer`] reads a pointer, given the address of its field. The instructions of an [`Fde`] use it with the entry's encoding, which is always
+//! one that it reads.
 #![tactic(auto)]
 
 mod augmentation;

@@ -5,8 +5,8 @@ ghost use Rattle.frame_entries.specs.Cies.{sizes_at, column_at, numbers_at, augm
 
 use leb_cursor::{Cursor, CursorFault};
 
-/// The numbers after the augmentation's text: whether the sizes of an address and of a segment are
-/// those of x86-64, the alignments, and the return address column.
+/// The numbers after the augmentation string: whether the sizes of an address and of a segment are those of x86-64, the alignment factors, and the
+/// return address column.
 #[derive(Clone, Copy, PartialEq, Eq, Debug)]
 pub struct Numbers {
     pub sizes: bool,
@@ -53,7 +53,7 @@ pub fn read_numbers(cursor: &mut Cursor<'_>, version: u8) -> Result<Numbers, Cur
     })
 }
 
-/// The bytes of an augmentation, where the CIE has one.
+/// The bytes of the augmentation data, if the CIE has an augmentation.
 #[tactic(auto, unfolding(crate::specs::Cies::augmentation_at))]
 pub fn read_augmentation<'a>(
     cursor: &mut Cursor<'a>,

@@ -8,7 +8,7 @@ use leb_cursor::{Cursor, CursorFault};
 /// The format of a pointer: how its number is written.
 #[derive(Clone, Copy, PartialEq, Eq, Debug)]
 pub enum Format {
-    /// Eight bytes, signed or not: modulo 2^64 both are one.
+    /// Eight bytes, signed or not: modulo 2^64 both are the same.
     U64,
 
     /// An unsigned LEB128.
@@ -75,7 +75,7 @@ pub fn read_number(cursor: &mut Cursor<'_>, format: Format) -> Result<u64, Curso
     }
 }
 
-/// What a pointer's number stands for, where its field has that address.
+/// The value of a pointer, given the address of its field and the number in the field.
 #[inline]
 #[tactic(auto, unfolding(crate::specs::Pointers::applied))]
 fn apply(encoding: u8, address: u64, number: u64) -> u64
@@ -88,8 +88,8 @@ fn apply(encoding: u8, address: u64, number: u64) -> u64
     }
 }
 
-/// Reads a pointer whose field has the address `address` (LSB Core, ".eh_frame", "DWARF Exception
-/// Header Encoding"). A refusal is the cursor's, and leaves it as it was.
+/// Reads a pointer whose field has the address `address` (LSB Core, ".eh_frame", "DWARF Exception Header Encoding"). A fault is the cursor's, and
+/// leaves the cursor as it was.
 #[inline]
 #[tactic(auto, unfolding(crate::specs::Pointers::pointer_at))]
 pub fn read_pointer(cursor: &mut Cursor<'_>, encoding: u8, address: u64) -> Result<u64, CursorFault>

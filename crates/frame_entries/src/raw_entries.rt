@@ -1,4 +1,4 @@
-//! The entries of a section as they lie one after the other.
+//! The entries of a section, one after the other.
 ghost use Rattle.std.specs.Prelude.{◌≡◌, ◌+◌, ◌^◌, ◌<◌, ◌≤◌, length, Ok, Err};
 ghost use Rattle.sym_edges.specs.Outside.{MatchStop};
 ghost use Rattle.leb_cursor.specs.Ahead.{gave};
@@ -13,8 +13,8 @@ use std::marker::Model;
 use std::mem::size_of;
 use sym_edges::{FILE_LIMIT, Located, Sect, Stop};
 
-/// An entry as it lies in its section: the place of its first byte, whether it has the 64-bit format, and the bytes after its length,
-/// which are its id and its body.
+/// An entry as it is in its section: the place of its first byte, whether it has the 64-bit format, and the bytes after its length, which are its id
+/// and its body.
 #[derive(Debug, Drop)]
 pub struct RawEntry<'a> {
     at: u32,
@@ -43,7 +43,7 @@ impl<'a> Model for RawEntry<'a> {
     ghost invariant = { λ r. id_width r.wide ≤ length r.bytes.now };
 }
 
-/// How many bytes a length has, with what tells the 64-bit format.
+/// How many bytes a length has, in the 64-bit format with the ffffffff before it.
 #[inline]
 fn length_width(wide: bool) -> u32
     ensures { result ≡ length_width wide }
@@ -58,7 +58,7 @@ fn id_width(wide: bool) -> u32
     if wide { 8 } else { 4 }
 }
 
-/// The number at the front of bytes.
+/// The number at the start of the bytes.
 #[inline]
 #[tactic(auto, using(crate::proofs::PlaceLemmas::front_number))]
 fn front_u64(bytes: &[u8]) -> u64
@@ -83,7 +83,7 @@ fn front_u32(bytes: &[u8]) -> u32
     }
 }
 
-/// The id at the front of an entry's bytes.
+/// The id at the start of an entry's bytes.
 #[inline]
 fn front_id(bytes: &[u8], wide: bool) -> u64
     requires { id_width wide ≤ length bytes.now }
@@ -144,8 +144,7 @@ impl<'a> RawEntry<'a> {
     }
 }
 
-/// What stands at a place of a section: the zero that ends `.eh_frame`, the zero that `.debug_frame`
-/// passes over, or an entry.
+/// What is at a place of a section: the zero that ends `.eh_frame`, a zero that is skipped in `.debug_frame`, or an entry.
 #[derive(Drop)]
 pub enum Mark<'a> {
     Terminator,
@@ -201,7 +200,7 @@ fn read_entry<'a>(
     Ok(Mark::Listed(RawEntry { at, wide, bytes }))
 }
 
-/// Reads what stands after ffffffff: in `.debug_frame` an entry of the 64-bit format.
+/// Reads what follows ffffffff: in `.debug_frame` an entry in the 64-bit format.
 #[tactic(auto, using(crate::proofs::PlaceLemmas::fixed_ends), unfolding(crate::specs::Listing::wide_behind))]
 fn read_wide<'a>(cursor: &mut Cursor<'a>, which: Sect, at: u32) -> Result<Mark<'a>, FrameFault>
     requires { cursor.old.at ≡ at + 4 }
@@ -216,7 +215,7 @@ fn read_wide<'a>(cursor: &mut Cursor<'a>, which: Sect, at: u32) -> Result<Mark<'
     read_entry(cursor, which, at, true, count)
 }
 
-/// Reads what a length stands in front of.
+/// Reads what follows a length of four bytes.
 #[tactic(auto, unfolding(crate::specs::Listing::mark_behind))]
 fn read_behind<'a>(
     cursor: &mut Cursor<'a>,
@@ -242,7 +241,7 @@ fn read_behind<'a>(
     read_entry(cursor, which, at, false, u64::from(count))
 }
 
-/// Reads what stands next in a section.
+/// Reads the next mark of a section.
 #[tactic(auto, using(crate::proofs::PlaceLemmas::fixed_ends), unfolding(crate::specs::Listing::mark_at))]
 fn read_mark<'a>(cursor: &mut Cursor<'a>, which: Sect) -> Result<Mark<'a>, FrameFault>
     requires { cursor.old.at < 2 ^ 32 }
@@ -255,8 +254,8 @@ fn read_mark<'a>(cursor: &mut Cursor<'a>, which: Sect) -> Result<Mark<'a>, Frame
     read_behind(cursor, which, at, count)
 }
 
-/// The entries of a section, or its first fault. A section of more than 2^29 bytes, which no file that is dumped has, wants more
-/// memory than there is: places are kept in four bytes.
+/// The entries of a section, or its first fault. A section of more than 2^29 bytes, which no file that is dumped has, counts as out of memory: places
+/// are stored in four bytes.
 #[tactic(auto, using(crate::proofs::ListingLemmas::listing_begins, crate::proofs::ListingLemmas::listing_at_end, crate::proofs::ListingLemmas::listing_ended, crate::proofs::ListingLemmas::listing_refused, crate::proofs::ListingLemmas::listing_passed, crate::proofs::ListingLemmas::listing_more, crate::proofs::ListingLemmas::listing_out_of_turns, crate::proofs::PlaceLemmas::mark_ends), unfolding(crate::specs::Listing::listed_at))]
 pub fn read_listing<'a>(
     alloc: Global,

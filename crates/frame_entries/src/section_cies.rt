@@ -1,4 +1,4 @@
-//! The CIEs of a section, and what an FDE says under its CIE.
+//! The CIEs of a section, and the fields of an FDE by its CIE.
 ghost use Rattle.std.specs.Prelude.{◌≡◌, IfOk};
 ghost use Rattle.std.specs.Option.{option_copied};
 ghost use Rattle.frame_entries.specs.FrameEntries.{cie_id, is_cie, cie_at, cies_of, cie_place, cie_from, cie_named, entry_of};
@@ -73,7 +73,7 @@ fn cie_place(which: Sect, raw: &RawEntry<'_>) -> Option<usize>
     }
 }
 
-/// How many CIEs start before a place, by halves.
+/// How many CIEs start before a place, by binary search.
 fn count_before(cies: &[Cie<'_>], place: usize) -> usize
     requires { RisesFrom 0 (places_of cies.now) }
     ensures { StandBelow (λ (c : Cie). c.at) place result cies.now }

@@ -6,12 +6,12 @@ use Rattle.frame_rows.specs.declared.row.Row.{Row}
 use Rattle.frame_rows.specs.declared.columns.Columns.{Columns}
 use Rattle.frame_rows.specs.Standing.{Standing, GoesOn, Stays}
 
--- two rows are alike in the columns outside of some
+-- two rows have the same rules in the columns outside of `columns`
 pub record StayOutside (columns : Columns) (before after : Row) : Type 0 where
   pub below : (k : ℕ) → k < columns.first → slice_index_or before.rules k rule.Rest ≡ slice_index_or after.rules k rule.Rest
   pub above : (k : ℕ) → columns.end ≤ k → k < 17 → slice_index_or before.rules k rule.Rest ≡ slice_index_or after.rules k rule.Rest
 
--- a step to the next row, and the columns outside of which it is as the row before; at the last row there is none, and all stays
+-- a step to the next row, in which no column outside of the given ones has changed; at the last row no columns are given, and nothing changes
 abbrev pub IsNext : Option Columns → Standing → Standing → Type 0
 IsNext None before after = Stays before after
 IsNext (Some columns) before after = GoesOn before after × StayOutside columns before.here.row after.here.row

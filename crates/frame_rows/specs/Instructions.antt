@@ -13,16 +13,16 @@ use Rattle.frame_rows.specs.declared.instruction.Block.{Block}
 use Rattle.frame_rows.specs.declared.instruction.Instruction.{Instruction}
 use Rattle.frame_rows.specs.declared.instruction.Instruction.TheVariants.{SetLoc, AdvanceLoc, DefCfa, DefCfaSf, DefCfaRegister, DefCfaOffset, DefCfaOffsetSf, DefCfaExpression, Undefined, SameValue, Offset, OffsetExtendedSf, ValOffset, ValOffsetSf, Register, Expression, ValExpression, Restore, RememberState, RestoreState, Nop}
 
--- an opcode or an operand that cannot be read
+-- if an opcode or an operand cannot be read, the reason is `instruction`
 abbrev pub or_instruction : {A : Type 0} → Result A CursorFault → Result A Reason
 or_instruction (Ok x) = Ok x
 or_instruction (Err fault) = Err reason.Instruction
 
--- a block, which a DWARF expression is: its length, then so many bytes; what is kept is where it starts, and its length
+-- the block of a DWARF expression: its length, then that many bytes. The result is where the bytes start, and the length
 unfoldable pub block_at : Ahead → Result (Block × Ahead) Reason
 block_at c = or_instruction (uleb_at c) >>= λ len. or_instruction (take_at len.0 len.1) >>= λ run. Ok (record { start = len.1.at; len = len.0 }, run.1)
 
--- what an operand is, by the standard's names: a number of one, two or four bytes, an unsigned or a signed LEB128, or a DWARF expression
+-- the kinds of operands, by the standard's names: a number of one, two or four bytes, an unsigned or a signed LEB128, or a DWARF expression
 pub data Operand : Type 0 where
   Ubyte : Operand
   Uhalf : Operand
@@ -31,7 +31,7 @@ pub data Operand : Type 0 where
   Sleb : Operand
   Exprloc : Operand
 
--- what is read of it
+-- the value of an operand of each kind
 abbrev pub Value : Operand → Type 0
 Value Ubyte = ℕ
 Value Uhalf = ℕ
@@ -48,9 +48,9 @@ operand_at Uleb c = or_instruction (uleb_at c)
 operand_at Sleb c = or_instruction (sleb_at c)
 operand_at Exprloc c = block_at c
 
--- what stands after an opcode, and the instruction that is made of it
+-- what follows an opcode, and the instruction that is made from it
 pub data Form : Type 0 where
-  -- nothing, one operand, or two
+  -- no operand, one operand, or two
   Alone : Instruction → Form
   One : (operand : Operand) → (Value operand → Instruction) → Form
   Two : (first second : Operand) → (Value first → Value second → Instruction) → Form
@@ -59,7 +59,7 @@ pub data Form : Type 0 where
   -- there is no such opcode
   Unknown : Form
 
--- an instruction of one operand, where this is read, and of two, one after the other
+-- an instruction with one operand, given the reading of it, and an instruction with two operands, which are read one after the other
 abbrev pub one : {A : Type 0} → (A → Instruction) → Result (A × Ahead) Reason → Result (Instruction × Ahead) Reason
 one make operand = operand >>= λ x. Ok (make x.0, x.1)
 
@@ -74,7 +74,7 @@ form_at encoding base (Two first second make) c = two make (operand_at first c) 
 form_at encoding base (Pointer make) c = one make (or_instruction (pointer_at encoding (address_at base c.at) c))
 form_at encoding base Unknown c = Err reason.Instruction
 
--- an opcode without an operand in it: its operands, and what it means (DWARF 5, table 7.29)
+-- the operands and the meaning of an opcode that has no operand in its low bits (DWARF 5, table 7.29)
 unfoldable pub extended_form : ℕ → Form
 extended_form opcode =
     if opcode == 0x00 then Alone Nop else  -- DW_CFA_nop
@@ -103,7 +103,7 @@ extended_form opcode =
     if opcode == 0x2e then One Uleb (λ size. Nop) else  -- DW_CFA_GNU_args_size
     Unknown
 
--- an opcode: in three of them the low six bits are an operand
+-- the operands and the meaning of an opcode; three opcodes have an operand in their low six bits
 unfoldable pub form_of : ℕ → Form
 form_of opcode =
     if opcode / 64 == 1 then Alone (AdvanceLoc (opcode % 64)) else  -- DW_CFA_advance_loc
@@ -111,7 +111,7 @@ form_of opcode =
     if opcode / 64 == 3 then Alone (Restore (opcode % 64)) else  -- DW_CFA_restore
     extended_form opcode
 
--- what stands after an opcode, and after one without an operand in it
+-- the instruction after its opcode was read: any opcode, and one that has no operand in its low bits
 abbrev pub behind_opcode : ℕ → ℕ → ℕ → Ahead → Result (Instruction × Ahead) Reason
 behind_opcode encoding base opcode c = form_at encoding base (form_of opcode) c
 
@@ -126,22 +126,22 @@ instruction_at encoding base c = or_instruction (fixed_at 1 c) >>= λ opcode. be
 abbrev pub Item : Type 0
 Item = Result Instruction Reason
 
--- an instruction that was read stands in front of those after it; one that was not ends the list
+-- an instruction that was read comes before the later ones; one that cannot be read ends the list
 abbrev pub onto_later : Result (Instruction × Ahead) Reason → (Ahead → List Item) → List Item
 onto_later (Ok x) later = Ok x.0 ∷ later x.1
 onto_later (Err why) later = Err why ∷ []
 
--- the instructions ahead, n at most
+-- the instructions ahead, at most n
 unfoldable pub listed_in : ℕ → ℕ → ℕ → Ahead → List Item
 listed_in zero encoding base c = []
 listed_in (suc n) encoding base c =
     if length c.bytes == 0 then [] else onto_later (instruction_at encoding base c) (listed_in n encoding base)
 
--- the instructions ahead, up to the first that cannot be read: each has one byte at least, so there are no more than bytes
+-- the instructions ahead, up to the first that cannot be read; each has at least one byte, so there are no more instructions than bytes
 unfoldable pub listed_at : ℕ → ℕ → Ahead → List Item
 listed_at encoding base c = listed_in (length c.bytes) encoding base c
 
--- the instructions ahead by the first of them, where those after it are known
+-- the instructions ahead, given `later`, which gives those after the first
 unfoldable pub listed_by : (ℕ → ℕ → Ahead → List Item) → ℕ → ℕ → Ahead → List Item
 listed_by later encoding base c =
     if length c.bytes == 0 then [] else onto_later (instruction_at encoding base c) (later encoding base)

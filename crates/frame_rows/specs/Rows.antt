@@ -23,7 +23,7 @@ use Rattle.sym_edges.specs.Results.{unless}
 use Rattle.std.specs.Option.{option_or}
 use Rattle.frame_rows.specs.Steps.{Effect, MovesTo, MovesBy, effect, has_cfa, stepped, step_fault}
 
--- an instruction that cannot be read changes nothing, and is refused for its own reason
+-- an instruction that cannot be read changes nothing, and is refused for the reason why it cannot be read
 abbrev pub item_stepped : Context → Item → Machine → Machine
 item_stepped s (Ok instruction) m = stepped s instruction m
 item_stepped s (Err why) m = m
@@ -37,23 +37,23 @@ unfoldable pub all_stepped : Context → List Item → Machine → Machine
 all_stepped s [] m = m
 all_stepped s (i ∷ items) m = all_stepped s items (item_stepped s i m)
 
--- the reason of the first bad instruction
+-- the reason against the first bad instruction
 unfoldable pub first_fault : Context → List Item → Machine → Option Reason
 first_fault s [] m = None
 first_fault s (i ∷ items) m = option_or (item_fault s i m) (first_fault s items (item_stepped s i m))
 
--- the state after the longest prefix of instructions whose locations are at most an address: each has the location that
--- those before it left
+-- the state after the longest prefix of instructions whose locations are at most the address `a`; the location of an instruction is the one that the
+-- instructions before it left
 unfoldable pub replay : Context → List Item → Machine → ℕ → Machine
 replay s [] m a = m
 replay s (i ∷ items) m a = if nat_le m.address a then replay s items (item_stepped s i m) a else m
 
--- no rule for the CFA, and every column at rest
+-- no rule for the CFA, and the rule `Rest` for every column
 unfoldable pub empty_row : Row
 empty_row = record { cfa = None; rules = replicate 17 rule.Rest }
 
--- the initial instructions, those of the entry's CIE, from the start of the entry's address range; no location instruction may stand there, so
--- the address of a pointer among them does not count
+-- the initial instructions of an entry, which are those of its CIE, begin at the start of the entry's address range. No location instruction is
+-- allowed among them, so the address of a pointer does not matter
 unfoldable pub cie_context : FdeFields → Context
 cie_context e = with_run (record { code_align = e.code_align; data_align = e.data_align; initial = None }) e.initial_instructions
 
@@ -66,7 +66,7 @@ cie_begin e = record { address = e.start; row = empty_row; stack = [] }
 unfoldable pub cie_end : FdeFields → Machine
 cie_end e = all_stepped (cie_context e) (cie_items e) (cie_begin e)
 
--- the entry's own instructions, after the initial ones: the row and the row stack go on
+-- the entry's own instructions begin with the row and the row stack that the initial instructions left
 unfoldable pub left_context : FdeFields → CieContext
 left_context e = record { code_align = e.code_align; data_align = e.data_align; initial = Some (cie_end e).row }
 
@@ -83,7 +83,7 @@ own_begin e = record { address = e.start; row = (cie_end e).row; stack = (cie_en
 unfoldable pub row_at : FdeFields → ℕ → Row
 row_at e a = (replay (own_context e) (own_items e) (own_begin e) a).row
 
--- where a location instruction moves the location
+-- the location after an effect at the location `at`
 abbrev pub location_after : Effect → ℕ → ℕ
 location_after (MovesTo address) at = address
 location_after (MovesBy distance) at = at + distance
@@ -93,7 +93,7 @@ abbrev pub next_location : Context → Item → ℕ → ℕ
 next_location s (Ok i) at = location_after (effect s i) at
 next_location s (Err why) at = at
 
--- the addresses below an end to which location instructions move the location, each once
+-- the addresses below `end` to which location instructions advance the location, each once
 unfoldable pub moves : Context → ℕ → List Item → ℕ → List ℕ
 moves s end [] at = []
 moves s end (i ∷ items) at =
@@ -101,11 +101,11 @@ moves s end (i ∷ items) at =
     then next_location s i at ∷ moves s end items (next_location s i at)
     else moves s end items (next_location s i at)
 
--- where rows begin: at the start of the range, and at each other address of it to which the location moves
+-- where rows begin: at the start of the range, and at each other address of the range to which the location moves
 unfoldable pub stops : FdeFields → List ℕ
 stops e = e.start ∷ moves (own_context e) (e.start + e.size) (own_items e) e.start
 
--- the reason of the first bad instruction, the CIE's before the entry's own
+-- the reason against the first bad instruction; the CIE's instructions come before the entry's own
 unfoldable pub instruction_fault : FdeFields → Option Reason
 instruction_fault e = option_or (first_fault (cie_context e) (cie_items e) (cie_begin e)) (first_fault (own_context e) (own_items e) (own_begin e))
 
@@ -117,18 +117,18 @@ lacks_cfa e = list_any (λ a. not (has_cfa (row_at e a))) (range_with_len e.star
 unfoldable pub rows_fault : FdeFields → Option Reason
 rows_fault e = option_or (instruction_fault e) (unless (not (lacks_cfa e)) reason.Cfa)
 
--- the last row that stands at or below an address
+-- the last row of the list that begins at or below the address `a`
 unfoldable pub last_at : List RowAt → ℕ → Option Row
 last_at [] a = None
 last_at (r ∷ rows) a = option_or (last_at rows a) (if nat_le r.address a then Some r.row else None)
 
--- rows rise, from a first address on, up to an end
+-- the addresses of the rows rise, begin at `low` or above, and are below `end`
 abbrev pub Ascending : ℕ → ℕ → List RowAt → Type 0
 Ascending low end [] = Unit {0}
 Ascending low end (r ∷ rows) = (low ≤ r.address) × (r.address < end) × Ascending (r.address + 1) end rows
 
--- the rows of an entry: they stand where rows begin, in order, and at each address of the range the last one at or below it is
--- the row there
+-- the rows of an entry: their addresses are those at which rows begin, in order, and for each address of the range, the last row at or below it is
+-- the row at that address
 pub record AreRows (e : FdeFields) (rows : List RowAt) : Type 0 where
   pub at_stops : map (λ r. r.address) rows ≡ stops e
   pub in_order : Ascending e.start (e.start + e.size) rows
@@ -142,8 +142,8 @@ pub record HasCfa (e : FdeFields) : Type 0 where
 abbrev pub expr_bytes : FdeFields → Place → List ℕ
 expr_bytes e place = bytes_at place e.initial_instructions e.instructions
 
--- a rule of a column is sound where it names one of the sixteen registers, if it names one, its offset is that of an i64, and rule text
--- can say its expression: the return address is no register
+-- a rule of a column is sound if a register that it names is one of the sixteen, its offset is that of an i64, and rule text can express its
+-- expression; the return address is no register
 abbrev pub is_sound_rule : FdeFields → ℕ → Rule → Bool
 is_sound_rule e column rule.Rest = true
 is_sound_rule e column rule.Undefined = true

@@ -1,4 +1,4 @@
--- What each call frame instruction does (DWARF 5, section 6.4.2), and where it may not stand.
+-- What each call frame instruction does (DWARF 5, section 6.4.2), and where it is not allowed.
 use Rattle.std.specs.Prelude.{ℕ, ℤ, ◌+◌, ◌*◌, ◌^◌, ◌==◌, ◌&&◌, ◌||◌, true, false, not, nat_lt, nat_le, Bool, if◌then◌else◌, List, [], ◌∷◌, Option, Some, None, is_some, slice_set}
 use Rattle.std.specs.List.{slice_index_or}
 use Rattle.std.specs.Option.{option_or}
@@ -31,7 +31,7 @@ put_cfa register offset row = record { cfa = Some (cfa.Base register offset); ru
 unfoldable pub put_cfa_expr : Place → Row → Row
 put_cfa_expr place row = record { cfa = Some (cfa.Expr place); rules = row.rules }
 
--- the row with another register in its CFA rule, and with another offset in it, where it is a register and an offset
+-- the CFA rule with another register, and the CFA rule with another offset, if the rule is a register and an offset
 abbrev pub cfa_register : ℕ → Option CfaRule → Option CfaRule
 cfa_register register None = None
 cfa_register register (Some (cfa.Base old offset)) = Some (cfa.Base register offset)
@@ -54,23 +54,23 @@ put_register register row = record { cfa = cfa_register register row.cfa; rules 
 unfoldable pub put_offset : ℤ → Row → Row
 put_offset offset row = record { cfa = cfa_offset offset row.cfa; rules = row.rules }
 
--- the row with another rule for a column; columns above 16 are passed over
+-- the row with another rule for a column; columns above 16 are ignored
 unfoldable pub put_rule : ℕ → Rule → Row → Row
 put_rule column new row = if nat_lt column 17 then record { cfa = row.cfa; rules = slice_set row.rules column new } else row
 
--- an offset that is not factored, and one that is: its product with the data alignment factor, modulo 2^64
+-- an offset that is not factored, and the product of a factored offset and the data alignment factor, both modulo 2^64
 abbrev pub plain : ℕ → ℤ
 plain offset = cast_signed w64 offset
 
 abbrev pub scaled : Context → ℤ → ℤ
 scaled s factored = int_wrapping_mul w64 factored s.data_align
 
--- the place of an expression in the run of instructions: the entry's own, or those of its CIE
+-- the place of an expression, in the entry's own run of instructions or in that of its CIE
 abbrev pub place_of_block : Context → Block → Place
 place_of_block s block = record { own = is_some s.initial; start = block.start; len = block.len }
 
--- rule text can say the expression at a place of the run, where `over_cfa` says that the CFA may be on the stack (DWARF 5, 6.4.2.2 and
--- 6.4.2.3); a place has its start and its length in four bytes each
+-- whether rule text can express the expression at a place of the run; `over_cfa` says that the CFA may be on the stack (DWARF 5, 6.4.2.2 and
+-- 6.4.2.3). The start and the length of a place must each fit into four bytes
 unfoldable pub can_say : Bool → Context → Block → Bool
 can_say over_cfa s block =
     nat_lt block.start (2 ^ 32) && (nat_lt block.len (2 ^ 32) && is_some (standing over_cfa (bytes_at (place_of_block s block) s.run s.run)))
@@ -78,7 +78,7 @@ can_say over_cfa s block =
 abbrev pub expr_fault : Bool → Context → Block → Option Reason
 expr_fault over_cfa s block = unless (can_say over_cfa s block) reason.Expression
 
--- columns above 16 are passed over
+-- the same for the rule of a column; columns above 16 are ignored
 abbrev pub column_expr_fault : Context → ℕ → Block → Option Reason
 column_expr_fault s column block = unless (nat_lt 16 column || can_say true s block) reason.Expression
 
@@ -113,15 +113,15 @@ pub data Effect : Type 0 where
   -- the location moves to an address, or by a distance
   MovesTo : ℕ → Effect
   MovesBy : ℕ → Effect
-  -- the CFA has a rule of a register and an offset, or of an expression, unless there is a reason against it, or another register in its
-  -- rule, or another offset
+  -- the CFA gets a rule of a register and an offset, or a rule of an expression, unless there is a reason against it; or its rule gets another
+  -- register, or another offset
   DefinesCfa : ℕ → ℤ → Effect
   DefinesCfaExpr : Place → Option Reason → Effect
   ChangesRegister : ℕ → Effect
   ChangesOffset : ℤ → Effect
-  -- a column has a rule, unless there is a reason against it
+  -- a column gets a rule, unless there is a reason against it
   PutsRule : ℕ → Rule → Option Reason → Effect
-  -- the row is remembered, or the one that was remembered last is taken back
+  -- the row is remembered, or the row that was remembered last is restored
   Remembers : Effect
   TakesBack : Effect
   DoesNothing : Effect
@@ -137,7 +137,7 @@ effect s (DefCfaRegister register) = ChangesRegister register
 effect s (DefCfaOffset offset) = ChangesOffset (plain offset)
 effect s (DefCfaOffsetSf factored) = ChangesOffset (scaled s factored)
 effect s (DefCfaExpression block) = DefinesCfaExpr (place_of_block s block) (expr_fault false s block)
--- register rules (6.4.2.3); the return address is no register, and the one that has a column's value is one of the sixteen
+-- register rules (6.4.2.3); the return address is no register, and a register that has a column's value must be one of the sixteen
 effect s (Undefined column) = PutsRule column rule.Undefined None
 effect s (SameValue column) = PutsRule column rule.Same (unless (not (column == 16)) reason.Register)
 effect s (Offset column factored) = PutsRule column (rule.Offset (scaled s (plain factored))) None
@@ -167,18 +167,18 @@ done Remembers m = record { address = m.address; row = m.row; stack = m.row ∷ 
 done TakesBack m = record { address = m.address; row = top_or m.row m.stack; stack = under m.stack }
 done DoesNothing m = m
 
--- a location instruction: none may stand in a CIE, and the location rises and stays below 2^64
+-- a location instruction is not allowed in a CIE, and the location must not fall and must stay below 2^64
 abbrev pub move_fault : Context → ℕ → ℕ → Option Reason
 move_fault s before after = unless (is_some s.initial && (nat_le before after && nat_lt after (2 ^ 64))) reason.Range
 
--- the CFA's register is one of the sixteen, and only where the CFA rule is a register and an offset may one of the two be changed
+-- the CFA's register must be one of the sixteen; the register or the offset alone can be changed only if the CFA rule is a register and an offset
 abbrev pub register_fault : ℕ → Option Reason
 register_fault register = unless (nat_lt register 16) reason.Register
 
 abbrev pub part_fault : Machine → Option Reason
 part_fault m = unless (is_base m.row.cfa) reason.State
 
--- why an effect is refused; of several reasons the first in their order
+-- why an effect is refused; of several reasons, the first in the order of `Reason`
 abbrev pub effect_fault : Context → Effect → Machine → Option Reason
 effect_fault s (MovesTo address) m = move_fault s m.address address
 effect_fault s (MovesBy distance) m = move_fault s m.address (m.address + distance)
@@ -191,7 +191,7 @@ effect_fault s Remembers m = None
 effect_fault s TakesBack m = unless (has_remembered m.stack) reason.State
 effect_fault s DoesNothing m = None
 
--- the state after an instruction, and why it may not stand where it stands
+-- the state after an instruction, and why the instruction is refused
 unfoldable pub stepped : Context → Instruction → Machine → Machine
 stepped s i m = done (effect s i) m
 

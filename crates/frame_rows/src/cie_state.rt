@@ -1,4 +1,4 @@
-//! The state after the instructions of a CIE, which are carried out once for all of its entries.
+//! The state after the instructions of a CIE, which are executed once for all of its FDEs.
 ghost use Rattle.std.specs.Prelude.{◌≡◌, Ok, Err, Some, None, reverse, MatchResult, IfOk};
 ghost use Rattle.sym_edges.specs.Outside.{MatchStop};
 ghost use Rattle.frame_rows.specs.Rows.{empty_row, first_fault, cie_context, cie_items, cie_begin, cie_end, left_context, own_begin};
@@ -14,7 +14,7 @@ use std::alloc::Global;
 use std::marker::Model;
 use sym_edges::{OutOfMemory, Reason, Stop};
 
-/// What the instructions of a CIE leave: the context of those of its entries, in which the row is, and the row stack.
+/// What the instructions of a CIE leave: the context for the instructions of its FDEs, which has the row, and the row stack.
 #[derive(Drop)]
 struct Left {
     context: CieContext,
@@ -30,7 +30,7 @@ impl Model for Left {
     ghost view = { λ l. record { context = l.context; stack = reverse l.stack.items } };
 }
 
-/// The state after the instructions of a CIE, or the reason of the first bad one. It is the same for each entry of the CIE.
+/// The state after the instructions of a CIE, or the reason against the first bad one. It is the same for each FDE of the CIE.
 #[derive(Drop)]
 pub struct CieState {
     left: Result<Left, Reason>,
@@ -46,7 +46,7 @@ impl Model for CieState {
     ghost view = { λ s. s.left };
 }
 
-/// The row in front of all instructions.
+/// The row before all instructions.
 #[tactic(auto, unfolding(crate::specs::Rows::empty_row))]
 fn empty_row() -> Row
     ensures { result ≡ empty_row }
@@ -57,7 +57,7 @@ fn empty_row() -> Row
     }
 }
 
-/// What instructions of an entry are carried out with, after a row that its CIE left.
+/// The context of an entry's instructions, with the row that its CIE left.
 fn context_of(fde: &Fde<'_>, initial: Option<Row>) -> CieContext
     ensures { result ≡ record { code_align = fde.now.code_align; data_align = fde.now.data_align; initial = initial } }
 {
@@ -68,7 +68,7 @@ fn context_of(fde: &Fde<'_>, initial: Option<Row>) -> CieContext
     }
 }
 
-/// Carries out the instructions of the CIE of an entry.
+/// Executes the instructions of the CIE of an entry.
 #[tactic(auto, unfolding(crate::specs::Rows::cie_context, crate::specs::Rows::cie_items, crate::specs::Rows::cie_begin, crate::specs::Rows::cie_end))]
 fn run_cie<'c>(alloc: Global, fde: &Fde<'_>) -> Result<Machine<'c>, Stop<Reason>>
     ensures fault { MatchStop result
@@ -126,7 +126,7 @@ impl CieState {
         }
     }
 
-    /// Begins an entry of the CIE. Takes no memory.
+    /// Begins an entry of the CIE. Allocates no memory.
     #[inline]
     pub fn begin(&self, alloc: Global, fde: &Fde<'_>) -> Result<Begun<'_>, Reason>
         requires { self.now ≡ cie_left fde.now }
@@ -148,7 +148,7 @@ impl CieState {
         }
     }
 
-    /// Begins an entry of the CIE, the only one.
+    /// Begins the only entry of the CIE.
     pub fn into_begun<'c>(self, alloc: Global, fde: &Fde<'_>) -> Result<Begun<'c>, Stop<Reason>>
         requires { self ≡ cie_left fde.now }
         ensures fault { MatchStop result

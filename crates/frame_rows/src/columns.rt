@@ -5,7 +5,7 @@ ghost use Rattle.frame_rows.specs.internal.Touched.{no_columns, all_columns, one
 
 use crate::row::{COLUMNS, Row};
 
-/// The columns from the first on and below the end; none where the end is not above the first.
+/// The columns from `first` on and below `end`; none if `end` is not above `first`.
 #[derive(Clone, Copy, PartialEq, Eq, Debug)]
 pub struct Columns {
     pub first: u8,
@@ -27,7 +27,7 @@ impl Columns {
         Columns { first: 0, end: 17 }
     }
 
-    /// A column alone; none where there is no such column.
+    /// One column; none if there is no such column.
     #[inline]
     pub fn one(column: u64) -> Columns
         ensures { result ≡ one_column column }
@@ -41,7 +41,7 @@ impl Columns {
         Columns::none()
     }
 
-    /// These, others, and those between them.
+    /// These columns, the others, and those between them.
     #[inline]
     pub fn join(self, other: Columns) -> Columns
         ensures { result ≡ record { first = min self.first other.first; end = max self.end other.end } }
@@ -54,7 +54,7 @@ impl Columns {
 }
 
 impl Row {
-    /// Becomes as another row, from which it differs in no column outside of some.
+    /// Becomes equal to another row, whose columns outside of `columns` are the same.
     #[tactic(auto, using(crate::proofs::TakeLemmas::all_taken))]
     pub fn follow(&mut self, columns: Columns, to: &Row)
         requires { StayOutside columns self.old to.now }

@@ -44,7 +44,7 @@ fn read_set_loc(cursor: &mut Cursor<'_>, encoding: u8, base: u64) -> Result<Inst
     Ok(Instruction::SetLoc { address })
 }
 
-/// Passes over the operand of `DW_CFA_GNU_args_size`, which says nothing of the row.
+/// Skips the operand of `DW_CFA_GNU_args_size`, which says nothing about the row.
 fn read_args_size(cursor: &mut Cursor<'_>) -> Result<Instruction, Reason>
     ensures { gave result cursor.new ≡ one (λ size. Nop) (or_instruction (uleb_at cursor.old)) }
 {
@@ -54,7 +54,7 @@ fn read_args_size(cursor: &mut Cursor<'_>) -> Result<Instruction, Reason>
     Ok(Instruction::Nop)
 }
 
-/// Reads a block: passes over it, and says where it starts and how long it is.
+/// Reads a block: skips it, and returns where it starts and how long it is.
 #[tactic(auto, unfolding(crate::specs::Instructions::block_at))]
 fn read_block(cursor: &mut Cursor<'_>) -> Result<Block, Reason>
     ensures { gave result cursor.new ≡ block_at cursor.old }
@@ -96,7 +96,7 @@ fn read_expression(cursor: &mut Cursor<'_>, fetches: bool) -> Result<Instruction
     Ok(Instruction::ValExpression { column, block })
 }
 
-/// Reads the operands of an opcode that has none in itself.
+/// Reads the operands of an opcode that has no operand in its low bits.
 #[inline(always)]
 #[tactic(auto, unfolding(crate::specs::Instructions::extended_form, crate::specs::Instructions::form_at, crate::specs::Instructions::operand_at))]
 fn read_extended(
@@ -138,7 +138,7 @@ fn read_extended(
     }
 }
 
-/// Reads what stands after an opcode.
+/// Reads what follows an opcode.
 #[inline(always)]
 #[tactic(auto, unfolding(crate::specs::Instructions::form_of, crate::specs::Instructions::form_at, crate::specs::Instructions::operand_at))]
 fn read_behind(

@@ -34,7 +34,7 @@ impl Instruction {
         }
     }
 
-    /// Carries out the instruction, or says why it may not stand there.
+    /// Executes the instruction, or returns the reason for which it is refused.
     #[inline(always)]
     #[tactic(auto, unfolding(crate::specs::Steps::stepped, crate::specs::Steps::step_fault))]
     pub fn step(self, machine: &mut Machine<'_>, context: &Context<'_>) -> Result<(), Stop<Reason>>

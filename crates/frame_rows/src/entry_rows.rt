@@ -13,14 +13,14 @@ use frame_entries::Fde;
 use std::alloc::Global;
 use sym_edges::{Reason, Stop};
 
-/// Whether a row lacked a rule for the CFA before, or one does.
+/// Whether a row before lacked a rule for the CFA, or this row lacks one.
 fn lack_rule(lacking: bool, row: &Row) -> bool
     ensures { result ≡ (lacking || not (has_cfa row.now)) }
 {
     lacking || row.cfa.is_none()
 }
 
-/// Whether the row where a stepper stands or a later one lacks a rule for the CFA; or the reason of the first bad instruction.
+/// Whether the stepper's row or a later one lacks a rule for the CFA; or the reason against the first bad instruction.
 fn lack_cfa(stepper: &mut Stepper<'_, '_>) -> Result<bool, Stop<Reason>>
     requires fresh { stepper.old.failed ≡ false }
     requires going { stepper.old.refused ≡ None }
@@ -35,7 +35,7 @@ fn lack_cfa(stepper: &mut Stepper<'_, '_>) -> Result<bool, Stop<Reason>>
     Ok(lacking)
 }
 
-/// The row where a stepper stands, and the later ones.
+/// The stepper's row, and the later ones.
 fn collect(alloc: Global, stepper: &mut Stepper<'_, '_>) -> Result<Vec<RowAt>, Stop<Reason>>
     requires fresh { stepper.old.failed ≡ false }
     requires going { stepper.old.refused ≡ None }
@@ -56,8 +56,7 @@ fn collect(alloc: Global, stepper: &mut Stepper<'_, '_>) -> Result<Vec<RowAt>, S
     Ok(rows)
 }
 
-/// Whether an entry has rows, or the reason for which it has none; the state after its CIE is given. All instructions are
-/// looked at, and no row is kept.
+/// Whether an entry has rows, or the reason for which it has none, given the state after its CIE. All instructions are executed, and no row is kept.
 pub fn check_rows_behind(alloc: Global, state: &CieState, fde: &Fde<'_>) -> Result<(), Stop<Reason>>
     requires behind { state.now ≡ cie_left fde.now }
     requires some { 0 < fde.now.size }
@@ -75,8 +74,8 @@ pub fn check_rows_behind(alloc: Global, state: &CieState, fde: &Fde<'_>) -> Resu
     Ok(())
 }
 
-/// The rows of an entry by their addresses, or the reason of its first bad instruction, or else `Cfa` where some address of the
-/// range has no rule for the CFA; the state after its CIE is given.
+/// The rows of an entry by their addresses, given the state after its CIE; or the reason against its first bad instruction, or else `Cfa` if some
+/// address of the range has no rule for the CFA.
 #[tactic(auto, using(crate::proofs::EntryLemmas::rows_good))]
 pub fn rows_behind(alloc: Global, state: &CieState, fde: &Fde<'_>) -> Result<RowList, Stop<Reason>>
     requires behind { state.now ≡ cie_left fde.now }
@@ -91,8 +90,8 @@ pub fn rows_behind(alloc: Global, state: &CieState, fde: &Fde<'_>) -> Result<Row
     Ok(RowList::of(rows))
 }
 
-/// The rows of an entry by their addresses, or the reason of its first bad instruction, or else `Cfa` where some address of the
-/// range has no rule for the CFA.
+/// The rows of an entry by their addresses; or the reason against its first bad instruction, or else `Cfa` if some address of the range has no rule
+/// for the CFA.
 pub fn rows(alloc: Global, fde: &Fde<'_>) -> Result<RowList, Stop<Reason>>
     requires some { 0 < fde.now.size }
     requires fits { fde.now.start + fde.now.size < 2 ^ 64 }

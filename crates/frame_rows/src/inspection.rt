@@ -10,8 +10,8 @@ use frame_entries::Fde;
 use std::alloc::Global;
 use sym_edges::{OutOfMemory, Reason, Stop};
 
-/// The reason of the first bad instruction of an entry, that of its CIE, after which the state is given, before those of its
-/// own, for any range.
+/// The reason against the first bad instruction of an entry, for any range, given the state after its CIE; the CIE's instructions come before the
+/// entry's own.
 #[tactic(auto, unfolding(crate::specs::Rows::instruction_fault, crate::specs::Rows::own_items, crate::specs::Rows::own_context))]
 pub fn inspect_behind(
     alloc: Global,
@@ -46,7 +46,7 @@ pub fn inspect_behind(
     }
 }
 
-/// The reason of the first bad instruction, those of the CIE before the entry's own, for any range.
+/// The reason against the first bad instruction of an entry, for any range; the CIE's instructions come before the entry's own.
 pub fn inspect(alloc: Global, fde: &Fde<'_>) -> Result<Option<Reason>, OutOfMemory>
     ensures { IfOk result (λ why. why ≡ instruction_fault fde.now) }
 {

@@ -7,7 +7,7 @@ pub struct Block {
     pub len: usize,
 }
 
-/// A call frame instruction. Those that differ only in how an operand is written are one. Columns and registers are DWARF numbers; a
+/// A call frame instruction. Opcodes that differ only in how an operand is written are one instruction. Columns and registers are DWARF numbers. A
 /// factored offset is multiplied by the data alignment factor of the CIE, and a delta by its code alignment factor. A DWARF expression is a block in
 /// the run of instructions.
 #[derive(Clone, Copy, PartialEq, Eq, Debug)]
@@ -32,6 +32,6 @@ pub enum Instruction {
     Restore { column: u64 },
     RememberState,
     RestoreState,
-    /// `DW_CFA_nop`, and `DW_CFA_GNU_args_size`, which says nothing of the row.
+    /// `DW_CFA_nop`, and `DW_CFA_GNU_args_size`, which says nothing about the row.
     Nop,
 }

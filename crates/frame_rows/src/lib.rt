@@ -1,24 +1,22 @@
-//! The rows of a frame description entry: for each address of its range the rule of the canonical frame address (CFA)
-//! and a rule for each register (DWARF 5, 6.4).
+//! The rows of a frame description entry (FDE): for each address of its range the rule of the canonical frame address (CFA) and a rule for each
+//! register (DWARF 5, 6.4).
 //!
-//! [`rows`] carries out the call frame instructions of an entry's CIE and then its own, and gives the row at each
-//! address at which the location changes; between two of them the row stays. Its contract compares them with
-//! `specs/Rows.antt`, where the row at an address is what a replay from the first instruction leaves there.
-//! `specs/Instructions.antt` says how an instruction is read, one line for each opcode, and `specs/Steps.antt` which effect each
-//! has, in the standard's order, and what an effect does to the location, the row and the row stack. [`inspect`] looks at the
-//! instructions alone, for any range. One loop carries instructions out, `run`; all calls go through it.
+//! [`rows`] executes the call frame instructions of an entry's CIE and then the entry's own. It gives the row at each address at which the location
+//! changes; between two of these addresses the row stays the same. Its contract compares the rows with `specs/Rows.antt`, in which the row at an
+//! address is what a replay from the first instruction leaves there. `specs/Instructions.antt` says how an instruction is read, with one line for
+//! each opcode. `specs/Steps.antt` says which effect each instruction has, in the standard's order, and what an effect does to the location, the row
+//! and the row stack. [`inspect`] checks the instructions alone, for any range. One loop executes instructions, in `run`; all calls use it.
 //!
-//! A [`Stepper`] goes over the rows one after the other and keeps only the one where it stands; `next` says beside which columns
-//! two rows differ in none. Once memory ran out, it answers that from then on.
+//! A [`Stepper`] goes over the rows one after the other and keeps only the current one; `next` returns columns outside of which no column has
+//! changed. After memory ran out, each later step returns that.
 //!
-//! The instructions of a CIE leave the same for each of its entries: a [`CieState`] is made once, and [`rows_behind`],
-//! [`inspect_behind`], [`check_rows_behind`] and `Stepper::begin` begin with it. A stepper that begins so has looked at no instruction
-//! before: it meets the first bad one as it goes, and from then on each step answers its reason.
+//! The instructions of a CIE leave the same state for each of its FDEs: a [`CieState`] is made once, and [`rows_behind`], [`inspect_behind`],
+//! [`check_rows_behind`] and `Stepper::begin` begin with it. A stepper that begins so has checked no instruction before: it meets the first bad one
+//! as it goes, and from then on each step returns the reason against that one.
 //!
-//! An entry is refused exactly with the reason of its first bad instruction, the CIE's before its own, or else with
-//! `Cfa` where some address of the range has no CFA rule. A row keeps the place of a DWARF expression's bytes; whether rule text can
-//! say the expression is asked where its instruction is carried out, once for all entries of a CIE, and one that it cannot say is refused
-//! as `Expression`.
+//! An entry is refused exactly with the reason against its first bad instruction, the CIE's before its own, or else with `Cfa` if some address of the
+//! range has no CFA rule. A row keeps the place of a DWARF expression's bytes. Whether rule text can express the expression is checked when its
+//! instruction is executed, once for all FDEs of a CIE; if not, the instruction is refused as `Expression`.
 #![tactic(auto)]
 
 // The rows, and the instructions that make them.
@@ -26,7 +24,7 @@ mod columns;
 mod instruction;
 mod row;
 
-// Reading an instruction, and carrying it out.
+// Reading an instruction, and executing it.
 mod decoder;
 mod effect;
 mod machine;
@@ -39,7 +37,7 @@ mod inspection;
 mod run;
 mod stepper;
 
-// For proofs above.
+// For proofs in other crates.
 pub mod laws;
 
 pub use crate::cie_state::CieState;

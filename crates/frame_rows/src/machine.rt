@@ -14,8 +14,7 @@ use std::alloc::{AllocError, Global};
 use std::marker::Model;
 use sym_edges::{Reason, Stop};
 
-/// What instructions are carried out with: the code and the data alignment factor of the CIE, and after it the row that its
-/// initial instructions left.
+/// The context of instructions: the code and the data alignment factor of the CIE and, after the CIE's instructions, the row that they left.
 #[derive(Clone, Copy)]
 pub struct CieContext {
     pub code_align: u64,
@@ -23,7 +22,7 @@ pub struct CieContext {
     pub initial: Option<Row>,
 }
 
-/// What the instructions of a run are carried out with: what the CIE gives, and the run, in which their expressions stand.
+/// The context of the instructions of a run: that of the CIE, and the run, which contains their expressions.
 #[derive(Drop)]
 pub struct Context<'c> {
     pub cie: &'c CieContext,
@@ -39,14 +38,14 @@ impl<'c> Model for Context<'c> {
 }
 
 impl<'c> Context<'c> {
-    /// A factored offset, modulo 2^64.
+    /// The product of a factored offset and the data alignment factor, modulo 2^64.
     pub fn scale(&self, factored: i64) -> i64
         ensures { result ≡ scaled self.now factored }
     {
         factored.wrapping_mul(self.cie.data_align)
     }
 
-    /// The place of an expression of the run that rule text can say. `over_cfa`: the CFA may be on the stack.
+    /// The place of an expression of the run, if rule text can express it. `over_cfa`: the CFA may be on the stack.
     #[inline(never)]
     #[tactic(auto, unfolding(crate::specs::Steps::can_say, expr_steps::specs::Places::place_of))]
     fn find_expression(&self, block: Block, over_cfa: bool) -> Option<Place>
@@ -58,8 +57,7 @@ impl<'c> Context<'c> {
     }
 }
 
-/// The location, the row there, and the row stack: the rows that are remembered. Those at its bottom, which a CIE left, lie
-/// elsewhere.
+/// The location, the row there, and the row stack of remembered rows. The rows at the bottom of the stack, which a CIE left, are stored elsewhere.
 #[derive(Drop)]
 pub struct Machine<'c> {
     address: u64,
@@ -90,7 +88,7 @@ fn register_of(number: u64) -> Result<u8, Reason>
 }
 
 impl<'c> Machine<'c> {
-    /// The state at an address, with a row and the rows that are remembered, the last one last. Takes no memory.
+    /// The state at an address, with a row and the remembered rows, the last one last. Allocates no memory.
     pub fn new(alloc: Global, address: u64, row: &Row, bottom: &'c [Row]) -> Machine<'c>
         ensures { result ≡ record { address = address; row = row.now; stack = reverse bottom.now } }
     {
@@ -102,7 +100,7 @@ impl<'c> Machine<'c> {
         }
     }
 
-    /// The same with remembered rows of its own.
+    /// The same, with remembered rows of its own.
     pub fn with_stack(address: u64, row: Row, stack: Vec<Row>) -> Machine<'c>
         ensures { result ≡ record { address = address; row = row; stack = reverse stack.items } }
     {
@@ -114,7 +112,7 @@ impl<'c> Machine<'c> {
         }
     }
 
-    /// The rows that are remembered, the last one last.
+    /// The remembered rows, the last one last.
     pub fn into_stack(self, alloc: Global) -> Result<Vec<Row>, AllocError>
         ensures { IfOk result (λ rows. reverse rows.items ≡ self.entry.stack) }
     {
@@ -136,7 +134,7 @@ impl<'c> Machine<'c> {
         &self.row
     }
 
-    /// Another rule for a column; columns above 16 are passed over.
+    /// Sets another rule for a column; columns above 16 are ignored.
     #[tactic(auto, unfolding(crate::specs::Steps::put_rule))]
     pub fn put_rule(&mut self, column: u64, rule: Rule)
         ensures { self.new ≡ on_row (put_rule column rule) self.old }
@@ -146,7 +144,7 @@ impl<'c> Machine<'c> {
         }
     }
 
-    /// A CFA rule of a register and an offset.
+    /// Sets a CFA rule of a register and an offset.
     #[tactic(auto, unfolding(crate::specs::Steps::put_cfa))]
     pub fn define_cfa(&mut self, register: u64, offset: i64) -> Result<(), Stop<Reason>>
         ensures { MatchStop result
@@ -162,7 +160,7 @@ impl<'c> Machine<'c> {
         Ok(())
     }
 
-    /// A CFA rule of an expression.
+    /// Sets a CFA rule of an expression.
     #[tactic(auto, unfolding(crate::specs::Steps::put_cfa_expr))]
     pub fn define_cfa_by(&mut self, context: &Context<'_>, block: Block) -> Result<(), Stop<Reason>>
         ensures { MatchStop result
@@ -179,7 +177,7 @@ impl<'c> Machine<'c> {
         }
     }
 
-    /// Another register in the CFA rule.
+    /// Sets another register in the CFA rule.
     #[tactic(auto, unfolding(crate::specs::Steps::put_register))]
     pub fn change_register(&mut self, register: u64) -> Result<(), Stop<Reason>>
         ensures { MatchStop result
@@ -200,7 +198,7 @@ impl<'c> Machine<'c> {
         }
     }
 
-    /// Another offset in the CFA rule.
+    /// Sets another offset in the CFA rule.
     #[tactic(auto, unfolding(crate::specs::Steps::put_offset))]
     pub fn change_offset(&mut self, offset: i64) -> Result<(), Stop<Reason>>
         ensures { MatchStop result
@@ -217,7 +215,7 @@ impl<'c> Machine<'c> {
         }
     }
 
-    /// A location instruction that moves by so many units of code.
+    /// A location instruction that moves by `delta` units of code.
     pub fn advance(&mut self, context: &Context<'_>, delta: u64) -> Result<(), Stop<Reason>>
         ensures { MatchStop result
             (λ _. (move_fault context.now self.old.address (self.old.address + delta * context.now.code_align) ≡ None)
@@ -268,7 +266,7 @@ impl<'c> Machine<'c> {
         Ok(())
     }
 
-    /// A column's value is in a register; columns above 16 are passed over.
+    /// A column's value is in a register; columns above 16 are ignored.
     #[tactic(auto, unfolding(crate::specs::Steps::put_rule))]
     pub fn in_register(&mut self, column: u64, register: u64) -> Result<(), Stop<Reason>>
         ensures { MatchStop result
@@ -286,7 +284,7 @@ impl<'c> Machine<'c> {
         Ok(())
     }
 
-    /// A column's value is that of an expression, or the word that it is the address of; columns above 16 are passed over.
+    /// A column's value is that of an expression, or the word in memory at that address; columns above 16 are ignored.
     #[tactic(auto, unfolding(crate::specs::Steps::put_rule))]
     pub fn by_expression(
         &mut self,
@@ -312,7 +310,7 @@ impl<'c> Machine<'c> {
         }
     }
 
-    /// The rule that the CIE left.
+    /// A column gets the rule that the CIE left.
     #[tactic(auto, unfolding(crate::specs::Steps::put_rule))]
     pub fn restore(&mut self, context: &Context<'_>, column: u64) -> Result<(), Stop<Reason>>
         ensures { MatchStop result
@@ -356,7 +354,7 @@ impl<'c> Machine<'c> {
         }
     }
 
-    /// The row that was remembered last.
+    /// Restores the row that was remembered last.
     pub fn restore_state(&mut self) -> Result<(), Stop<Reason>>
         ensures { MatchStop result
             (λ _. (unless (has_remembered self.old.stack) reason.State ≡ None) × (self.new ≡ record { address = self.old.address; row = top_or self.old.row self.old.stack; stack = under self.old.stack }))

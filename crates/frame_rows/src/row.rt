@@ -8,39 +8,39 @@ pub const COLUMNS: usize = 17;
 /// How the value that a register had in the caller is found.
 #[derive(Clone, Copy, PartialEq, Eq, Debug)]
 pub enum Rule {
-    /// No instruction gave a rule: what the ABI says holds.
+    /// No instruction gave a rule, so what the ABI says applies.
     Rest,
-    /// It is not known.
+    /// The value is unknown.
     Undefined,
-    /// The register still has it.
+    /// The register still has the value.
     Same,
-    /// It lies at the CFA plus so much.
+    /// The value is in memory, at the CFA plus the offset.
     Offset(i64),
-    /// It is the CFA plus so much.
+    /// The value is the CFA plus the offset.
     ValOffset(i64),
-    /// Another register has it.
+    /// Another register has the value.
     Register(u8),
-    /// It is the value of the expression that stands at a place, or the word in memory that this is the address of.
+    /// The value is that of the expression at a place or, if `fetch`, the word in memory at that address.
     Expr { fetch: bool, place: Place },
 }
 
 /// How the CFA is found.
 #[derive(Clone, Copy, PartialEq, Eq, Debug)]
 pub enum CfaRule {
-    /// The value of a register, and what is added to it, modulo 2^64.
+    /// The value of a register plus an offset, modulo 2^64.
     Base { register: u8, offset: i64 },
-    /// The value of the expression that stands at a place.
+    /// The value of the expression at a place.
     Expr { place: Place },
 }
 
-/// The rules at an address: for the CFA, where there is one, and for each column.
+/// The rules at an address: for the CFA, if there is one, and for each column.
 #[derive(Clone, Copy, PartialEq, Eq, Debug)]
 pub struct Row {
     pub cfa: Option<CfaRule>,
     pub rules: [Rule; COLUMNS],
 }
 
-/// A row, and the first address at which it stands.
+/// A row, and the first address at which it applies.
 #[derive(Clone, Copy, PartialEq, Eq, Debug)]
 pub struct RowAt {
     pub address: u64,

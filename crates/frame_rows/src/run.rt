@@ -1,4 +1,4 @@
-//! Runs of instructions: the one loop that reads and carries them out, up to the next row, and to the end.
+//! Runs of instructions: the one loop that reads and executes them, up to the next row and to the end.
 ghost use Rattle.std.specs.Prelude.{◌≡◌, ℕ, ◌<◌, ◌∷◌, None, Some, IsTrue, length, IfOk, OnOk};
 ghost use Rattle.sym_edges.specs.Outside.{MatchStop};
 ghost use Rattle.frame_entries.specs.Pointers.{is_encoding};
@@ -13,7 +13,7 @@ use crate::machine::{Context, Machine};
 use leb_cursor::Cursor;
 use sym_edges::{Reason, Stop};
 
-/// Carries out the instructions up to the first that moves the location on.
+/// Executes the instructions up to the first that advances the location.
 pub fn run_to_next_row(
     machine: &mut Machine<'_>,
     cursor: &mut Cursor<'_>,
@@ -52,7 +52,7 @@ pub fn run_to_next_row(
     Ok(columns)
 }
 
-/// Carries out all instructions that are left.
+/// Executes all instructions that are left.
 pub fn run_to_end(
     machine: &mut Machine<'_>,
     cursor: &mut Cursor<'_>,
@@ -74,7 +74,7 @@ pub fn run_to_end(
     Ok(())
 }
 
-/// Carries out the instructions of a run of bytes; `base` is the address of its first byte.
+/// Executes the instructions of a run of bytes; `base` is the address of its first byte.
 pub fn run_all(
     machine: &mut Machine<'_>,
     context: &Context<'_>,

@@ -1,4 +1,4 @@
-//! The rows of an entry, one after the other: only the row where a stepper stands is in memory, and the row stack.
+//! The rows of an entry, one after the other: only the stepper's row and the row stack are in memory.
 ghost use Rattle.std.specs.Prelude.{◌≡◌, ℕ, ◌+◌, ◌<◌, ◌^◌, [], ◌∷◌, None, Some, Bool, true, false, IsTrue, length, IfOk, OnOk, Err, MatchOption};
 ghost use Rattle.sym_edges.specs.Outside.{MatchStop};
 ghost use Rattle.sym_edges.specs.declared.fault.Stop.TheVariants as stop;
@@ -24,8 +24,8 @@ use std::alloc::Global;
 use std::marker::Model;
 use sym_edges::{Reason, Stop};
 
-/// A place in the rows of an entry. The instructions up to the next location that differs are carried out, so the location
-/// lies above the address of the row, or no instruction is left.
+/// A position among the rows of an entry. The instructions up to the next different location are executed, so the location is above the address of
+/// the row, or no instruction is left.
 #[derive(Drop)]
 pub struct Stepper<'c, 'a> {
     machine: Machine<'c>,
@@ -65,7 +65,7 @@ impl<'c, 'a> Model for Stepper<'c, 'a> {
     ghost invariant = { λ s. IsTrue (is_encoding s.encoding) };
 }
 
-/// The first row of an entry.
+/// A stepper at the first row of an entry.
 #[inline]
 fn start<'c, 'a>(begun: Begun<'c>, fde: &Fde<'a>, end: u64) -> Result<Stepper<'c, 'a>, Stop<Reason>>
     requires machine { begun.machine ≡ own_begin fde.now }
@@ -112,7 +112,7 @@ fn start<'c, 'a>(begun: Begun<'c>, fde: &Fde<'a>, end: u64) -> Result<Stepper<'c
 }
 
 impl<'c, 'a> Stepper<'c, 'a> {
-    /// At the first row of an entry, or the reason for which it has no rows. All instructions are looked at before.
+    /// A stepper at the first row of an entry, or the reason for which the entry has no rows. All instructions are checked first.
     #[tactic(auto, using(crate::proofs::EntryLemmas::cie_bad))]
     pub fn new(alloc: Global, fde: &Fde<'a>) -> Result<Stepper<'c, 'a>, Stop<Reason>>
         requires some { 0 < fde.now.size }
@@ -137,8 +137,8 @@ impl<'c, 'a> Stepper<'c, 'a> {
         }
     }
 
-    /// At the first row of an entry, where the state after its CIE is given, or the reason of a bad instruction up to the next
-    /// row. The instructions after that are not looked at.
+    /// A stepper at the first row of an entry, given the state after its CIE, or the reason against a bad instruction up to the next row. The
+    /// instructions after that are not checked.
     #[inline]
     #[tactic(auto, using(crate::proofs::EntryLemmas::cie_bad))]
     pub fn begin(
@@ -163,7 +163,7 @@ impl<'c, 'a> Stepper<'c, 'a> {
         }
     }
 
-    /// The first address at which the row stands.
+    /// The first address at which the row applies.
     pub fn address(&self) -> u64
         ensures { result ≡ self.now.here.address }
     {
@@ -177,9 +177,9 @@ impl<'c, 'a> Stepper<'c, 'a> {
         self.machine.row()
     }
 
-    /// Goes on to the next row, and says outside of which columns it is as the one before; or stays, at the last row: nothing.
-    /// The reason of a bad instruction refuses the step. Once memory ran out, each step answers that, and once one was refused,
-    /// each is for the same reason.
+    /// Goes on to the next row, and returns columns outside of which no column has changed; or stays at the last row, and returns `None`. The step is
+    /// refused with the reason against a bad instruction. After memory ran out, each step returns that; after a step was refused, each is refused for
+    /// the same reason.
     pub fn next(&mut self) -> Result<Option<Columns>, Stop<Reason>>
         ensures steps { self.old.failed ≡ false → self.old.refused ≡ None → MatchStop result (λ next. IsNext next self.old self.new) (λ why. Refuses why self.old self.new) (self.new.failed ≡ true) }
         ensures failed { self.old.failed ≡ true → (result ≡ Err stop.NoMemory) × (self.new ≡ self.old) }
@@ -219,9 +219,9 @@ impl<'c, 'a> Stepper<'c, 'a> {
         }
     }
 
-    /// Goes on to the next row: true; or stays, at the last row: false. The reason of a bad instruction refuses the step: none where
-    /// all instructions were looked at before. Once memory ran out, each step answers that, and once one was refused, each is for
-    /// the same reason.
+    /// Goes on to the next row, and returns true; or stays at the last row, and returns false. The step is refused with the reason against a bad
+    /// instruction; there is none if all instructions were checked before. After memory ran out, each step returns that; after a step was refused,
+    /// each is refused for the same reason.
     pub fn step(&mut self) -> Result<bool, Stop<Reason>>
         ensures steps { self.old.failed ≡ false → self.old.refused ≡ None → MatchStop result (λ more. IsStep more self.old self.new) (λ why. Refuses why self.old self.new) (self.new.failed ≡ true) }
         ensures failed { self.old.failed ≡ true → (result ≡ Err stop.NoMemory) × (self.new ≡ self.old) }
@@ -234,8 +234,8 @@ impl<'c, 'a> Stepper<'c, 'a> {
         }
     }
 
-    /// Carries out the instructions that are left, whose rows lie at the end or above; no row is later then. The reason of a bad
-    /// one refuses that.
+    /// Executes the instructions that are left, whose rows are at the end or above; then no row is later. This is refused with the reason against a
+    /// bad instruction.
     pub fn finish(&mut self) -> Result<(), Stop<Reason>>
         requires fresh { self.old.failed ≡ false }
         requires going { self.old.refused ≡ None }

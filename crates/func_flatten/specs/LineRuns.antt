@@ -1,4 +1,4 @@
--- The runs of the line, by the line table of a unit (DWARF 5, 6.2).
+-- The maximal runs of addresses with one line, from the line table of a unit (DWARF 5, 6.2).
 use Rattle.std.specs.Prelude.{ℕ, List, [], Option, None, Some, unwrap_or, map}
 use Rattle.std.specs.List.{slice_get}
 use Rattle.step_maps.specs.Runs.{Run, IsRuns, between}
@@ -8,7 +8,7 @@ use Rattle.debug_units.specs.Owners.{line_in}
 use Rattle.func_flatten.specs.declared.line_run.LineRun.{LineRun}
 use Rattle.func_flatten.specs.declared.piece.Piece.{Piece}
 
--- path number and line of an address, by a unit's table
+-- path number and line of an address, from a unit's line table
 abbrev pub number_line_in : ℕ → Option UnitRead → Option (ℕ × ℕ)
 number_line_in a None = None
 number_line_in a (Some part) = numbered_line part.lines a
@@ -16,7 +16,7 @@ number_line_in a (Some part) = numbered_line part.lines a
 unfoldable pub unit_number_line : List UnitRead → ℕ → ℕ → Option (ℕ × ℕ)
 unit_number_line units unit a = number_line_in a (slice_get units unit)
 
--- path and line of an address, by a unit's table
+-- path and line of an address, from a unit's line table
 unfoldable pub unit_line : List UnitRead → ℕ → ℕ → Option (List ℕ × ℕ)
 unit_line units unit a = line_in a (slice_get units unit)
 
@@ -28,19 +28,19 @@ paths_in (Some part) = part.lines.paths
 unfoldable pub unit_paths : List UnitRead → ℕ → List (List ℕ)
 unit_paths units unit = paths_in (slice_get units unit)
 
--- a run of a path's number and a line
+-- a line run with the path's number and the line as its value
 abbrev pub number_run : LineRun → Run (ℕ × ℕ)
 number_run r = record { start = r.start; end = r.end; value = (r.path, r.line) }
 
--- a path and a line by the path's number
+-- a path and a line, given the path's number
 abbrev pub path_line : List (List ℕ) → ℕ × ℕ → List ℕ × ℕ
 path_line paths at = (unwrap_or (slice_get paths at.0) [], at.1)
 
--- a run of a path and a line
+-- a line run with the path and the line as its value
 abbrev pub path_run : List (List ℕ) → LineRun → Run (List ℕ × ℕ)
 path_run paths r = record { start = r.start; end = r.end; value = path_line paths (r.path, r.line) }
 
--- the runs of the line in a piece, by the numbers of paths and by the paths
+-- the runs of the line in a piece, both with path numbers and with paths
 pub record AreLineRuns (units : List UnitRead) (piece : Piece) (runs : List LineRun) : Type 0 where
   pub numbers : IsRuns (between piece.start piece.end (unit_number_line units piece.unit)) (map number_run runs)
   pub paths : IsRuns (between piece.start piece.end (unit_line units piece.unit)) (map (path_run (unit_paths units piece.unit)) runs)

@@ -1,4 +1,4 @@
--- Which function owns which addresses (DWARF 5, 3.3), and where another one is there too.
+-- Which function owns which addresses (DWARF 5, 3.3), and at which of them there is another function too.
 use Rattle.std.specs.Prelude.{◌≡◌, ℕ, Bool, false, not, ◌&&◌, map, List, [], ◌∷◌, Option, None, Some}
 use Rattle.std.specs.List.{list_any}
 use Rattle.std.specs.Option.{option_map}
@@ -24,11 +24,11 @@ place_of c = record { unit = c.unit; entry = c.entry }
 unfoldable pub owner_place : List UnitRead → ℕ → Option EntryRef
 owner_place units a = option_map place_of (owner units a)
 
--- the name of a function, as a record may carry it
+-- the name of a function, cleaned for records
 abbrev pub covering_name : List UnitRead → Covering → List ℕ
 covering_name units c = entry_name units c.unit c.entry
 
--- a function of another name than the owner's has the address
+-- whether a function with another name than the owner's has the address
 abbrev pub has_other : List UnitRead → ℕ → Option Covering → Bool
 has_other units a None = false
 has_other units a (Some c) = list_any (λ d. owns a d && not (bytes_eq (covering_name units d) (covering_name units c))) (covering_from 0 units)
@@ -39,12 +39,12 @@ is_many units a = has_other units a (owner units a)
 abbrev pub piece_run : Piece → Run EntryRef
 piece_run p = record { start = p.start; end = p.end; value = record { unit = p.unit; entry = p.entry } }
 
--- each piece tells of its first address whether a function of another name has it too
+-- the mark `many` of each piece says whether a function with another name than the owner's has the first address of the piece
 abbrev pub AreMarked : List UnitRead → List Piece → Type 0
 AreMarked units [] = Unit {0}
 AreMarked units (p ∷ pieces) = (p.many ≡ is_many units p.start) × AreMarked units pieces
 
--- the pieces are the runs of the owner
+-- the pieces are the maximal runs of addresses with one owner, and are marked
 pub record ArePieces (units : List UnitRead) (pieces : List Piece) : Type 0 where
   pub runs : IsRuns (owner_place units) (map piece_run pieces)
   pub marks : AreMarked units pieces

@@ -1,4 +1,4 @@
--- The function symbols that no function covers (Breakpad's symbol_files.md, PUBLIC records): one for each of their addresses.
+-- What PUBLIC records (Breakpad's symbol_files.md) say of the function symbols that no function covers: one record for each of their addresses.
 use Rattle.std.specs.Prelude.{◌≡◌, ℕ, ◌==◌, ◌&&◌, Bool, true, false, not, List, [], ◌∷◌, map, filter, nat_lt, nat_le, if◌then◌else◌}
 use Rattle.std.specs.List.{list_any, list_all}
 use Rattle.std.specs.Str.{bytes_eq}
@@ -7,12 +7,12 @@ use Rattle.clean_names.specs.Cleaning.{cleaned}
 use Rattle.func_flatten.specs.declared.piece.Piece.{Piece}
 use Rattle.func_flatten.specs.declared.public.PublicAt.{PublicAt}
 
--- a number put into its place of an ascending list, where it is not there
+-- an ascending list with a number inserted, unless the list has it already
 unfoldable pub with_number : ℕ → List ℕ → List ℕ
 with_number a [] = a ∷ []
 with_number a (b ∷ numbers) = if nat_lt a b then a ∷ b ∷ numbers else (if a == b then b ∷ numbers else b ∷ with_number a numbers)
 
--- the numbers of a list, ascending and each once
+-- the numbers of a list in ascending order, each once
 unfoldable pub ascending : List ℕ → List ℕ
 ascending [] = []
 ascending (a ∷ numbers) = with_number a (ascending numbers)
@@ -26,11 +26,11 @@ abbrev pub IsRising : List ℕ → Type 0
 IsRising [] = Unit {0}
 IsRising (a ∷ numbers) = (list_all (λ b. nat_lt a b) numbers ≡ true) × IsRising numbers
 
--- the symbol has that address
+-- the symbol has the address
 abbrev pub stands_at : ℕ → SymbolParts → Bool
 stands_at a s = s.address == a
 
--- the symbols' addresses, ascending and each once
+-- the symbols' addresses in ascending order, each once
 unfoldable pub addresses : List SymbolParts → List ℕ
 addresses symbols = ascending (map (λ s. s.address) symbols)
 
@@ -43,12 +43,12 @@ abbrev pub first_name : List (List ℕ) → List ℕ
 first_name [] = []
 first_name (name ∷ names) = name
 
--- a name differs from the first
+-- some name differs from the first
 abbrev pub has_other_name : List (List ℕ) → Bool
 has_other_name [] = false
 has_other_name (name ∷ names) = list_any (λ other. not (bytes_eq other name)) names
 
--- what is said of an address: the name, as a record may carry it, and whether there are others
+-- what is said of an address: the name, cleaned for records, and whether there are other names
 pub record PublicParts : Type 0 where
   pub address : ℕ
   pub many : Bool
@@ -57,11 +57,11 @@ pub record PublicParts : Type 0 where
 abbrev pub public_named : ℕ → List (List ℕ) → PublicParts
 public_named a names = record { address = a; many = has_other_name names; name = first_name names }
 
--- of an address: the name of its first symbol, marked where another has another name
+-- for an address: the name of its first symbol, marked if another symbol there has another name
 unfoldable pub public_at : List SymbolParts → ℕ → PublicParts
 public_at symbols a = public_named a (names_of (filter (stands_at a) symbols))
 
--- those of the addresses that are not covered
+-- what is said of the addresses that are not covered
 unfoldable pub publics_where : (ℕ → Bool) → List SymbolParts → List PublicParts
 publics_where covered symbols = map (public_at symbols) (filter (λ a. not (covered a)) (addresses symbols))
 
@@ -72,10 +72,10 @@ is_inside a p = nat_le p.start a && nat_lt a p.end
 unfoldable pub is_covered : List Piece → ℕ → Bool
 is_covered pieces a = list_any (is_inside a) pieces
 
--- what is said of the addresses of function symbols that no piece has
+-- what is said of those addresses of function symbols that no piece has
 unfoldable pub publics : List Piece → List SymbolParts → List PublicParts
 publics pieces symbols = publics_where (is_covered pieces) symbols
 
--- a name that stands in the file, as a record may carry it
+-- what is said of an address, with the name in the file cleaned for records
 abbrev pub public_view : PublicAt → PublicParts
 public_view p = record { address = p.address; many = p.many; name = cleaned p.name.now }

@@ -1,4 +1,4 @@
--- What serves the functions and loops of this crate alone: no public clause names it.
+-- What only the functions and loops of the crate need: no public clause cites it.
 pub mod Collecting
 pub mod Classes
 pub mod Growing

@@ -31,7 +31,7 @@ fn shared_starts(alloc: Global, covers: &[Cover]) -> Result<Vec<u64>, AllocError
     Ok(starts)
 }
 
-/// Whether the stretch has one of the addresses, which rise.
+/// Whether the stretch has one of the addresses, which are in ascending order.
 fn reaches_any(addresses: &[u64], stretch: Stretch) -> bool
     requires { RisesFrom 0 addresses.now }
     ensures { result ≡ reaches_any addresses.now stretch }
@@ -40,7 +40,7 @@ fn reaches_any(addresses: &[u64], stretch: Stretch) -> bool
     count > 0 && stretch.first <= addresses[count - 1]
 }
 
-/// The stretches that have one of the addresses, which rise.
+/// The stretches that have one of the addresses, which are in ascending order.
 fn stretches_at(
     alloc: Global,
     addresses: &[u64],
@@ -61,7 +61,7 @@ fn stretches_at(
     Ok(kept)
 }
 
-/// Whether another class is at an address.
+/// Whether a stretch of another class than the first one's is at an address.
 fn is_shared_at(items: &StepMap<Option<FirstItem>>, address: u64) -> bool
     ensures { result ≡ shared_in (value_at None items.now address) }
 {
@@ -71,7 +71,7 @@ fn is_shared_at(items: &StepMap<Option<FirstItem>>, address: u64) -> bool
     }
 }
 
-/// A cover that is shared only where another class is at its first address.
+/// A cover, which stays shared only if another class is at its first address.
 fn marked(items: &StepMap<Option<FirstItem>>, cover: Cover) -> Cover
     ensures { result ≡ marked items.now cover }
 {
@@ -83,7 +83,7 @@ fn marked(items: &StepMap<Option<FirstItem>>, cover: Cover) -> Cover
     }
 }
 
-/// The covers, each shared only where another class is at its first address.
+/// The covers, each of which stays shared only if another class is at its first address.
 fn mark_covers(mut covers: Vec<Cover>, items: &StepMap<Option<FirstItem>>) -> Vec<Cover>
     ensures { result.items ≡ map (marked items.now) covers.items }
 {
@@ -93,8 +93,8 @@ fn mark_covers(mut covers: Vec<Cover>, items: &StepMap<Option<FirstItem>>) -> Ve
     covers
 }
 
-/// The covers of the functions' stretches. First each function has a class of its own. Where the first address of a cover is
-/// that of two functions, all stretches that have it are looked at again, with classes by their functions' names.
+/// The covers of the functions' stretches. First each function has a class of its own. If two functions have the first address of a cover, all
+/// stretches that have this address are swept again, with classes by their functions' names.
 pub fn named_covers(
     alloc: Global,
     units: &Units<'_>,

@@ -1,4 +1,4 @@
-//! The functions with addresses of the units, and the stretches of these.
+//! The functions of the units that have addresses, and the stretches of these addresses.
 ghost use Rattle.std.specs.Prelude.{◌≡◌, ◌≢◌, Some, ℕ, ◌+◌, ◌*◌, ◌<◌, ◌≤◌, ◌^◌, ◌++◌, ◌∷◌, [], true, length, vec_len, List, slice_get, IfOk, OnOk};
 ghost use Rattle.std.specs.List.{All};
 ghost use Rattle.die_walk.specs.EntryTable.{DieFields};
@@ -16,8 +16,8 @@ use std::alloc::Global;
 use step_maps::{Stretch, push_spans};
 use sym_edges::{OutOfMemory, Span};
 
-/// The functions' places, and the stretches of their addresses, each with the number of its function as its index and class; and the
-/// functions of the sets of the unit that is looked at, by the numbers of the sets.
+/// The functions' places, and the stretches of their addresses, each with the number of its function as its index and class; and the functions of the
+/// sets of the current unit, by the numbers of the sets.
 #[derive(Drop)]
 pub struct Collected {
     pub places: Vec<EntryRef>,
@@ -25,8 +25,8 @@ pub struct Collected {
     pub sets: Vec<SetOwners>,
 }
 
-/// Collects the functions of all units. Of those in a unit that have one set, the first is collected, and the first that has another name:
-/// the others own nothing, and tell of no other name where these do not.
+/// Collects the functions of all units. Of those in a unit that have the same set, the first is collected, and the first with another name. The
+/// others own nothing, and show no other name if these two do not.
 pub fn collect_all(alloc: Global, units: &Units<'_>) -> Result<Collected, OutOfMemory>
     ensures all { IfOk result (λ c. (low : ℕ) × IsCollected units.now c.places.items c.stretches.items low []) }
     ensures fit { IfOk result (λ c. AreFit c.stretches.items) }
@@ -67,7 +67,7 @@ fn push_unit(
     Ok(())
 }
 
-/// Adds an entry, where it is a function with addresses.
+/// Adds an entry, if it is a function with addresses.
 fn push_entry(
     alloc: Global,
     units: &Units<'_>,
@@ -84,7 +84,7 @@ fn push_entry(
     ensures fit { OnOk result (AreFit kept.new.stretches.items) }
     ensures count { OnOk result (vec_len kept.new.places ≤ vec_len kept.old.places + 1) }
 {
-    // Most entries have no addresses, which is told without looking at the entry.
+    // Most entries have no addresses, which is known without reading the entry.
     let Some(spans) = part.ranges(place.entry as usize) else {
         return Ok(());
     };
@@ -100,7 +100,7 @@ fn push_entry(
     push_function(alloc, units, kept, place, part, spans)
 }
 
-/// Adds a function with its addresses, unless others stand for it.
+/// Adds a function with its addresses, unless others represent it.
 fn push_function(
     alloc: Global,
     units: &Units<'_>,

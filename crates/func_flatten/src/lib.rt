@@ -1,19 +1,19 @@
 //! The functions of a file by address (DWARF 5, 3.3; Breakpad's symbol_files.md, FUNC, line and PUBLIC records).
 //!
-//! The owner of an address is the first function, in the order of `.debug_info`, whose addresses hold it. [`pieces`] gives for each
-//! maximal run of addresses with one owner a [`Piece`], by address, and marks those whose first address a function of another
-//! name has too. [`lines_of`] gives the lines in a piece, by the line table of its unit: for each maximal run of addresses with one path
-//! and one line a [`LineRun`]. [`publics`] gives one [`PublicAt`] for each address of a function symbol that no piece has. All addresses
-//! are those of the ELF file; the base is taken off where records are made of them.
+//! The owner of an address is the first function, in the order of `.debug_info`, that has the address. [`pieces`] gives a [`Piece`] for each maximal
+//! run of addresses with one owner, by address, and marks those pieces whose first address a function with another name has too. [`lines_of`] gives
+//! the lines in a piece, from the line table of its unit: a [`LineRun`] for each maximal run of addresses with one path and one line. [`publics`]
+//! gives one [`PublicAt`] for each address of a function symbol that no piece has. All addresses are those of the ELF file; the base is subtracted
+//! when records are made from them.
 //!
-//! The definitions stand in `specs/`: `Pieces`, `LineRuns` and `Publics`, each of which asks one address at a time; the owner, its
-//! name and its line are those of `die_names`. The other modules there are for the code alone. The code takes all functions' ranges as
-//! stretches and sweeps them once (`step_maps::covers`). Only those stretches that have the first address of a run which another
-//! function has too are given classes by their functions' names, and swept once more (`step_maps::first_items`). A name that stands
-//! clean in the file is compared where it stands. Lines are walked stop by stop, and sorted symbols are merged with the pieces.
+//! The definitions are in `specs/`: `Pieces`, `LineRuns` and `Publics`, each of which asks one address at a time. The owner and its line are those of
+//! `debug_units`, its name is that of `die_names`. The other modules there are for the code alone. The code takes all functions' ranges as stretches
+//! and sweeps them once (`step_maps::covers`). If two functions have the first address of a run, the stretches that have this address get classes by
+//! their functions' names, and are swept once more (`step_maps::first_items`). A name that is clean in the file is compared without a copy. Lines are
+//! made stop by stop, and sorted symbols are merged with the pieces.
 //!
-//! To read: `piece`, `set_owners`, `functions`; for names `name_blocks`, `scope_keys`, `name_met` and `name_classes`; then `cover_marks` and `owners`; `line_run`
-//! and `lines`; `public` and `uncovered`; last `laws`.
+//! To read: `piece`, `set_owners`, `functions`; for names `name_blocks`, `scope_keys`, `name_met` and `name_classes`; then `cover_marks` and
+//! `owners`; `line_run` and `lines`; `public` and `uncovered`; last `laws`.
 #![tactic(auto)]
 
 mod cover_marks;

@@ -1,7 +1,7 @@
 //! Runs of a line.
 
-/// The addresses from `start` up to, and without, `end`, which come from one line of one file: the path of that number in the line
-/// table of the unit. 24 bytes.
+/// The addresses from `start` up to, and without, `end`, which come from one line of one file: the path with the number `path` in the line table of
+/// the unit. 24 bytes.
 #[derive(Clone, Copy, Debug, PartialEq, Eq)]
 pub struct LineRun {
     pub start: u64,

@@ -12,8 +12,8 @@ use line_program::LineTable;
 use std::alloc::AllocError;
 use sym_edges::OutOfMemory;
 
-/// Puts the lines of a piece in the place of what `runs` held: for each maximal run of its addresses with one path and one line, by
-/// the table of its unit, a line run, by address.
+/// Replaces what `runs` had by the lines of a piece: a line run, by address, for each maximal run of its addresses with one path and one line, from
+/// the line table of its unit.
 pub fn lines_of(
     units: &Units<'_>,
     piece: &Piece,
@@ -34,7 +34,7 @@ pub fn lines_of(
     Ok(())
 }
 
-/// No two numbers have one path.
+/// Different numbers have different paths.
 fn tell_apart(table: &LineTable, runs: &[LineRun])
     requires { AreKnown (length table.now.paths) runs.now }
     ensures { 0 < length runs.now → AreDistinct table.now.paths }
@@ -44,7 +44,7 @@ fn tell_apart(table: &LineTable, runs: &[LineRun])
     }
 }
 
-/// Puts the runs of the line from `start` up to `end` where there are none.
+/// Puts the runs of the line from `start` up to `end` into an empty list.
 fn put_runs(
     table: &LineTable,
     start: u64,
@@ -74,7 +74,7 @@ fn put_runs(
     Ok(())
 }
 
-/// Adds a run, where there is a line.
+/// Adds a run, if there is a line.
 fn push_part(
     runs: &mut Vec<LineRun>,
     now: Option<(u32, u32)>,
@@ -97,7 +97,7 @@ fn push_part(
     Ok(())
 }
 
-/// Adds a run after the last, or makes that one longer where it goes on with the same path and line.
+/// Adds a run after the last one, or makes the last one longer if the run continues it with the same path and line.
 fn push_run(runs: &mut Vec<LineRun>, run: LineRun) -> Result<(), AllocError>
     ensures { OnOk result (runs.new.items ≡ with_run runs.old.items run) }
 {
@@ -108,7 +108,7 @@ fn push_run(runs: &mut Vec<LineRun>, run: LineRun) -> Result<(), AllocError>
     Ok(())
 }
 
-/// Makes the last run longer where another goes on with the same path and line.
+/// Makes the last run longer if another one continues it with the same path and line.
 #[tactic(auto, using(crate::proofs::LineLemmas::with_longer, crate::proofs::LineLemmas::with_more))]
 fn lengthen(runs: &mut Vec<LineRun>, run: LineRun) -> bool
     ensures longer { result ≡ true → runs.new.items ≡ with_run runs.old.items run }
@@ -125,7 +125,7 @@ fn lengthen(runs: &mut Vec<LineRun>, run: LineRun) -> bool
     true
 }
 
-/// Whether a run goes on where the last ended, with the same path and line.
+/// Whether a run begins where the last one ended, with the same path and line.
 fn continues(last: LineRun, run: LineRun) -> bool
     ensures { result ≡ continues last run }
 {

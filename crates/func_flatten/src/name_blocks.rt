@@ -1,7 +1,7 @@
-//! Names that are built piece by piece: each has a short key, and two names are equal exactly where their keys are.
+//! Names that are built part by part. Each has a short key, and two names are equal exactly if their keys are.
 //!
-//! A name is cut into blocks of 64 bytes. A block that follows another one has a number of its own, so the number of the last whole
-//! block stands for all bytes up to there. A key is this number, in four bytes, and the bytes behind that block, fewer than 64.
+//! A name is cut into blocks of 64 bytes. The number of a block depends on its bytes and on the number of the block before it, so the number of the
+//! last whole block represents all bytes up to its end. A key is this number, in four bytes, and the bytes after that block, fewer than 64.
 ghost use Rattle.std.specs.Prelude.{◌≡◌, ℕ, ◌==◌, if◌then◌else◌, List, [], None, Some, map, length, IfOk, OnOk};
 ghost use Rattle.std.specs.Option.{option_map};
 ghost use Rattle.clean_names.specs.Names.{is_space, skip};
@@ -13,17 +13,17 @@ use std::alloc::Global;
 use std::collections::BTreeMap;
 use sym_edges::OutOfMemory;
 
-/// A block with the number in front of it.
+/// The length of a block with the number in front of it.
 const BLOCK: usize = 68;
 
-/// Stands for the text of a name, or of its beginning.
+/// Represents the text of a name, or of its beginning.
 #[derive(Drop)]
 pub(crate) struct NameKey {
     bytes: Vec<u8>,
     length: usize,
 }
 
-/// The blocks of names that were met, each with the number of the block before it in front, and their numbers.
+/// The blocks of names that were met, each after the number of the block before it, and the numbers of the blocks.
 #[derive(Drop)]
 pub(crate) struct NameBlocks {
     alloc: Global,
@@ -32,7 +32,7 @@ pub(crate) struct NameBlocks {
     ghost numbered: { AreNumbered numbers count },
 }
 
-/// Without spaces in front where the text has no bytes yet.
+/// The bytes without leading spaces, if the text has no bytes yet.
 #[tactic(auto, using(crate::proofs::BlockLemmas::begun_first, crate::proofs::BlockLemmas::begun_later))]
 fn begun(so_far: usize, bytes: &[u8]) -> &[u8]
     ensures { result.now ≡ begun so_far bytes.now }
@@ -43,7 +43,7 @@ fn begun(so_far: usize, bytes: &[u8]) -> &[u8]
     bytes
 }
 
-/// Those of the bytes that a text of so many bytes takes.
+/// Those of the bytes that a text of the given length still takes.
 #[tactic(auto, using(crate::proofs::BlockLemmas::part_is))]
 fn kept_part(limit: usize, so_far: usize, bytes: &[u8]) -> &[u8]
     ensures { result.now ≡ kept_part limit so_far bytes.now }
@@ -103,14 +103,14 @@ impl NameKey {
         self.length == 0
     }
 
-    /// The bytes of `bytes`, where they stand.
+    /// The bytes of `bytes`, without a copy.
     pub(crate) fn as_slice(&self) -> &[u8]
         ensures { result.now ≡ self.now.bytes.items }
     {
         self.bytes.as_slice()
     }
 
-    /// Bytes that are equal for two keys exactly where their texts are.
+    /// Bytes that are equal for two keys exactly if their texts are.
     pub(crate) fn bytes(&self, alloc: Global) -> Result<Vec<u8>, OutOfMemory>
         ensures { IfOk result (λ bytes. bytes.items ≡ self.now.bytes.items) }
     {
@@ -119,7 +119,7 @@ impl NameKey {
     }
 }
 
-/// The number of a block, where it has one.
+/// The number of a block, if it has one.
 #[tactic(auto, unfolding(crate::specs::internal::NameBlocks::number_at))]
 pub(crate) fn number_at(numbers: &BTreeMap<Vec<u8>, u32>, block: &[u8]) -> Option<u32>
     ensures { result ≡ number_at numbers.now block.now }
@@ -128,7 +128,7 @@ pub(crate) fn number_at(numbers: &BTreeMap<Vec<u8>, u32>, block: &[u8]) -> Optio
 }
 
 impl NameBlocks {
-    /// Without a block.
+    /// No block yet.
     pub(crate) fn new(alloc: Global) -> NameBlocks {
         NameBlocks {
             alloc,
@@ -137,7 +137,7 @@ impl NameBlocks {
         }
     }
 
-    /// The number of a block, which is the next one where the block has none.
+    /// The number of a block; if the block has none, it gets the next one.
     fn number_of(&mut self, block: &[u8]) -> Result<u32, OutOfMemory>
         ensures grows { OnOk result (Grows self.old.numbers self.new.numbers) }
         ensures number { IfOk result (λ n. number_at self.new.numbers block.now ≡ Some n) }
@@ -182,7 +182,7 @@ impl NameBlocks {
         Ok(())
     }
 
-    /// Lets bytes follow the text of a key, as far as a name has room for them.
+    /// Appends bytes to the text of a key, as far as a name has room for them.
     pub(crate) fn add(&mut self, key: &mut NameKey, bytes: &[u8]) -> Result<(), OutOfMemory>
         ensures grows { OnOk result (Grows self.old.numbers self.new.numbers) }
         ensures key { OnOk result ((text : List ℕ) → IsKey self.old.numbers key.old text → IsKey self.new.numbers key.new (kept_more text bytes.now)) }
@@ -193,7 +193,7 @@ impl NameBlocks {
         Ok(())
     }
 
-    /// Adds a byte to a key, and says whether the block that this makes whole has a number.
+    /// Adds a byte to a key; false if the byte completes a block that has no number.
     #[tactic(auto, using(crate::proofs::BlockLemmas::byte_held, crate::proofs::BlockLemmas::byte_whole))]
     fn find_byte(&self, held: &mut Vec<u8>, b: u8) -> Result<bool, OutOfMemory>
         ensures { IfOk result (λ found. with_byte (number_at self.now.numbers) (Some held.old.items) b ≡ (if found then Some held.new.items else None)) }
@@ -209,7 +209,7 @@ impl NameBlocks {
         Ok(true)
     }
 
-    /// The bytes of the key of what a name keeps of these, where each of its blocks has a number.
+    /// The bytes of the key of what a name keeps of the given bytes, if each of its blocks has a number.
     #[tactic(auto, using(crate::proofs::BlockLemmas::look_next, crate::proofs::BlockLemmas::look_none, crate::proofs::BlockLemmas::look_end, crate::proofs::BlockLemmas::key_whole))]
     pub(crate) fn find(&self, alloc: Global, bytes: &[u8]) -> Result<Option<Vec<u8>>, OutOfMemory>
         ensures { IfOk result (λ found. option_map (λ held. held.items) found ≡ text_key self.now.numbers (kept bytes.now)) }

@@ -1,4 +1,4 @@
-//! Classes of functions: two have one class exactly where their names are equal.
+//! Classes of functions: two functions have the same class exactly if their names are equal.
 ghost use Rattle.std.specs.Prelude.{◌≡◌, List, ℕ, Option, Some, map, length, IfOk, IfSome, OnOk};
 ghost use Rattle.clean_names.specs.Cleaning.{cleaned};
 ghost use Rattle.func_flatten.specs.declared.name_met.NameMet.TheVariants.{Made};
@@ -16,8 +16,8 @@ use std::collections::BTreeMap;
 use step_maps::Stretch;
 use sym_edges::OutOfMemory;
 
-/// The names that were met, and beside each the number of a function that has it: those that stand in the file as records may carry them,
-/// and those that were made, by the bytes of their keys.
+/// The names that were met, each with the number of a function that has it: names that are in the file as records may carry them, and names that were
+/// made, by the bytes of their keys.
 #[derive(Drop)]
 struct Names<'a> {
     whole: BTreeMap<&'a [u8], u32>,
@@ -34,7 +34,7 @@ fn place_at(places: &[EntryRef], number: u32) -> EntryRef
     }
 }
 
-/// The name of the last of some stretches, where it is one of this function.
+/// The name of the last of some stretches, if that is a stretch of this function.
 fn met_last<'a>(
     alloc: Global,
     stretches: &[Stretch],
@@ -55,7 +55,7 @@ fn met_last<'a>(
     Ok(Some(met.again(alloc)?))
 }
 
-/// The names of the functions of stretches. Each is made once for the stretches of one function that stand together.
+/// The names of the functions of stretches. Each is made once for neighbouring stretches of one function.
 fn met_names<'a>(
     alloc: Global,
     keys: &mut ScopeKeys,
@@ -82,7 +82,7 @@ fn met_names<'a>(
     Ok(names)
 }
 
-/// Notes the number of a function with a name that was made, unless one is beside it.
+/// Notes the number of a function with a name that was made, unless the name has a number.
 fn note_made(
     alloc: Global,
     blocks: &NameBlocks,
@@ -124,7 +124,7 @@ fn note_all(
     Ok(())
 }
 
-/// The number beside a name that stands in the file, where it was made too.
+/// The number of a name that is in the file, if the name was made too.
 fn number_made(
     alloc: Global,
     blocks: &NameBlocks,
@@ -143,7 +143,7 @@ fn number_made(
     }
 }
 
-/// The number beside a name that stands in the file; this one's where there is none.
+/// The number of a name that is in the file; if the name has none, that of this function.
 fn meet_whole<'a>(
     alloc: Global,
     blocks: &NameBlocks,
@@ -168,7 +168,7 @@ fn meet_whole<'a>(
     Ok(number)
 }
 
-/// The number beside a name that was made.
+/// The number of a name that was made.
 fn meet_made(names: &Names<'_>, key: &NameKey) -> u32
     requires { HasNumber names.now.made (Made key.now) }
     ensures { (numbers : BlockNumbers) (text : List ℕ) → IsKey numbers key.now text → StandApart (whole_number names.now) (key_number numbers names.now) → name_number numbers names.now text ≡ Some result }
@@ -179,7 +179,7 @@ fn meet_made(names: &Names<'_>, key: &NameKey) -> u32
     }
 }
 
-/// The number beside a name.
+/// The number of a name.
 fn meet<'a>(
     alloc: Global,
     blocks: &NameBlocks,
@@ -205,7 +205,7 @@ fn meet<'a>(
     }
 }
 
-/// The class of the last stretch, where it is of this function.
+/// The class of the last stretch, if that is a stretch of this function.
 fn last_class(named: &[Stretch], number: u32) -> Option<u32>
     ensures { result ≡ last_class named.now number }
 {
@@ -227,7 +227,7 @@ fn classed(stretch: Stretch, class: u32) -> Stretch
     }
 }
 
-/// The stretches, each with the number beside the name of its function as its class.
+/// The stretches, each with the number of its function's name as its class.
 fn class_all<'a>(
     alloc: Global,
     blocks: &NameBlocks,
@@ -255,7 +255,7 @@ fn class_all<'a>(
 }
 
 /// The stretches, each with a class by the name of its function. A name that is joined with those of its scopes is built from the key of the
-/// innermost one, which is made once.
+/// innermost scope, which is made once.
 pub fn with_classes(
     alloc: Global,
     units: &Units<'_>,

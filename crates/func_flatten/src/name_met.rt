@@ -15,7 +15,7 @@ use die_names::{NameRef, clean_slice, name_of, name_parts};
 use std::alloc::Global;
 use sym_edges::OutOfMemory;
 
-/// A name as it is compared: where it stands in the file as a record may carry it, by its bytes, and else by its key.
+/// A name as it is compared: by its bytes, if they are in the file as a record may carry them, and otherwise by its key.
 #[derive(Drop)]
 pub(crate) enum NameMet<'a> {
     Whole(&'a [u8]),
@@ -34,7 +34,7 @@ impl<'a> NameMet<'a> {
     }
 }
 
-/// The key of what the scopes around the entry of a name put in front of it, where it is joined with them.
+/// The key of the prefix that the scopes around the entry of a name give, if the name is joined with it.
 fn front_key(
     alloc: Global,
     keys: &mut ScopeKeys,

@@ -11,12 +11,12 @@ use std::alloc::{AllocError, Global};
 use step_maps::Cover;
 use sym_edges::{ListOf, OutOfMemory};
 
-/// Who owns which addresses: for each maximal run of addresses with one owner a piece, by address. The owner of an address is
-/// the first function, in the order of `.debug_info`, whose addresses hold it (DWARF 5, 3.3). A piece's `many` says of its first
-/// address whether another function with another name, cleaned as a record carries it, has it too.
+/// Who owns which addresses: a piece for each maximal run of addresses with one owner, by address. The owner of an address is the first function, in
+/// the order of `.debug_info`, that has the address (DWARF 5, 3.3). A piece's `many` says of its first address whether another function with another
+/// name, cleaned as a record carries it, has it too.
 ///
-/// For n ranges of functions it takes n log n turns however they overlap, and n where they ascend; only functions that have the
-/// first address of a piece which another function has too are asked for their names.
+/// For n ranges of functions it takes n log n steps however they overlap, and n steps if they ascend. Names are looked up only for functions that
+/// share the first address of a piece with another function, or their whole set of addresses with another function of the unit.
 pub fn pieces(alloc: Global, units: &Units<'_>) -> Result<PieceList, OutOfMemory>
     ensures { IfOk result (λ pieces. ArePieces units.now pieces) }
 {

@@ -1,8 +1,8 @@
 //! The types of pieces.
 use sym_edges::ListOf;
 
-/// The addresses from `start` up to, and without, `end`, which one function owns: the entry of that number in the unit of that
-/// number. `many` is said of `start` alone: a function of another name has that address too. 32 bytes.
+/// The addresses from `start` up to, and without, `end`, which one function owns: the entry `entry` of the unit `unit`. `many` is about `start`
+/// alone: a function with another name has that address too. 32 bytes.
 #[derive(Clone, Copy, Debug, PartialEq, Eq)]
 pub struct Piece {
     pub unit: u32,

@@ -1,4 +1,4 @@
-//! The keys of what scopes put in front of names, each entry walked once for all names.
+//! The keys of the prefixes that scopes give to names. Each entry is walked once for all names.
 ghost use Rattle.std.specs.Prelude.{◌≡◌, ℕ, ◌++◌, List, IfOk, IfSome, OnOk, ◌<◌};
 ghost use Rattle.std.specs.List.{slice_get};
 ghost use Rattle.debug_units.specs.declared.unit_read.UnitRead.{UnitRead};
@@ -14,14 +14,14 @@ use std::alloc::Global;
 use std::collections::BTreeMap;
 use sym_edges::OutOfMemory;
 
-/// The blocks of names, and the keys of what entries that were walked, with the scopes around them, put in front of what stands in them.
+/// The blocks of names, and the keys of the prefixes that walked entries, with the scopes around them, give to the names in them.
 #[derive(Drop)]
 pub(crate) struct ScopeKeys {
     pub(crate) blocks: NameBlocks,
     known: BTreeMap<u64, NameKey>,
 }
 
-/// Of the entries around one the inner ones, the innermost first, and the key of what the others put in front.
+/// Of the entries around an entry, the inner ones, the innermost first, and the key of the prefix that the others give.
 #[derive(Drop)]
 struct Halfway {
     numbers: Vec<u32>,
@@ -36,7 +36,7 @@ fn entry_at<'u, 'a>(units: &'u Units<'a>, unit: u32, entry: u32) -> Option<Die<'
     units.entry(EntryRef { unit, entry })
 }
 
-/// The number of the entry that an entry stands in.
+/// The number of the entry that an entry is in.
 #[tactic(auto, using(crate::proofs::FrontLemmas::outer_nowhere, crate::proofs::FrontLemmas::outer_top, crate::proofs::FrontLemmas::outer_past, crate::proofs::FrontLemmas::outer_lost, crate::proofs::FrontLemmas::outer_step))]
 fn outer_of(units: &Units<'_>, unit: u32, entry: u32) -> Option<u32>
     ensures around { outer (unit_dies units.now unit) entry ≡ outer_from (unit_dies units.now unit) result }
@@ -64,7 +64,7 @@ fn place_of(unit: u32, entry: u32) -> u64
     u64::from(unit) * 0x1_0000_0000 + u64::from(entry)
 }
 
-/// Adds to the text of a key what an entry puts in front of the names inside it.
+/// Adds to the text of a key the prefix that an entry gives to the names in it.
 fn add_front(
     blocks: &mut NameBlocks,
     key: &mut NameKey,
@@ -81,7 +81,7 @@ fn add_front(
     Ok(())
 }
 
-/// Lets what the entry of a number puts in front follow the text of a key.
+/// Appends to the text of a key the prefix that the entry of a number gives.
 #[tactic(auto, using(crate::proofs::FrontLemmas::key_none, crate::proofs::FrontLemmas::front_some))]
 fn add_front_at(
     blocks: &mut NameBlocks,
@@ -100,7 +100,7 @@ fn add_front_at(
 }
 
 impl ScopeKeys {
-    /// Without a block and without a key.
+    /// No blocks and no keys.
     pub(crate) fn new(alloc: Global) -> ScopeKeys
         ensures { (units : List UnitRead) → AreFronts units result.blocks.numbers result.known }
     {
@@ -110,7 +110,7 @@ impl ScopeKeys {
         }
     }
 
-    /// The key of what an entry and the scopes around it put in front of what stands in it, where it is known.
+    /// The key of the prefix that an entry and the scopes around it give to the names in it, if the key is known.
     fn known(
         &self,
         alloc: Global,
@@ -153,7 +153,7 @@ impl ScopeKeys {
         }
     }
 
-    /// Keeps the key of what an entry and the scopes around it put in front.
+    /// Keeps the key of the prefix that an entry and the scopes around it give.
     fn note(
         &mut self,
         alloc: Global,
@@ -169,7 +169,7 @@ impl ScopeKeys {
         Ok(())
     }
 
-    /// Lets what an entry puts in front follow the key of what the scopes around it do, and keeps the key.
+    /// Appends the prefix that an entry gives to the key for the scopes around it, and keeps the key.
     fn enter(
         &mut self,
         alloc: Global,
@@ -189,7 +189,7 @@ impl ScopeKeys {
         Ok(())
     }
 
-    /// Comes down to an entry, and keeps the keys of those around it.
+    /// Goes down to an entry, and keeps the keys of the entries around it.
     fn descend(
         &mut self,
         alloc: Global,
@@ -212,7 +212,7 @@ impl ScopeKeys {
         Ok(key)
     }
 
-    /// The key of what stands in front of the name of an entry.
+    /// The key of the prefix of an entry's name.
     pub(crate) fn front(
         &mut self,
         alloc: Global,

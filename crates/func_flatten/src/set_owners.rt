@@ -19,8 +19,8 @@ pub struct SetOwners {
     pub second: Option<u32>,
 }
 
-/// How a function meets those that were collected: its set is new; it is the first of another name than the function of this number,
-/// which has its set; or no address is owned otherwise for it, since the function of this number has its set.
+/// How a function compares with those that were collected: its set is new; or the function with this number has its set, and it is the first function
+/// with another name; or the function with this number has its set, and it makes no difference.
 #[derive(Clone, Copy, Debug)]
 pub enum Meeting {
     New,
@@ -28,7 +28,7 @@ pub enum Meeting {
     Known(u32),
 }
 
-/// Whether two functions have one name.
+/// Whether two functions have the same name.
 fn have_one_name(
     alloc: Global,
     units: &Units<'_>,
@@ -47,7 +47,7 @@ fn have_one_name(
     Ok(first.as_slice() == second.as_slice())
 }
 
-/// Whether the function of a number is of the unit, and has the set of an entry.
+/// Whether the function with a number is in the unit, and has the set of an entry.
 fn has_set(part: &UnitRead<'_>, places: &[EntryRef], number: u32, entry: EntryRef) -> bool
     ensures { result ≡ true → HasSet part.now.spans places.now entry.unit entry.entry number }
 {
@@ -60,7 +60,7 @@ fn has_set(part: &UnitRead<'_>, places: &[EntryRef], number: u32, entry: EntryRe
             .are_same(place.entry as usize, entry.entry as usize)
 }
 
-/// How a function meets those that were collected, where these functions may have its set.
+/// How a function compares with those that were collected, of which those in `known` may have its set.
 pub fn meet(
     alloc: Global,
     units: &Units<'_>,
@@ -90,7 +90,7 @@ pub fn meet(
     Ok(Meeting::Second(owners.first))
 }
 
-/// The functions of the set of a number, where some are noted.
+/// The functions of the set with a number, if some are noted.
 pub fn owners_of(sets: &[SetOwners], number: usize) -> Option<SetOwners>
     ensures { (units : List UnitRead) (places : List EntryRef) → All (AreApart units places) sets.now → IfSome result (AreApart units places) }
 {
@@ -100,7 +100,7 @@ pub fn owners_of(sets: &[SetOwners], number: usize) -> Option<SetOwners>
     }
 }
 
-/// Notes the functions of the set of a number.
+/// Notes the functions of the set with a number.
 pub fn note_owners(
     sets: &mut Vec<SetOwners>,
     number: usize,

@@ -17,7 +17,7 @@ use range_set::of_ranges;
 use std::alloc::{AllocError, Global};
 use sym_edges::{ListOf, OutOfMemory, Span};
 
-/// The symbols by address; those of one address in the order in which they came.
+/// The symbols sorted by address; those with the same address keep their order.
 pub(crate) fn sorted_symbols<'a>(
     alloc: Global,
     symbols: &[Symbol<'a>],
@@ -30,7 +30,7 @@ pub(crate) fn sorted_symbols<'a>(
     Ok(sorted)
 }
 
-/// How many symbols in front have the address.
+/// How many symbols at the start of the list have the address.
 fn group_len(symbols: &[Symbol<'_>], address: u64) -> usize
     ensures inside { result ≤ length symbols.now }
     ensures group { list_all (stands_at address) (map symbol_view (take result symbols.now)) ≡ true }
@@ -84,7 +84,7 @@ fn public_of<'a>(
     })
 }
 
-/// Adds what is said of a group of symbols of one address, unless that is covered.
+/// Adds what is said of a group of symbols with one address, unless the address is covered.
 fn add_group<'a>(
     alloc: Global,
     publics: &mut Vec<PublicAt<'a>>,
@@ -121,7 +121,7 @@ fn pass_to(spans: &[Span], address: u64) -> (&[Span], bool)
     (rest, false)
 }
 
-/// What is said of symbols that stand by address, but for those that the spans cover.
+/// What is said of symbols that are sorted by address, except those that the spans cover.
 pub(crate) fn publics_beside<'a>(
     alloc: Global,
     sorted: &[Symbol<'a>],
@@ -169,8 +169,8 @@ pub(crate) fn spans_of(alloc: Global, pieces: &[Piece]) -> Result<Vec<Span>, All
     Ok(spans)
 }
 
-/// The function symbols that no piece covers: one for each of their addresses, by address, with the name of the first symbol there,
-/// marked where another has another cleaned name.
+/// The function symbols that no piece covers: one for each of their addresses, by address, with the name of the first symbol there, marked if another
+/// symbol there has another cleaned name.
 pub fn publics<'a>(
     alloc: Global,
     image: &Image<'a>,

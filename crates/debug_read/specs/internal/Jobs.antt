@@ -13,8 +13,8 @@ use Rattle.debug_read.specs.internal.Sharing.{SharedParts, IsRead}
 use Rattle.debug_read.specs.UnitSays.{unit_says}
 use Rattle.debug_read.specs.UnitsRead.{IsUnitRead}
 
--- the units that are to be read, of these sections, where ranges of these spans are code, with the abbreviations that several of them
--- name
+-- the input for the units that are read by their numbers: the sections, the units, the spans whose ranges are code, and the abbreviations that
+-- several of the units name
 pub record ReaderParts : Type 0 where
   pub sections : DebugSections
   pub units : List Unit
@@ -26,7 +26,7 @@ pub record IsReader (reader : ReaderParts) : Type 0 where
   pub small : length reader.sections.info ≤ 2 ^ 29
   pub shared : Match (IsRead reader.sections) reader.shared.firsts reader.shared.tables
 
--- line tables that are read by their numbers, of these sections, where ranges of these spans are code
+-- the input for the line tables that are read by their numbers: the sections, and the spans whose ranges are code
 pub record NameParts : Type 0 where
   pub sections : DebugSections
   pub code : List Range

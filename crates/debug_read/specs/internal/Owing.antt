@@ -1,4 +1,4 @@
--- The line tables of all units, once their entries were read: each is read once, and its faults are the same whichever unit names it.
+-- The line tables of all units, after the entries of the units were read. Each table is read once, and has the same faults whichever unit names it.
 use Rattle.std.specs.Prelude.{◌≡◌, ℕ, Bool, true, List, Option, None, Some, Result, Ok, Err}
 use Rattle.std.specs.List.{All}
 use Rattle.sym_edges.specs.Addresses.{Range}
@@ -32,11 +32,11 @@ IsOk (Err fault) = ⊥
 abbrev pub IsSound : DebugSections → ℕ → Type 0
 IsSound sections offset = (at : ℕ) (comp_dir : List ℕ) → IsOk (unit_lines sections offset at comp_dir)
 
--- it has this fault, whichever unit names it
+-- the line table at an offset has this fault, whichever unit names it
 abbrev pub IsRefused : DebugSections → ℕ → Located DwarfKind → Type 0
 IsRefused sections offset fault = (at : ℕ) (comp_dir : List ℕ) → unit_lines sections offset at comp_dir ≡ Err fault
 
--- the table says what is read at an offset, whichever unit with that compilation directory names it, where the same ranges are code
+-- the table says what is read at an offset, whichever unit with that compilation directory names it, for any spans by which the same ranges are code
 abbrev pub WholeBy : List Range → DebugSections → ℕ → List ℕ → LineMap → Type 0
 WholeBy code sections offset comp_dir table = (spans : List Range) (at : ℕ) → EncloseAlike code spans → SaysTable (encloses spans) (unit_lines sections offset at comp_dir) table
 
@@ -50,7 +50,7 @@ TableBy code sections offset comp_dir (Refused fault) = IsRefused sections offse
 abbrev pub IsTable : List Range → DebugSections → NamedTable → Type 0
 IsTable code sections one = TableBy code sections one.name.offset one.name.comp_dir.now one.read
 
--- what is read for a name tells what is asked for another
+-- what is read for one name also answers for the name that is sought
 abbrev pub IsFor : TableName → TableName → Type 0
 IsFor name sought = (name.offset ≡ sought.offset) × (sought.kept ≡ true → name.comp_dir.now ≡ sought.comp_dir.now)
 
@@ -64,7 +64,7 @@ abbrev pub LinesAre : List Range → DebugSections → RootFields → Bool → R
 LinesAre spans sections root asked (Ok lines) = Says (KeepsLines spans asked) (root_lines sections root) lines
 LinesAre spans sections root asked (Err fault) = root_lines sections root ≡ Err fault
 
--- what was found of a unit is what is kept of it, whatever lines are kept, and a fault of its table is its own
+-- what was found of a unit is kept of it, whatever lines are kept, and a fault of its line table is a fault of the unit
 pub record HoldsUnit (spans : List Range) (sections : DebugSections) (unit : Unit) (found : UnitFound) : Type 0 where
   pub kept : (lines : LineMap) → Says (KeepsLines spans found.function) (root_lines sections found.die.root) lines → Says (IsUnitRead spans) (unit_says sections unit) (record { die = found.die; spans = found.spans; lines = lines })
   pub fault : (fault : Located DwarfKind) → root_lines sections found.die.root ≡ Err fault → unit_says sections unit ≡ Err fault
@@ -78,7 +78,7 @@ IsOwing spans sections unit (Err fault) = unit_says sections unit ≡ Err fault
 abbrev pub Settles : List Range → DebugSections → Result UnitFound (Located DwarfKind) → Result UnitRead (Located DwarfKind) → Type 0
 Settles spans sections one out = (unit : Unit) → IsOwing spans sections unit one → IsFound spans sections unit out
 
--- the result that stands for a unit; there is none after the last
+-- the result for a unit; there is none after the last unit
 abbrev pub ReaderGives : ReaderParts → Option Unit → Result UnitFound (Located DwarfKind) → Type 0
 ReaderGives reader None found = ⊥
 ReaderGives reader (Some unit) found = (spans : List Range) → EncloseAlike reader.code spans → IsOwing spans reader.sections unit found

@@ -16,7 +16,7 @@ pub record SharedParts : Type 0 where
 abbrev pub IsRead : DebugSections → Unit → Result (List Abbrev) (Located DwarfKind) → Type 0
 IsRead sections unit read = abbrevs_of sections unit ≡ read
 
--- units whose abbreviations are read by their numbers
+-- the input for abbreviations that are read by the numbers of units
 pub record AbbrevParts : Type 0 where
   pub sections : DebugSections
   pub firsts : List Unit

@@ -1,4 +1,4 @@
--- Sets by their numbers: entries whose sets are one have one number.
+-- Address sets by number: entries that share a set have the same number.
 use Rattle.std.specs.Prelude.{◌≡◌, ◌<◌, ℕ, List, [], ◌∷◌, length, get_or}
 use Rattle.std.specs.List.{All}
 use Rattle.sym_edges.specs.Addresses.{Range}
@@ -8,12 +8,12 @@ use Rattle.range_set.specs.Canonical.{IsCanonical}
 abbrev pub set_of : List (List Range) → ℕ → List Range
 set_of sets number = get_or sets number []
 
--- the sets of these numbers, one for each
+-- the sets of the numbers, one for each number
 abbrev pub sets_of : List (List Range) → List ℕ → List (List Range)
 sets_of sets [] = []
 sets_of sets (number ∷ numbers) = set_of sets number ∷ sets_of sets numbers
 
--- each number is that of a set, each set is listed in the one way, and set 0 is empty
+-- each number is that of a set, each set is canonical, and set 0 is empty
 pub record AreNumbered (sets : List (List Range)) (numbers : List ℕ) : Type 0 where
   pub there : All (λ number. number < length sets) numbers
   pub canonical : All IsCanonical sets

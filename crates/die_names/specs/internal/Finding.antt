@@ -16,22 +16,22 @@ abbrev pub found_in : ℕ → List DieFields → Option ℕ → Option Placed
 found_in unit dies None = None
 found_in unit dies (Some entry) = option_map (λ die. record { unit = unit; entry = entry; die = die }) (slice_get dies entry)
 
--- the entry of these numbers in units that are numbered from `first`
+-- the entry at a `Standing` in a list of units that are numbered from `first`
 abbrev pub found_from : ℕ → List UnitRead → Option Standing → Option Placed
 found_from first units None = None
 found_from first units (Some s) = entry_in (first + s.unit) s.entry (slice_get units s.unit)
 
--- the same where an entry is told by its numbers alone
+-- the entry that an `EntryRef` names
 abbrev pub found : List UnitRead → Option EntryRef → Option Placed
 found units None = None
 found units (Some s) = entry_of units s.unit s.entry
 
--- the same after so many units
+-- the same entry in a list with `count` more units in front
 abbrev pub moved : ℕ → Option Standing → Option Standing
 moved count None = None
 moved count (Some s) = Some (record { unit = count + s.unit; entry = s.entry })
 
--- there is an entry of these numbers
+-- how many entries a unit has; `IsInside`: there is an entry with these numbers
 abbrev pub die_count : Option UnitRead → ℕ
 die_count None = 0
 die_count (Some part) = length part.die.dies

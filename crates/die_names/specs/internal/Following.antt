@@ -1,4 +1,4 @@
--- The way of an entry, entry by entry.
+-- The way of an entry, followed entry by entry.
 use Rattle.std.specs.Prelude.{Bool, true, false, ◌&&◌, if◌then◌else◌, List, [], ◌∷◌}
 use Rattle.die_names.specs.declared.name_source.How.{How}
 use Rattle.die_names.specs.declared.name_source.How.TheVariants.{Linkage, Joined, Omitted}
@@ -13,7 +13,7 @@ is_omitted Omitted = true
 is_omitted Linkage = false
 is_omitted Joined = false
 
--- what is the name if no linkage name comes
+-- what the name is after the entry `p`, if no linkage name follows
 abbrev pub noted : NameRef → Placed → NameRef
 noted best p = if is_omitted best.how && has_name p then name_at p Joined else best
 

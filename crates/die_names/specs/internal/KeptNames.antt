@@ -1,4 +1,4 @@
--- Where the bytes of a name are.
+-- The bytes of a kept name.
 use Rattle.std.specs.Prelude.{ℕ, List}
 use Rattle.die_names.specs.declared.kept.KeptName.{KeptName}
 use Rattle.die_names.specs.declared.kept.KeptName.TheVariants.{Whole, Made}

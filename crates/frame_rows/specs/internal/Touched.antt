@@ -3,7 +3,7 @@ use Rattle.std.specs.Prelude.{ℕ, ◌+◌, nat_lt, if◌then◌else◌}
 use Rattle.frame_rows.specs.declared.columns.Columns.{Columns}
 use Rattle.frame_rows.specs.Steps.{Effect, PutsRule, TakesBack}
 
--- no column, all of them, and one, where there is such a column
+-- no column, all columns, and one column, if it is a column of a row
 abbrev pub no_columns : Columns
 no_columns = record { first = 17; end = 0 }
 

@@ -11,11 +11,11 @@ use Rattle.frame_rows.specs.Rows.{item_stepped}
 abbrev pub row_here : Machine → RowAt
 row_here m = record { address = m.address; row = m.row }
 
--- the row that ends where the location moves on, where it begins below the end
+-- the row that ends because the location moves to `next`, if the row begins below the end
 abbrev pub ended_row : ℕ → Machine → ℕ → List RowAt
 ended_row end m next = if nat_lt m.address next && nat_lt m.address end then row_here m ∷ [] else []
 
--- the row at the location, where it is below the end
+-- the row at the location, if the location is below the end
 abbrev pub last_row : ℕ → Machine → List RowAt
 last_row end m = if nat_lt m.address end then row_here m ∷ [] else []
 
@@ -28,6 +28,6 @@ rows_from end s (i ∷ items) m = ended_row end m (item_stepped s i m).address +
 abbrev pub row_with : ℕ → Row → RowAt
 row_with address row = record { address = address; row = row }
 
--- the rows from a state on, where it lies above an address
+-- the rows from a state on, if its location is above the address `at`
 unfoldable pub rows_past : ℕ → Context → List Item → Machine → ℕ → List RowAt
 rows_past end s items m at = if nat_lt at m.address then rows_from end s items m else []

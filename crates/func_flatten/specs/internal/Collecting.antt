@@ -28,11 +28,11 @@ abbrev pub functions_in : List Covering → List Covering
 functions_in [] = []
 functions_in (c ∷ entries) = if has_code c then c ∷ functions_in entries else functions_in entries
 
--- those of all units, in the order of the section
+-- the functions with addresses of all units, in the order of the section
 abbrev pub all_functions : List UnitRead → List Covering
 all_functions units = functions_in (covering_from 0 units)
 
--- an entry with its addresses, where it has a set of them
+-- an entry with its addresses, if it has a set of them
 abbrev pub entry_covering : EntryRef → DieFields → List (List Range) → List Covering
 entry_covering place die sets = option_map_or (λ set. record { unit = place.unit; entry = place.entry; die = die; spans = set } ∷ []) (slice_get sets place.entry) []
 
@@ -72,7 +72,7 @@ piece_of places c = record {
   many = c.shared;
 }
 
--- each cover has a place and an end
+-- the index of each cover is below the count, and the end of each cover is below 2^64
 abbrev pub AreCut : ℕ → List Cover → Type 0
 AreCut count [] = Unit {0}
 AreCut count (c ∷ covers) = (c.index < count) × (c.last + 1 < 2 ^ 64) × AreCut count covers

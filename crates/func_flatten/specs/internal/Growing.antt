@@ -6,11 +6,11 @@ use Rattle.line_program.specs.LineMaps.{NoStopBetween}
 use Rattle.func_flatten.specs.declared.line_run.LineRun.{LineRun}
 use Rattle.func_flatten.specs.LineRuns.{number_run}
 
--- whether a run goes on with another, of equal value
+-- whether the run `r` begins where `x` ends, and has the same value
 abbrev pub goes_on : {V : Type 0} → (V → V → Bool) → Run V → Run V → Bool
 goes_on same x r = (x.end == r.start) && same x.value r.value
 
--- a run added after the last, which it makes longer where that goes on with it
+-- a run added after the last one, or the last one made longer if the run continues it
 abbrev pub added_after : {V : Type 0} → (V → V → Bool) → Run V → List (Run V) → Run V → List (Run V)
 added_after same x [] r = if goes_on same x r then record { start = x.start; end = r.end; value = x.value } ∷ [] else x ∷ r ∷ []
 added_after same x (y ∷ ys) r = x ∷ added_after same y ys r
@@ -23,7 +23,7 @@ abbrev pub EndBy : {V : Type 0} → ℕ → List (Run V) → Type 0
 EndBy a [] = Unit {0}
 EndBy a (r ∷ runs) = (r.end ≤ a) × EndBy a runs
 
--- the runs of a function from an address up to another
+-- the runs of a function from the address `low` up to `high`
 pub record Grown {V : Type 0} (low high : ℕ) (f : ℕ → Option V) (made : List (Run V)) : Type 0 where
   pub runs : IsRuns (between low high f) made
   pub by : EndBy high made
@@ -38,7 +38,7 @@ abbrev pub with_run_after : LineRun → List LineRun → LineRun → List LineRu
 with_run_after x [] r = if continues x r then record { start = x.start; end = r.end; path = x.path; line = x.line } ∷ [] else x ∷ r ∷ []
 with_run_after x (y ∷ ys) r = x ∷ with_run_after y ys r
 
--- a run added after the last, which it makes longer where that goes on with it
+-- a run added after the last one, or the last one made longer if the run continues it
 abbrev pub with_run : List LineRun → LineRun → List LineRun
 with_run [] r = r ∷ []
 with_run (x ∷ xs) r = with_run_after x xs r
@@ -47,7 +47,7 @@ abbrev pub with_part : Option (ℕ × ℕ) → ℕ → ℕ → List LineRun → 
 with_part None start end runs = runs
 with_part (Some m) start end runs = with_run runs (record { start = start; end = end; path = m.0; line = m.1 })
 
--- each run's path has a number below a count
+-- the number of each run's path is below `count`
 abbrev pub AreKnown : ℕ → List LineRun → Type 0
 AreKnown count [] = Unit {0}
 AreKnown count (r ∷ runs) = (r.path < count) × AreKnown count runs
@@ -56,7 +56,7 @@ abbrev pub IsKnown : ℕ → Option (ℕ × ℕ) → Type 0
 IsKnown count None = Unit {0}
 IsKnown count (Some m) = m.0 < count
 
--- the runs up to an address, and the stops above it
+-- the runs up to the address `at`, and the stops above it
 pub record Walks (f : ℕ → Option (ℕ × ℕ)) (count start end at : ℕ) (now : Option (ℕ × ℕ)) (rest : List ℕ) (runs : List LineRun) : Type 0 where
   pub grown : Grown start at f (map number_run runs)
   pub is_now : now ≡ f at

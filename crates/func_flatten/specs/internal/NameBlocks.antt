@@ -1,4 +1,4 @@
--- Names that are built piece by piece, and their short keys.
+-- Names that are built part by part, and their short keys.
 use Rattle.std.specs.Prelude.{◌≡◌, ℕ, zero, suc, ◌^◌, ◌-◌, ◌<◌, ◌≤◌, ◌==◌, if◌then◌else◌, List, [], ◌∷◌, ◌++◌, Option, None, Some, map, take, length}
 use Rattle.std.specs.BTreeMap as tree
 use Rattle.std.specs.BTreeMap.{BTreeMap}
@@ -11,14 +11,14 @@ use Rattle.clean_names.specs.Names.{is_space, skip}
 use Rattle.clean_names.specs.Cleaning.{shown_byte}
 use Rattle.func_flatten.specs.declared.name_blocks.NameKey.{NameKey}
 
--- what cleaning keeps of the bytes, before it asks whether anything is left
+-- what cleaning keeps of the bytes, before it checks whether anything is left
 unfoldable pub kept_upto : ℕ → List ℕ → List ℕ
 kept_upto limit bytes = take limit (skip is_space (map shown_byte bytes))
 
 unfoldable pub kept : List ℕ → List ℕ
 kept bytes = kept_upto 65536 bytes
 
--- what is kept where more bytes follow those of which a text was kept
+-- what is kept in all if more bytes follow those of which `text` was kept
 abbrev pub kept_more_upto : ℕ → List ℕ → List ℕ → List ℕ
 kept_more_upto limit [] bytes = kept_upto limit bytes
 kept_more_upto limit (b ∷ text) bytes = take limit ((b ∷ text) ++ map shown_byte bytes)
@@ -26,16 +26,16 @@ kept_more_upto limit (b ∷ text) bytes = take limit ((b ∷ text) ++ map shown_
 unfoldable pub kept_more : List ℕ → List ℕ → List ℕ
 kept_more text bytes = kept_more_upto 65536 text bytes
 
--- spaces go only in front of the first byte
+-- the bytes without leading spaces, if nothing was kept before
 abbrev pub begun : ℕ → List ℕ → List ℕ
 begun zero bytes = skip is_space bytes
 begun (suc n) bytes = bytes
 
--- those of the bytes that are kept after so many
+-- which of the bytes are kept if `so_far` bytes were kept before
 unfoldable pub kept_part : ℕ → ℕ → List ℕ → List ℕ
 kept_part limit so_far bytes = take (limit - so_far) (begun so_far bytes)
 
--- a number as the four bytes in front of a key
+-- a number as the first four bytes of a key
 abbrev pub number_bytes : ℕ → List ℕ
 number_bytes n = to_be_bytes w32 n
 
@@ -43,35 +43,35 @@ number_bytes n = to_be_bytes w32 n
 abbrev pub BlockNumbers : Type 0
 BlockNumbers = BTreeMap (Vec ℕ) ℕ
 
--- the number of a block: of 64 bytes of a text, with the number of the block before them in front
+-- the number of a block; a block is 64 bytes of a text, after the number of the block before them
 unfoldable pub number_at : BlockNumbers → List ℕ → Option ℕ
 number_at numbers block = tree.get_by (λ k. slice_cmp nat_cmp block k.items) numbers
 
--- a key after one more byte: a whole block is its number
+-- a key with one more byte: a block that is whole is replaced by its number
 abbrev pub with_byte : (List ℕ → Option ℕ) → Option (List ℕ) → ℕ → Option (List ℕ)
 with_byte number None b = None
 with_byte number (Some held) b = if length held == 67 then option_map number_bytes (number (held ++ b ∷ [])) else Some (held ++ b ∷ [])
 
--- a key after more bytes
+-- a key with more bytes
 abbrev pub with_bytes : (List ℕ → Option ℕ) → Option (List ℕ) → List ℕ → Option (List ℕ)
 with_bytes number held [] = held
 with_bytes number held (b ∷ bytes) = with_bytes number (with_byte number held b) bytes
 
--- the key of a text, where each of its whole blocks has a number
+-- the key of a text, if each of its whole blocks has a number
 unfoldable pub text_key : BlockNumbers → List ℕ → Option (List ℕ)
 text_key numbers text = with_bytes (number_at numbers) (Some (number_bytes 0)) text
 
--- blocks have numbers of their own, from 1 to the count; 0 is the number where no block is yet
+-- different blocks have different numbers, from 1 to the count; 0 is the number if there is no block yet
 pub record AreNumbered (numbers : BlockNumbers) (count : ℕ) : Type 0 where
   pub fits : count < 2 ^ 32
   pub within : (block : List ℕ) (n : ℕ) → number_at numbers block ≡ Some n → (0 < n) × (n ≤ count)
   pub apart : (one two : List ℕ) (n : ℕ) → number_at numbers one ≡ Some n → number_at numbers two ≡ Some n → one ≡ two
 
--- each number stays, so that a key keeps its text
+-- each block keeps its number, so that a key keeps its text
 pub record Grows (old new : BlockNumbers) : Type 0 where
   pub numbers : (block : List ℕ) (n : ℕ) → number_at old block ≡ Some n → number_at new block ≡ Some n
 
--- a key stands for a text
+-- a key represents a text
 pub record IsKey (numbers : BlockNumbers) (key : NameKey) (text : List ℕ) : Type 0 where
   pub key_is : text_key numbers text ≡ Some key.bytes.items
   pub length_is : key.length ≡ length text

@@ -1,4 +1,4 @@
--- Keys of what scopes put in front of the names of the entries in them.
+-- Keys of the prefixes that scopes give to the names of the entries in them.
 use Rattle.std.specs.Prelude.{◌≡◌, ℕ, ◌+◌, ◌*◌, ◌^◌, ◌<◌, List, [], ◌∷◌, ◌++◌, Option, None, Some}
 use Rattle.std.specs.BTreeMap.{BTreeMap, get}
 use Rattle.std.specs.List.{slice_get}
@@ -10,11 +10,11 @@ use Rattle.die_names.specs.Names.{around, fronts, dies_of}
 use Rattle.func_flatten.specs.declared.name_blocks.NameKey.{NameKey}
 use Rattle.func_flatten.specs.internal.NameBlocks.{kept, BlockNumbers, IsKey}
 
--- the entries of the unit of a number
+-- the entries of unit `unit`
 abbrev pub unit_dies : List UnitRead → ℕ → List DieFields
 unit_dies units unit = dies_of (slice_get units unit)
 
--- the numbers of the entries around the one of a number, the innermost first
+-- the numbers of the entries around entry `entry`, the innermost first
 unfoldable pub outer : List DieFields → ℕ → List ℕ
 outer dies entry = option_map_or (λ die. around dies entry die.parent) (slice_get dies entry) []
 
@@ -23,11 +23,11 @@ abbrev pub outer_from : List DieFields → Option ℕ → List ℕ
 outer_from dies None = []
 outer_from dies (Some entry) = entry ∷ outer dies entry
 
--- what stands in front of an entry's name
+-- the prefix of an entry's name
 unfoldable pub outer_front : List UnitRead → ℕ → ℕ → List ℕ
 outer_front units unit entry = fronts (unit_dies units unit) (outer (unit_dies units unit) entry)
 
--- what an entry and the scopes around it put in front of what stands in it
+-- the prefix that an entry and the scopes around it give to the names in the entry
 unfoldable pub inner_front : List UnitRead → ℕ → ℕ → List ℕ
 inner_front units unit entry = fronts (unit_dies units unit) (entry ∷ outer (unit_dies units unit) entry)
 
@@ -35,11 +35,11 @@ inner_front units unit entry = fronts (unit_dies units unit) (entry ∷ outer (u
 abbrev pub place_of : ℕ → ℕ → ℕ
 place_of unit entry = unit * 2 ^ 32 + entry
 
--- the keys that are known
+-- each known key is that of the prefix that an entry gives
 unfoldable pub AreFronts : List UnitRead → BlockNumbers → BTreeMap ℕ NameKey → Type 0
 AreFronts units numbers known = (unit entry : ℕ) (key : NameKey) → unit < 2 ^ 32 → entry < 2 ^ 32 → get nat_cmp known (place_of unit entry) ≡ Some key → IsKey numbers key (kept (inner_front units unit entry))
 
--- of the entries around one, the inner ones stand in `numbers`, the innermost first, and `key` is that of what the others put in front
+-- of the entries around `entry`, the inner ones are in `numbers`, the innermost first, and `key` is that of the prefix that the others give
 pub record IsHalfway (dies : List DieFields) (blocks : BlockNumbers) (entry : ℕ) (numbers : List ℕ) (key : NameKey) : Type 0 where
   pub rest : List ℕ
   pub around : numbers ++ rest ≡ outer dies entry

@@ -1,4 +1,5 @@
--- Functions that stand for all: of those with one set of addresses, no more are collected than tell who is first and whether names differ.
+-- Functions that represent all functions. Of those with one set of addresses, only those are collected that show which is the first and whether names
+-- differ.
 use Rattle.std.specs.Prelude.{◌≡◌, ◌⊎◌, ℕ, ◌+◌, ◌*◌, ◌<◌, ◌≤◌, Bool, true, false, not, ◌&&◌, Option, None, Some, IfSome, map, length, List, [], ◌∷◌, ◌++◌}
 use Rattle.std.specs.List.{slice_get, find, list_any}
 use Rattle.std.specs.Str.{bytes_eq}
@@ -14,11 +15,12 @@ use Rattle.func_flatten.specs.declared.set_owners.Meeting.TheVariants.{New, Seco
 use Rattle.func_flatten.specs.internal.Classes.{place_name, place_at, number_name}
 use Rattle.func_flatten.specs.internal.Collecting.{functions_in, all_functions, function_stretches, own_class, HaveSets, has_address}
 
--- whether a function of another name has the address
+-- whether a function with another name than `text` has the address
 abbrev pub any_name : (Covering → List ℕ) → List ℕ → ℕ → List Covering → Bool
 any_name name text a functions = list_any (λ d. has_address a d && not (bytes_eq (name d) text)) functions
 
--- some functions stand for all: at each address the first of all is the first of these, and one of another name is there just where one of these is
+-- the functions `kept` represent `all`: at each address both have the same first function, and a function with another name is among `kept` exactly
+-- if one is among `all`
 pub record StandFor (name : Covering → List ℕ) (all kept : List Covering) : Type 0 where
   pub first : (a : ℕ) → find (has_address a) kept ≡ find (has_address a) all
   pub other : (a : ℕ) (text : List ℕ) → any_name name text a kept ≡ any_name name text a all
@@ -27,7 +29,7 @@ pub record StandFor (name : Covering → List ℕ) (all kept : List Covering) : 
 abbrev pub place_key : EntryRef → ℕ
 place_key p = p.unit * 4294967296 + p.entry
 
--- the functions' places rise, from a number up to and without another
+-- the functions' places rise; they are at least `low`, and below `high`
 abbrev pub Rise : ℕ → ℕ → List Covering → Type 0
 Rise low high [] = low ≤ high
 Rise low high (c ∷ functions) = (low ≤ place_key (place_of c)) × Rise (place_key (place_of c) + 1) high functions
@@ -42,7 +44,7 @@ abbrev pub AreThere : List UnitRead → List Covering → Type 0
 AreThere units [] = Unit {0}
 AreThere units (c ∷ functions) = (set_in c.entry (slice_get units c.unit) ≡ Some c.spans) × AreThere units functions
 
--- what was collected stands for what was passed, whose places are below a number; what is left follows
+-- the collected functions represent those that were passed, and their places are below `low`; the entries that are left follow
 pub record IsCollected (units : List UnitRead) (places : List EntryRef) (stretches : List Stretch) (low : ℕ) (left : List Covering) : Type 0 where
   pub functions : List Covering
   pub passed : List Covering
@@ -54,7 +56,7 @@ pub record IsCollected (units : List UnitRead) (places : List EntryRef) (stretch
   pub rise : Rise 0 low functions
   pub there : AreThere units functions
 
--- the function of a number is of this unit, and has the set of this entry
+-- the function with number `k` is in unit `unit`, and has the set of entry `entry`
 pub record HasSet (sets : List (List Range)) (places : List EntryRef) (unit entry k : ℕ) : Type 0 where
   pub known : k < length places
   pub here : (place_at places k).unit ≡ unit
@@ -64,7 +66,7 @@ pub record HasSet (sets : List (List Range)) (places : List EntryRef) (unit entr
 abbrev pub AreApart : List UnitRead → List EntryRef → SetOwners → Type 0
 AreApart units places one = IfSome one.second (λ k. (one.first < length places) × (k < length places) × (bytes_eq (number_name units places k) (number_name units places one.first) ≡ false))
 
--- how a function meets those that were collected: it is to be collected, also as the second one of its set, or these stand for it
+-- how a function compares with those that were collected: it must be collected, perhaps as the second one of its set, or they represent it
 abbrev pub Meets : List UnitRead → List (List Range) → List EntryRef → EntryRef → Meeting → Type 0
 Meets units sets places place New = Unit {0}
 Meets units sets places place (Second k) = (k < length places) × (bytes_eq (place_name units place) (number_name units places k) ≡ false)
