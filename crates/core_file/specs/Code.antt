@@ -1,4 +1,4 @@
--- The addresses of code: in segments that may be executed (System V gABI, PF_X), of the core and of its modules' own headers.
+-- Which addresses are code: those in executable segments (System V gABI, PF_X), of the core or of a module's own headers.
 use Rattle.std.specs.Prelude.{ℕ, ◌+◌, ◌==◌, ◌||◌, ◌&&◌, Bool, false, not, List, Option, None, Some, nat_lt, nat_le, bit_and}
 use Rattle.std.specs.List.{list_any}
 use Rattle.core_file.specs.CoreNumbers.{pf_x}
@@ -11,11 +11,11 @@ use Rattle.core_file.specs.declared.modules.Module.{Module}
 unfoldable pub is_executable : Segment → Bool
 is_executable s = is_load s && not (bit_and s.flags pf_x == 0)
 
--- it has the address, by its size in memory
+-- the address lies in an executable segment, by its size in memory
 unfoldable pub has_code : ℕ → Segment → Bool
 has_code a s = is_executable s && (nat_le s.address a && nat_lt a (s.address + s.memory_size))
 
--- a segment of a file that was loaded at `start` has the page of the address
+-- the address lies in the pages of an executable segment of a file that was loaded at `start`
 unfoldable pub has_page : ℕ → LoadedImage → ℕ → Segment → Bool
 has_page start image a s = is_executable s && (nat_lt 0 s.memory_size
     && (nat_le (page_down (start + s.address)) (a + page_down image.first) && nat_lt (a + page_down image.first) (page_up (start + s.address + s.memory_size))))
@@ -24,7 +24,7 @@ abbrev pub has_code_by : ℕ → ℕ → Option LoadedImage → Bool
 has_code_by start a None = false
 has_code_by start a (Some image) = list_any (has_page start image a) image.headers
 
--- the module's own headers say that the address is code
+-- the address is code by the module's own headers
 unfoldable pub module_has : Memory → ℕ → Module → Bool
 module_has memory a m = has_code_by m.start a (image_at memory m.start)
 

@@ -19,22 +19,22 @@ use Rattle.core_file.specs.declared.fault.CoreFault.TheVariants.{NoThread}
 unfoldable pub has_no_thread : List ℕ → Bool
 has_no_thread file = not (list_any is_prstatus (all_notes file (segments file)))
 
--- the first fault, in the order in which they are looked for
+-- the first fault: of the header, of a segment, of a note, and last that there is no thread
 unfoldable pub core_fault : List ℕ → Option CoreFault
 core_fault file = option_or (header_fault file) (option_or (segment_fault file) (option_or (note_fault file)
     (fault_if (has_no_thread file) NoThread None)))
 
--- the bytes and the segments of the file
+-- the memory: the bytes and the segments of the file
 unfoldable pub memory_of : List ℕ → Memory
 memory_of file = record { file = file; segments = segments file }
 
--- what a core is: its memory, its threads, of which the first is the one that crashed, and its modules
+-- a core: its memory; its threads, of which the first is the one that crashed; and its modules
 pub record CoreParts : Type 0 where
   pub memory : Memory
   pub threads : List Thread
   pub modules : List Module
 
--- the parts of a file, with so many threads and modules at most
+-- the parts of a file, with at most `limit` threads and at most `limit` modules
 unfoldable pub parts_upto : ℕ → List ℕ → CoreParts
 parts_upto limit file = record {
   memory = memory_of file;
@@ -42,7 +42,7 @@ parts_upto limit file = record {
   modules = modules_in limit (memory_of file) (files_in (all_notes file (segments file)));
 }
 
--- there are at most 65,536 threads and as many modules; more are passed over
+-- at most 65,536 threads and at most 65,536 modules are read; further ones are ignored
 unfoldable pub parts_of : List ℕ → CoreParts
 parts_of file = parts_upto 65536 file
 

@@ -9,7 +9,7 @@ use Rattle.core_file.specs.CoreNumbers.{et_core, pn_xnum}
 use Rattle.core_file.specs.declared.fault.CoreFault.{CoreFault}
 use Rattle.core_file.specs.declared.fault.CoreFault.TheVariants.{NotElf, Class, Order, Machine, Kind, ProgramTable}
 
--- the first fault of the header before its tables
+-- the first fault of the header, without that of its program header table
 unfoldable pub ident_fault : List ℕ → Option CoreFault
 ident_fault file = fault_if (is_not_elf file) NotElf
     (fault_if (not (slice_index file ei_class == elfclass64)) Class
@@ -17,7 +17,7 @@ ident_fault file = fault_if (is_not_elf file) NotElf
     (fault_if (not (machine_of file == em_x86_64)) Machine
     (fault_if (not (type_of file == et_core)) Kind None))))
 
--- the table of program headers lies in the file, and the header says how many it has
+-- the table of program headers lies in the file, and e_phnum gives their number
 unfoldable pub has_segments : List ℕ → Bool
 has_segments file = has_programs (header_of file) (length file) && not ((header_of file).program_count == pn_xnum)
 

@@ -5,7 +5,7 @@ use Rattle.std.specs.Prelude.{ℕ, ◌^◌, List, codes}
 abbrev pub et_core : ℕ
 et_core = 4
 
--- e_phnum where the count of program headers stands elsewhere
+-- e_phnum if the number of program headers is stored elsewhere
 abbrev pub pn_xnum : ℕ
 pn_xnum = 0xffff
 
@@ -17,7 +17,7 @@ pt_note = 4
 abbrev pub pf_x : ℕ
 pf_x = 1
 
--- the owner of the notes that a core has of its process
+-- the owner of a core's notes about its process
 abbrev pub core_owner : List ℕ
 core_owner = codes "CORE\0"
 
@@ -28,10 +28,10 @@ nt_prstatus = 1
 abbrev pub nt_file : ℕ
 nt_file = 0x46494c45
 
--- the bytes of a page
+-- the size of a page in bytes
 abbrev pub page_size : ℕ
 page_size = 4096
 
--- there are addresses below this one
+-- all addresses are below this number
 abbrev pub address_end : ℕ
 address_end = 2 ^ 64

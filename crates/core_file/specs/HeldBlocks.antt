@@ -1,4 +1,4 @@
--- How much of a stream of bytes is held: not its blocks that are all zeros.
+-- How many bytes of a stream are kept in memory: blocks that are all zeros are not.
 use Rattle.std.specs.Prelude.{ℕ, ◌*◌, ◌/◌, ◌^◌, ◌==◌, ◌||◌, Bool, not, List, length, take, drop, map, count_by, nat_lt}
 use Rattle.std.specs.List.{list_all, range_with_len}
 
@@ -14,10 +14,10 @@ first_blocks size n bytes = map (λ k. take size (drop (size * k) bytes)) (range
 unfoldable pub held_blocks : ℕ → List ℕ → ℕ
 held_blocks size bytes = count_by has_some (first_blocks size (length bytes / size) bytes)
 
--- the bytes are more than `limit`, or those in blocks that are held more than `room`
+-- there are more than `limit` bytes, or more than `room` bytes in complete blocks that are not all zeros
 unfoldable pub is_past : ℕ → ℕ → ℕ → List ℕ → Bool
 is_past size limit room bytes = nat_lt limit (length bytes) || nat_lt room (size * held_blocks size bytes)
 
--- a core file has at most 2^40 bytes, and 2^32 of them in blocks of 4,096 bytes that are not all zeros
+-- a core file is too long if it has more than 2^40 bytes, or more than 2^32 bytes in complete blocks of 4,096 bytes that are not all zeros
 unfoldable pub is_too_long : List ℕ → Bool
 is_too_long bytes = is_past 4096 (2 ^ 40) (2 ^ 32) bytes

@@ -1,4 +1,4 @@
--- The modules of the process: the files that it had loaded, by its mapped files and by their own headers in memory.
+-- The modules of the process: the files that it had loaded, given its mapped files and their own headers in memory.
 use Rattle.std.specs.Prelude.{ℕ, ◌-◌, ◌==◌, ◌&&◌, Bool, false, not, List, [], ◌∷◌, ◌++◌, Option, None, Some, length, take, drop, codes, nat_lt, nat_le, if◌then◌else◌}
 use Rattle.std.specs.List.{list_any}
 use Rattle.std.specs.Option.{option_map}
@@ -11,12 +11,12 @@ use Rattle.core_file.specs.LoadedImages.{LoadedImage, image_at, image_end, image
 use Rattle.core_file.specs.declared.segments.Segment.{Segment}
 use Rattle.core_file.specs.declared.modules.Module.{Module}
 
--- what follows the last slash
+-- what follows the last slash, or the whole text if it has no slash
 unfoldable pub behind_slash : List ℕ → List ℕ
 behind_slash [] = []
 behind_slash (b ∷ text) = if list_any (λ c. c == 47) text then behind_slash text else if b == 47 then text else b ∷ text
 
--- the words that Linux puts behind the name of a file that was deleted
+-- the words that Linux adds to the name of a deleted file
 abbrev pub deleted_words : List ℕ
 deleted_words = codes " (deleted)"
 
@@ -24,16 +24,16 @@ unfoldable pub without_deleted : List ℕ → List ℕ
 without_deleted name =
     if nat_le 10 (length name) && bytes_eq (drop (length name - 10) name) deleted_words then take (length name - 10) name else name
 
--- the name of a module, by the name of its file
+-- the name of a module, given the name of its file
 unfoldable pub module_name : List ℕ → List ℕ
 module_name text = cleaned (without_deleted (behind_slash text))
 
--- the end of the last of the mappings in front that have the text and do not begin their file; `end` where there is none
+-- the end of the last mapping in the longest prefix of mappings that have this name and do not begin their file; `end` if that prefix is empty
 unfoldable pub end_behind : List ℕ → ℕ → List MappedFile → ℕ
 end_behind text end [] = end
 end_behind text end (f ∷ files) = if bytes_eq f.text text && nat_lt 0 f.offset then end_behind text f.end files else end
 
--- the module that begins with a mapping, by its own headers, or else by the mappings behind it
+-- the module that begins with a mapping, by its own headers, or without them by the mappings after it
 abbrev pub module_by : Memory → MappedFile → List MappedFile → Option LoadedImage → Module
 module_by memory f later None = record {
   start = f.start;
@@ -53,7 +53,7 @@ module_by memory f later (Some image) = record {
 unfoldable pub module_of : Memory → MappedFile → List MappedFile → Module
 module_of memory f later = module_by memory f later (image_at memory f.start)
 
--- the page with which a loaded segment begins, where that segment has the first page of the file in it
+-- the page at which a loaded segment begins, if the segment has the first page of the file
 unfoldable pub first_page_of : ℕ → LoadedImage → Segment → Option ℕ
 first_page_of start image s =
     if is_load s && nat_lt s.offset page_size then option_map page_down (place_of start image s) else None
@@ -63,7 +63,7 @@ abbrev pub is_page : ℕ → Option ℕ → Bool
 is_page a None = false
 is_page a (Some page) = page == a
 
--- it is such a page of a file that was loaded
+-- the address is such a page of a loaded file
 abbrev pub has_first_page : ℕ → ℕ → Option LoadedImage → Bool
 has_first_page a start None = false
 has_first_page a start (Some image) = list_any (λ s. is_page a (first_page_of start image s)) image.headers
@@ -72,16 +72,16 @@ has_first_page a start (Some image) = list_any (λ s. is_page a (first_page_of s
 abbrev pub lies_in : Module → ℕ → Bool
 lies_in m a = nat_le m.start a && nat_lt a m.end
 
--- the address lies in one of the modules, and is a page at which that module's own file was mapped from its first page on: linkers map
--- that page several times
+-- the address lies in one of the modules, and is a page at which that module's own file was mapped from its first page on: linkers map the first page
+-- several times
 unfoldable pub is_own_page : Memory → List Module → ℕ → Bool
 is_own_page memory modules a = list_any (λ m. lies_in m a && has_first_page a m.start (image_at memory m.start)) modules
 
--- a mapping begins a module: that of a file's begin, unless it belongs to a module before it
+-- a mapping begins a module if it begins its file and does not belong to a module before it
 unfoldable pub begins_module : Memory → List Module → MappedFile → Bool
 begins_module memory before f = (f.offset == 0) && not (is_own_page memory before f.start)
 
--- the modules of mappings, behind the modules `before`
+-- the modules that begin with mappings, after the modules `before`
 unfoldable pub modules_from : Memory → List Module → List MappedFile → List Module
 modules_from memory before [] = []
 modules_from memory before (f ∷ later) =

@@ -35,15 +35,15 @@ segments_from bytes table count = map (λ k. segment_at bytes (table + program_h
 unfoldable pub segments : List ℕ → List Segment
 segments file = segments_from file (header_of file).program_table (header_of file).program_count
 
--- the bytes of a segment that lies in the file
+-- the bytes of a segment that lies within the file
 unfoldable pub bytes_of : List ℕ → Segment → List ℕ
 bytes_of file s = take s.file_size (drop s.offset file)
 
--- a segment of notes that leaves the file, or a loaded one whose bytes leave the addresses
+-- the segment is one of notes that extends past the end of the file, or a loaded one whose bytes extend past the last address
 unfoldable pub is_bad : List ℕ → Segment → Bool
 is_bad file s = ((s.kind == pt_note) && not (nat_le (s.offset + s.file_size) (length file)))
     || ((s.kind == pt_load) && not (nat_le (s.address + s.file_size) address_end))
 
--- the first of these
+-- the fault of the first such segment
 unfoldable pub segment_fault : List ℕ → Option CoreFault
 segment_fault file = option_map BadSegment (position (is_bad file) (segments file))

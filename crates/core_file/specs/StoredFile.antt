@@ -1,4 +1,4 @@
--- The reading of a core file from a store.
+-- Reading a core file from a store.
 use Rattle.std.specs.Prelude.{◌≡◌, ℕ, true, false, List, Option, Some, None, Result, Ok, Err}
 use Rattle.sym_edges.specs.Outside.{Files, Rose}
 use Rattle.sym_edges.specs.WholeFile.{HoldsFile}
@@ -8,17 +8,17 @@ use Rattle.sym_edges.specs.declared.whole_file.ReadEnd.{ReadEnd}
 use Rattle.sym_edges.specs.declared.whole_file.ReadEnd.TheVariants.{CantOpen, CantRead, TooLong}
 use Rattle.core_file.specs.HeldBlocks.{is_too_long}
 
--- these are the bytes of the file, where its bytes are told, and they are not too many
+-- if the bytes of the file are known, they are these; and these bytes are not too many
 abbrev pub IsHeld : List ℕ → Option (List ℕ) → Type 0
 IsHeld bytes None = is_too_long bytes ≡ false
 IsHeld bytes (Some whole) = (whole ≡ bytes) × (is_too_long bytes ≡ false)
 
--- the bytes of the file, where they are told, are too many, and else some bytes are
+-- if the bytes of the file are known, they are too many; otherwise some unknown bytes are
 abbrev pub IsPast : Option (List ℕ) → Type 0
 IsPast None = (bytes : List ℕ) × (is_too_long bytes ≡ true)
 IsPast (Some whole) = is_too_long whole ≡ true
 
--- what a reading of the core file of a name answers, and when
+-- what reading the core file `name` returns, and when
 abbrev pub HeldRead : Result (List ℕ) (Stop ReadEnd) → Option Files → List ℕ → ℕ → ℕ → Type 0
 HeldRead (Ok bytes) files name before after = HoldsFile files name (IsHeld bytes)
 HeldRead (Err (Fault CantOpen)) files name before after = Rose before after

@@ -1,4 +1,4 @@
--- The threads of a core file: its notes NT_PRSTATUS, which hold a struct elf_prstatus of Linux x86-64.
+-- The threads of a core file: its notes NT_PRSTATUS, whose descriptor is a struct elf_prstatus of Linux x86-64.
 use Rattle.std.specs.Prelude.{ℕ, ◌+◌, ◌*◌, List, take, map, filter}
 use Rattle.elf_sections.specs.Numbers.{u16_at, u32_at, u64_at}
 use Rattle.elf_sections.specs.Notes.{NoteParts}
@@ -6,7 +6,7 @@ use Rattle.core_file.specs.CoreNotes.{is_prstatus}
 use Rattle.core_file.specs.declared.threads.Registers.{Registers}
 use Rattle.core_file.specs.declared.threads.Thread.{Thread}
 
--- a general register (pr_reg, a struct user_regs_struct): number k of those from 112 on
+-- general register k of pr_reg, a struct user_regs_struct at offset 112
 unfoldable pub register_at : List ℕ → ℕ → ℕ
 register_at state k = u64_at state (112 + 8 * k)
 
@@ -31,7 +31,7 @@ registers_of state = record {
   rsp = register_at state 19;
 }
 
--- a thread by its state
+-- a thread, given its state
 unfoldable pub thread_of : List ℕ → Thread
 thread_of state = record {
   -- pr_pid

@@ -1,4 +1,4 @@
--- What serves the functions of the crate alone: no public clause cites it.
+-- What only the functions of the crate need: no public clause cites it.
 pub mod Joined
 pub mod NotePlaces
 pub mod Gathering

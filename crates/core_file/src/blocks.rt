@@ -1,4 +1,4 @@
-//! Bytes in blocks, of which those that are all zeros are not held.
+//! Bytes in blocks, of which those that are all zeros are not kept in memory.
 ghost use Rattle.std.specs.Prelude.{◌≡◌, ℕ, ◌+◌, ◌*◌, ◌^◌, ◌<◌, ◌≤◌, ◌++◌, ◌∷◌, ◌==◌, [], true, false, length, slice_index, IfOk, OnOk, OnErr, MatchOption};
 ghost use Rattle.std.specs.List.{list_all};
 ghost use Rattle.sym_edges.specs.Outside.{MatchStop};
@@ -8,8 +8,8 @@ ghost use Rattle.core_file.specs.internal.Joined.{joined, block_of, AreInside, a
 use crate::fault::TooLong;
 use sym_edges::{OutOfMemory, Stop};
 
-/// Bytes that grow at their end: the complete blocks of `size` bytes by their places, 0 for zeros and else the number of a held block from 1
-/// on, and less than one block behind them. There are `limit` bytes at most, and `room` bytes that are held in blocks.
+/// Bytes that grow at their end: the complete blocks of `size` bytes, each by a number (0 for zeros, else that of a block in memory, from 1 on), and
+/// then less than one block. There are at most `limit` bytes, and at most `room` bytes in blocks in memory.
 #[derive(Debug, Drop)]
 pub struct Blocks {
     pub size: usize,
@@ -21,7 +21,7 @@ pub struct Blocks {
     pub tail: Vec<u8>,
 }
 
-/// The byte at a place of so many blocks, and of what stands behind them.
+/// The byte at a place of this many blocks and of the bytes after them.
 #[tactic(auto, using(crate::proofs::JoinedLemmas::byte_of_zeros, crate::proofs::JoinedLemmas::byte_of_block, crate::proofs::JoinedLemmas::byte_behind, crate::proofs::JoinedLemmas::place_in_block, crate::proofs::JoinedLemmas::block_before))]
 pub fn byte_in(size: usize, places: &[u32], held: &[u8], tail: &[u8], at: usize) -> u8
     requires some { 0 < size }
@@ -42,7 +42,7 @@ pub fn byte_in(size: usize, places: &[u32], held: &[u8], tail: &[u8], at: usize)
     held[size * (place - 1) + at % size]
 }
 
-/// Whether all bytes are zeros. All are looked at, since a loop without a way out takes many at once.
+/// Whether all bytes are zeros. The loop looks at all of them, since a loop without an early exit takes many at once.
 fn are_zeros(bytes: &[u8]) -> bool
     ensures { result ≡ list_all (λ b. b == 0) bytes.now }
 {
@@ -53,7 +53,7 @@ fn are_zeros(bytes: &[u8]) -> bool
     zeros
 }
 
-/// A block of zeros more.
+/// Adds a block of zeros.
 fn keep_zeros(blocks: &mut Blocks) -> Result<(), OutOfMemory>
     ensures sizes { SameSizes blocks.old blocks.new }
     ensures count { blocks.new.count ≡ blocks.old.count }
@@ -68,7 +68,7 @@ fn keep_zeros(blocks: &mut Blocks) -> Result<(), OutOfMemory>
     }
 }
 
-/// A held block more.
+/// Adds a block in memory.
 fn keep_block(blocks: &mut Blocks) -> Result<(), OutOfMemory>
     requires { blocks.old.count < 2 ^ 31 }
     ensures sizes { SameSizes blocks.old blocks.new }
@@ -97,7 +97,7 @@ fn keep_block(blocks: &mut Blocks) -> Result<(), OutOfMemory>
     }
 }
 
-/// A full block more.
+/// Adds a full block.
 #[tactic(auto, using(crate::proofs::KeepLemmas::joined_kept, crate::proofs::KeepLemmas::kept_same))]
 fn keep(blocks: &mut Blocks) -> Result<(), Stop<TooLong>>
     requires kept { IsKept blocks.old }
@@ -121,7 +121,7 @@ fn keep(blocks: &mut Blocks) -> Result<(), Stop<TooLong>>
     Ok(())
 }
 
-/// Ends a full block. Where it is not kept, what stands behind the blocks is dropped.
+/// Ends a full block. If there is no room for it, the bytes after the blocks are dropped.
 #[tactic(auto, using(crate::proofs::KeepLemmas::bytes_ended, crate::proofs::KeepLemmas::bytes_dropped))]
 fn end_block(blocks: &mut Blocks) -> Result<(), Stop<TooLong>>
     requires held { IsHeld blocks.old }
@@ -138,7 +138,7 @@ fn end_block(blocks: &mut Blocks) -> Result<(), Stop<TooLong>>
     ended
 }
 
-/// Takes so many of the bytes as the block behind the others wants, and gives those that are left.
+/// Adds as many of the bytes as the last block needs, and returns the others.
 fn add_front<'p>(blocks: &mut Blocks, bytes: &'p [u8]) -> Result<&'p [u8], Stop<TooLong>>
     requires held { IsHeld blocks.old }
     requires short { length blocks.old.tail.items < blocks.old.size }

@@ -1,4 +1,4 @@
-//! Lists of bytes that are read by place, and numbers at a place, the lowest byte first.
+//! Lists of bytes that are read by place, and numbers at a place, with the lowest byte first.
 ghost use Rattle.std.specs.Prelude.{◌≡◌, ℕ, ◌+◌, ◌<◌, ◌≤◌, List, length, slice_index, take, drop, IfOk};
 ghost use Rattle.std.specs.Str.{bytes_eq};
 ghost use Rattle.elf_sections.specs.Numbers.{u16_at, u32_at, u64_at};
@@ -61,7 +61,7 @@ pub fn read_u64<B: ByteList>(list: &B, at: usize) -> u64
     ])
 }
 
-/// Whether this text stands at a place, as bytes of that length.
+/// Whether the `len` bytes at a place are this text.
 #[tactic(auto, using(crate::proofs::ByteLemmas::other_length, crate::proofs::ByteLemmas::front_more, crate::proofs::ByteLemmas::other_byte, crate::proofs::ByteLemmas::all_bytes_same))]
 pub fn stands_at<B: ByteList>(list: &B, at: usize, len: usize, text: &[u8]) -> bool
     requires { at + len ≤ length (B.bytes list.now) }
@@ -79,7 +79,7 @@ pub fn stands_at<B: ByteList>(list: &B, at: usize, len: usize, text: &[u8]) -> b
     true
 }
 
-/// A copy of so many bytes from a place on.
+/// A copy of this many bytes from a place on.
 #[tactic(auto, using(crate::proofs::ByteLemmas::copy_more))]
 pub fn copy<B: ByteList>(
     alloc: Global,

@@ -31,7 +31,7 @@ use std::marker::Model;
 use step_maps::{FirstItem, StepMap, first_items};
 use sym_edges::{OutOfMemory, Stop};
 
-/// How many threads a core has at most, and how many modules.
+/// The most threads of a core, and the most modules.
 const MOST: usize = 65_536;
 
 /// A core file: the memory, the threads and the modules of its process.
@@ -203,7 +203,7 @@ impl<'a> Core<'a> {
         self.memory.byte(a)
     }
 
-    /// The eight bytes at an address as a number, the lowest first, where they are there.
+    /// The eight bytes at an address as a number, the lowest first, if all of them are in memory.
     pub fn word(&self, a: u64) -> Option<u64>
         ensures { result ≡ word_at self.now.memory a }
     {

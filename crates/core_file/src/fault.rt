@@ -1,7 +1,7 @@
-//! Why a file is no core that is read.
+//! Why a file is not read as a core.
 use thiserror::Error;
 
-/// Why a file is no core that is read, in the order in which faults are looked for.
+/// Why a file is not read as a core, in the order in which faults are looked for.
 #[derive(Clone, Copy, Debug, PartialEq, Eq, Error)]
 pub enum CoreFault {
     #[error("not an ELF file")]
@@ -28,7 +28,7 @@ impl CoreFault {
     ghost use Rattle.std.specs.Prelude.{◌≡◌};
     ghost use Rattle.core_file.specs.FaultWords.{fault_word, joined_word};
 
-    /// The fault as it is printed: a word, and after it the number of a segment where there is one.
+    /// The fault as it is printed: a word, and after it the number of a segment if there is one.
     pub fn word(self) -> (&'static [u8], Option<u32>)
         ensures { fault_word self ≡ joined_word result.0.now result.1 }
     {

@@ -10,7 +10,7 @@ use crate::part::FilePart;
 use std::alloc::Global;
 use sym_edges::OutOfMemory;
 
-/// A mapping: its addresses, its place in its file in pages, and where the file's name stands in the note.
+/// A mapping: its addresses, its place in its file in pages, and where the note has the file's name.
 #[derive(Clone, Copy, Debug)]
 pub struct FilePlace {
     pub start: u64,
@@ -20,7 +20,7 @@ pub struct FilePlace {
     pub size: usize,
 }
 
-/// How many bytes stand in front of the next zero, or of the end.
+/// How many bytes come before the next zero, or before the end.
 #[tactic(auto, using(crate::proofs::FileLemmas::text_ends, crate::proofs::FileLemmas::text_more, crate::proofs::FileLemmas::text_past))]
 fn text_size(note: &FilePart<'_>, from: usize) -> usize
     requires { from ≤ length note.now }
@@ -36,7 +36,7 @@ fn text_size(note: &FilePart<'_>, from: usize) -> usize
     end
 }
 
-/// The mappings of a note, whose numbers are there.
+/// The mappings of a note that has all their numbers.
 #[tactic(auto, using(crate::proofs::FileLemmas::files_none, crate::proofs::FileLemmas::files_more, crate::proofs::FileLemmas::inside_push, crate::proofs::FileLemmas::files_all))]
 pub fn read_files(alloc: Global, note: &FilePart<'_>) -> Result<Vec<FilePlace>, OutOfMemory>
     requires { has_files note.now ≡ true }

@@ -25,7 +25,7 @@ impl<'m, 'a> Model for Front<'m, 'a> {
     ghost invariant = { λ f. length (front_at f.memory.now f.address f.size) ≡ f.size };
 }
 
-/// How many of the addresses from one on have a byte, `want` at most.
+/// How many addresses in a row, from this one on, have a byte; `want` at most.
 #[tactic(auto, using(crate::proofs::FrontLemmas::front_none, crate::proofs::FrontLemmas::front_more, crate::proofs::FrontLemmas::front_stop, crate::proofs::FrontLemmas::front_past))]
 fn count_held(memory: &ProcessMemory<'_>, address: u64, want: u64) -> u64
     ensures within { result ≤ want }
@@ -77,7 +77,7 @@ impl<'m, 'a> ByteList for Front<'m, 'a> {
     }
 }
 
-/// The eight bytes at an address as a number, the lowest first, where they are there.
+/// The eight bytes at an address as a number, the lowest first, if all of them are in memory.
 #[tactic(auto, unfolding(crate::specs::Memory::word_at))]
 pub fn word(memory: &ProcessMemory<'_>, address: u64) -> Option<u64>
     ensures { result ≡ word_at memory.now address }

@@ -42,7 +42,7 @@ fn is_mapped(part: &FilePart<'_>, note: &NotePlace) -> bool
     stands_at(part, note.name, note.name_len, b"CORE\0") && note.kind == NT_FILE
 }
 
-/// How many zeros stand from a place on.
+/// How many zeros there are from a place on.
 #[tactic(auto, using(crate::proofs::GatherLemmas::zeros_yes, crate::proofs::GatherLemmas::zeros_no))]
 fn count_zeros(part: &FilePart<'_>, from: usize) -> usize
     requires { from ≤ length part.now }
@@ -73,7 +73,7 @@ fn has_files(part: &FilePart<'_>) -> bool
     count <= count_zeros(part, size as usize) as u64
 }
 
-/// Takes the thread of a state, if there is room.
+/// Keeps the thread of a state, if there is room.
 #[tactic(auto, using(crate::proofs::GatherLemmas::thread_room, crate::proofs::GatherLemmas::thread_full), unfolding(crate::specs::internal::Gathering::gathered))]
 fn take_thread(state: &FilePart<'_>, found: &mut Found<'_>) -> Result<(), OutOfMemory>
     requires long { 272 ≤ length state.now }
@@ -103,7 +103,7 @@ fn take_files<'a>(descriptor: FilePart<'a>, found: &mut Found<'a>)
     }
 }
 
-/// Takes what is looked for from a note, and says whether the note is whole.
+/// Keeps what is needed from a note, and says whether the note is whole.
 #[tactic(auto, using(crate::proofs::GatherLemmas::whole_state, crate::proofs::GatherLemmas::whole_files, crate::proofs::GatherLemmas::whole_other))]
 fn take_note<'a>(
     part: &FilePart<'a>,
@@ -138,7 +138,7 @@ fn take_note<'a>(
     Ok(true)
 }
 
-/// Takes what is looked for from the notes of a segment, and says whether all of them are whole.
+/// Keeps what is needed from the notes of a segment, and says whether all of them are whole.
 pub fn gather<'a>(part: &FilePart<'a>, found: &mut Found<'a>) -> Result<bool, OutOfMemory>
     requires few { length found.old.threads.items ≤ found.old.limit }
     requires fit { IfSome found.old.files (λ d. has_files d ≡ true) }
@@ -161,7 +161,7 @@ pub fn gather<'a>(part: &FilePart<'a>, found: &mut Found<'a>) -> Result<bool, Ou
     Ok(true)
 }
 
-/// The same of a segment, which has none where it is no segment of notes.
+/// The same for any segment; it has no notes if it is no segment of notes.
 #[tactic(auto, using(crate::proofs::GatherLemmas::noted_inside, crate::proofs::GatherLemmas::gathered_end), unfolding(crate::specs::CoreNotes::has_bad_note, crate::specs::CoreNotes::notes_of, crate::specs::Segments::bytes_of))]
 fn gather_segment<'a>(
     file: &'a HeldBytes,
@@ -184,7 +184,7 @@ fn gather_segment<'a>(
     gather(&part, found)
 }
 
-/// The first segment with a note that is not whole, or what is looked for from the notes of all segments.
+/// The first segment with a note that is not whole, or what is needed from the notes of all segments.
 #[tactic(auto, using(crate::proofs::GatherLemmas::segment_fine, crate::proofs::GatherLemmas::segments_step, crate::proofs::GatherLemmas::segments_end, crate::proofs::PositionLemmas::place_here, crate::proofs::PositionLemmas::place_later, crate::proofs::PositionLemmas::place_none))]
 pub fn gather_all<'a>(
     file: &'a HeldBytes,

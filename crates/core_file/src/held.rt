@@ -1,4 +1,4 @@
-//! A long stream of bytes, of which blocks of zeros are not held.
+//! A long stream of bytes, of which blocks of zeros are not kept in memory.
 ghost use Rattle.std.specs.Prelude.{◌≡◌, ◌++◌, [], true, false};
 ghost use Rattle.sym_edges.specs.Outside.{MatchStop};
 ghost use Rattle.core_file.specs.HeldBlocks.{is_too_long};
@@ -16,11 +16,11 @@ const BLOCK: usize = 4096;
 /// How many bytes a core file may have: 2^40.
 const LIMIT: usize = 0x100_0000_0000;
 
-/// How many bytes of it are held: 2^32.
+/// How many of these bytes may be kept: 2^32.
 const ROOM: usize = 0x1_0000_0000;
 
-/// The bytes of a stream, which contracts see as a list. They are held in blocks of 4,096 bytes, but for those that are all zeros: of a core
-/// file, in which the stack of each thread has eight million bytes that are nearly all zeros, little more is held than what the process wrote.
+/// The bytes of a stream, which contracts see as a list. They are kept in blocks of 4,096 bytes, except blocks that are all zeros. In a core file,
+/// the stack of each thread has eight million bytes that are nearly all zeros, so little more is kept than what the process wrote.
 #[derive(Debug, Drop)]
 pub struct HeldBytes {
     blocks: Blocks,
@@ -38,7 +38,7 @@ impl Model for HeldBytes {
 }
 
 impl HeldBytes {
-    /// No byte yet. Takes no memory.
+    /// No byte yet. Allocates no memory.
     pub fn new(alloc: Global) -> HeldBytes
         ensures { result ≡ [] }
     {
@@ -55,8 +55,8 @@ impl HeldBytes {
         }
     }
 
-    /// Adds the next bytes of the stream. There are too many exactly where the stream would have more than 2^40, or more than 2^32 in
-    /// complete blocks that are not all zeros; after a refusal nothing is said of what is held.
+    /// Adds the next bytes of the stream. They are too many exactly if the stream would have more than 2^40, or more than 2^32 in complete blocks
+    /// that are not all zeros. After a refusal nothing is promised about what is kept.
     pub fn push(&mut self, piece: &[u8]) -> Result<(), Stop<TooLong>>
         ensures { MatchStop result
             (λ _. (self.new ≡ self.old ++ piece.now) × (is_too_long (self.old ++ piece.now) ≡ false))

@@ -16,14 +16,14 @@ use crate::segments::{Segment, read_segments};
 use std::alloc::Global;
 use sym_edges::OutOfMemory;
 
-/// A file that was loaded: the address that it gives its first loaded segment, and its program headers.
+/// A loaded file: the address that its headers give for its first loaded segment, and its program headers.
 #[derive(Debug, Drop)]
 pub struct Image {
     pub first: u64,
     pub headers: Vec<Segment>,
 }
 
-/// The start of the page that has an address.
+/// The start of the page of an address.
 #[tactic(auto, unfolding(crate::specs::LoadedImages::page_down))]
 pub fn page_down(a: u128) -> u128
     ensures exact { result ≡ page_down a }
@@ -32,7 +32,7 @@ pub fn page_down(a: u128) -> u128
     a / PAGE as u128 * PAGE as u128
 }
 
-/// The first start of a page that is not below an address.
+/// The first start of a page at or above an address.
 #[tactic(auto, unfolding(crate::specs::LoadedImages::page_up))]
 pub fn page_up(a: u128) -> u128
     requires { a < 2 ^ 100 }
@@ -56,7 +56,7 @@ fn is_file_header<B: ByteList>(head: &B) -> bool
                 && read_header(head).size as usize == PROGRAM_HEADER))
 }
 
-/// The program headers at an address, where they are all in memory.
+/// The program headers at an address, if all of them are in memory.
 #[tactic(auto, using(crate::proofs::ImageLemmas::headers_past, crate::proofs::ImageLemmas::headers_cut, crate::proofs::ImageLemmas::headers_none, crate::proofs::ImageLemmas::headers_whole))]
 fn read_headers(
     alloc: Global,
@@ -99,7 +99,7 @@ fn top(headers: &[Segment]) -> u128
 }
 
 impl Image {
-    /// Where it ends, in whole pages, if it begins at an address.
+    /// The end of a loaded file in whole pages, if it begins at an address.
     #[tactic(auto, unfolding(crate::specs::LoadedImages::image_end))]
     pub fn end(&self, start: u64) -> u128
         ensures { result ≡ image_end start (image_view self.now) }
@@ -108,7 +108,7 @@ impl Image {
         page_up(end.saturating_sub(page_down(u128::from(self.first))))
     }
 
-    /// Where its first loaded segment stands: the addresses of its symbols are counted from there.
+    /// The address of its first loaded segment in the process; the addresses of its symbols count from there.
     #[tactic(auto, unfolding(crate::specs::LoadedImages::image_base))]
     pub fn base(&self, start: u64) -> u128
         ensures { result ≡ image_base start (image_view self.now) }
@@ -117,7 +117,7 @@ impl Image {
         u128::from(start) + first - page_down(first)
     }
 
-    /// Where a segment of it was loaded, unless that is below address 0.
+    /// Where a segment of a file was loaded, or none if that is below address 0.
     #[tactic(auto, unfolding(crate::specs::LoadedImages::place_of))]
     pub fn place(&self, start: u64, segment: &Segment) -> Option<u128>
         ensures { result ≡ place_of start (image_view self.now) segment.now }
@@ -134,7 +134,7 @@ fn find_load(headers: &[Segment]) -> Option<&Segment>
     headers.iter().find(|s| s.kind == PT_LOAD)
 }
 
-/// The file by its headers, where it has a loaded segment, and its end and its base are addresses.
+/// The file with these headers, if it has a loaded segment and its end and its base are below 2^64.
 fn image_of(start: u64, headers: Vec<Segment>) -> Option<Image>
     ensures image { option_map image_view result ≡ image_by start headers.items (find is_load headers.items) }
     ensures end { IfSome result (λ i. image_end start (image_view i) < 2 ^ 64) }
@@ -154,7 +154,7 @@ fn image_of(start: u64, headers: Vec<Segment>) -> Option<Image>
     }
 }
 
-/// The file that was loaded at an address, where its headers stand there in memory.
+/// The file that was loaded at an address, if its headers are in memory there.
 #[tactic(auto, unfolding(crate::specs::LoadedImages::image_at))]
 pub fn read_image(
     alloc: Global,

@@ -1,23 +1,23 @@
 //! Core files of Linux x86-64: what a process left when it crashed.
 //!
-//! A core is an ELF64 file (System V gABI) whose loaded segments hold the process's memory, and whose notes of the owner `CORE` hold the
-//! states of its threads (NT_PRSTATUS) and the files that it had mapped (NT_FILE), as Linux writes them.
+//! A core is an ELF64 file (System V gABI) whose loaded segments have the process's memory, and whose notes of the owner `CORE` have the states of
+//! its threads (NT_PRSTATUS) and the files that it had mapped (NT_FILE), as Linux writes them.
 //!
-//! [`HeldBytes`] takes the bytes of a file piece by piece and holds them in blocks, but for those that are all zeros. A contract sees it as
-//! the list of all bytes; a stream is refused exactly where it has more than 2^40 bytes, or more than 2^32 in blocks that are held.
+//! [`HeldBytes`] takes the bytes of a file piece by piece and keeps them in blocks, except blocks that are all zeros. A contract sees it as the list
+//! of all bytes; a stream is refused exactly if it has more than 2^40 bytes, or more than 2^32 in blocks that are kept.
 //!
-//! [`read_core`] promises one equation: for the bytes of the file it answers what `specs/Core.antt` gives for them, the first of the faults in
-//! the order of [`CoreFault`], or a [`Core`] with its memory, its threads and its modules. Want of memory is the one other answer. Contracts
-//! see a core as its bytes, its segments, its threads in the order of their notes, and its modules in the order of the mapped files;
-//! [`Core::byte`], [`Core::word`] and [`Core::is_code`] answer what `specs/Memory.antt` and `specs/Code.antt` say of an address. Of segments
-//! that give an address a byte the first counts, and a cut core has the bytes that are in the file.
+//! [`read_core`] promises one equation: for the bytes of the file it returns what `specs/Core.antt` gives for them, the first of the faults in the
+//! order of [`CoreFault`], or a [`Core`] with its memory, its threads and its modules. The only other result is want of memory. Contracts see a core
+//! as its bytes, its segments, its threads in the order of their notes, and its modules in the order of the mapped files. [`Core::byte`],
+//! [`Core::word`] and [`Core::is_code`] return what `specs/Memory.antt` and `specs/Code.antt` say of an address. If several segments give an address
+//! a byte, the first of them counts. A core file that was cut off has the bytes that are in the file.
 //!
-//! A module is a file that was mapped from its begin (`specs/Modules.antt`). Where its own ELF header and program headers stand in memory
-//! (`specs/LoadedImages.antt`), its end, its base and its build id are those that they say; else it ends with its mappings.
+//! A module is a file that was mapped from its begin (`specs/Modules.antt`). If its own ELF header and program headers are in memory
+//! (`specs/LoadedImages.antt`), they give its end, its base and its build id; otherwise it ends with its mappings.
 //!
-//! To read: the files of specs/ in the order of `specs/Lib.antt`. Then `byte_list` (numbers at a place), `blocks` and `held` (the bytes);
-//! `header`, `segments`, `notes`, `threads`, `gather` and `files` (what the file says); `memory` and `front` (what stands at an address);
-//! `images`, `ids`, `names`, `pages`, `code` and `modules` (what was loaded); and `core_read`, which puts them together.
+//! To read: the files of specs/ in the order of `specs/Lib.antt`. Then `byte_list` (numbers at a place), `blocks` and `held` (the bytes); `header`,
+//! `segments`, `notes`, `threads`, `gather` and `files` (what the file says); `memory` and `front` (the bytes at an address); `images`, `ids`,
+//! `names`, `pages`, `code` and `modules` (what was loaded); and `core_read`, which puts them together.
 #![tactic(auto)]
 
 mod blocks;

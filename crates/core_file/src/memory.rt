@@ -74,7 +74,7 @@ fn stretches(
 }
 
 impl<'a> ProcessMemory<'a> {
-    /// The memory that the segments of a file give, found in n log n turns for n segments.
+    /// The memory that the segments of a file give, found in n log n steps for n segments.
     #[tactic(auto, using(crate::proofs::MemoryLemmas::are_firsts))]
     pub fn of(
         alloc: Global,
@@ -126,7 +126,7 @@ impl<'a> ProcessMemory<'a> {
         }
     }
 
-    /// How many addresses from one on have a byte at least, and none where that one has no byte.
+    /// This many addresses from one on have a byte, perhaps more; 0 exactly if this address has no byte.
     #[tactic(auto, using(crate::proofs::MemoryLemmas::found_gives, crate::proofs::MemoryLemmas::none_at, crate::proofs::MemoryLemmas::some_at))]
     pub fn extent(&self, a: u64) -> u64
         ensures none { result ≡ 0 → byte_at self.now a ≡ None }
@@ -150,7 +150,7 @@ fn byte_of(file: &HeldBytes, segment: &Segment, a: u64) -> u8
     file.byte(at as usize)
 }
 
-/// How many addresses from one on a segment gives a byte.
+/// To how many addresses, from this one on, a segment gives a byte.
 #[tactic(auto, using(crate::proofs::MemoryLemmas::gives_low, crate::proofs::MemoryLemmas::gives_end, crate::proofs::MemoryLemmas::gives_more))]
 fn extent_of(file: &HeldBytes, segment: &Segment, a: u64) -> u64
     requires { gives file.now a segment.now ≡ true }

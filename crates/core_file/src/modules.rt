@@ -1,4 +1,4 @@
-//! The modules of a process, by its mapped files and by their own headers in memory.
+//! The modules of a process, given its mapped files and their own headers in memory.
 ghost use Rattle.std.specs.Prelude.{◌≡◌, ℕ, ◌<◌, ◌≤◌, ◌^◌, ◌+◌, ◌++◌, ◌∷◌, [], List, None, Some, length, map, IfOk, OnOk};
 ghost use Rattle.core_file.specs.MappedFiles.{MappedFile};
 ghost use Rattle.core_file.specs.LoadedImages.{image_end, image_base};
@@ -21,7 +21,7 @@ use std::collections::BTreeSet;
 use step_maps::Stretch;
 use sym_edges::{ByteRun, OutOfMemory};
 
-/// A module: its addresses from `start` up to `end`, what its own addresses are counted from, its name, and its build id where it has one.
+/// A module: its addresses from `start` up to `end`, the address from which its own addresses count, its name, and its build id if it has one.
 #[derive(Debug, Drop)]
 pub struct Module {
     pub start: u64,
@@ -47,7 +47,7 @@ pub struct Listing {
     pub code: Vec<Stretch>,
 }
 
-/// The end of the last of the mappings in front that have the text and do not begin their file.
+/// The end of the last mapping in the longest prefix of mappings that have the text and do not begin their file.
 #[tactic(auto, using(crate::proofs::ModuleLemmas::end_more, crate::proofs::ModuleLemmas::end_other, crate::proofs::ModuleLemmas::end_begin, crate::proofs::ModuleLemmas::end_none))]
 fn end_behind(note: &FilePart<'_>, files: &[FilePlace], text: &[u8], end: u64) -> u64
     requires { IsInside (length note.now) files.now }
@@ -149,7 +149,7 @@ fn begins(source: &Source<'_, '_>, file: &FilePlace, listing: &Listing) -> bool
     file.offset == 0 && !listing.pages.contains(&file.start)
 }
 
-/// Adds the modules of the mappings, up to so many.
+/// Adds the modules of the mappings, up to this many.
 #[tactic(auto, using(crate::proofs::ModuleLemmas::listed_begin, crate::proofs::ModuleLemmas::listed_more, crate::proofs::ModuleLemmas::listed_other, crate::proofs::ModuleLemmas::listed_full, crate::proofs::ModuleLemmas::listed_end))]
 pub fn list_modules(
     source: &Source<'_, '_>,

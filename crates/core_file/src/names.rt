@@ -1,4 +1,4 @@
-//! The name of a module, by the name of its file.
+//! The name of a module, given the name of its file.
 ghost use Rattle.std.specs.Prelude.{◌≡◌, IfOk};
 ghost use Rattle.core_file.specs.Modules.{behind_slash, without_deleted, module_name};
 
@@ -22,7 +22,7 @@ fn behind_slash(text: &[u8]) -> &[u8]
     name
 }
 
-/// Without the words of a file that was deleted.
+/// A name without the words of a deleted file.
 #[tactic(auto, unfolding(crate::specs::Modules::without_deleted))]
 fn without_deleted(name: &[u8]) -> &[u8]
     ensures { result.now ≡ without_deleted name.now }

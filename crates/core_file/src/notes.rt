@@ -5,7 +5,7 @@ ghost use Rattle.core_file.specs.internal.NotePlaces.{note_view};
 
 use crate::byte_list::{ByteList, read_u32};
 
-/// Where the parts of a note stand, and what is behind it.
+/// Where the parts of a note are, and what comes after it.
 #[derive(Clone, Copy, Debug)]
 pub struct NotePlace {
     pub name: usize,
@@ -25,7 +25,7 @@ fn padded_len(len: u32) -> u64
     (u64::from(len) + 3) / 4 * 4
 }
 
-/// The note at a place, where it fits.
+/// The note at a place, if it fits.
 #[tactic(auto, using(crate::proofs::NoteLemmas::number_behind, crate::proofs::NoteLemmas::part_behind, crate::proofs::NoteLemmas::rest_behind), unfolding(elf_sections::specs::Notes::has_note, elf_sections::specs::Notes::note_len, elf_sections::specs::Notes::note_at, elf_sections::specs::Notes::after_note))]
 pub fn read_note<B: ByteList>(list: &B, at: usize) -> Option<NotePlace>
     requires { at ≤ length (B.bytes list.now) }

@@ -12,7 +12,7 @@ use crate::segments::Segment;
 use std::collections::BTreeSet;
 use sym_edges::OutOfMemory;
 
-/// The page with which a loaded segment begins, where that segment has the first page of the file in it.
+/// The page at which a loaded segment begins, if the segment has the first page of the file.
 #[tactic(auto, unfolding(crate::specs::Modules::first_page_of))]
 fn first_page(start: u64, image: &Image, segment: &Segment) -> Option<u128>
     ensures { result ≡ first_page_of start (image_view image.now) segment.now }

@@ -5,7 +5,7 @@ use crate::byte_list::ByteList;
 use crate::held::HeldBytes;
 use std::marker::Model;
 
-/// So many bytes of a file from a place on.
+/// This many bytes of a file from a place on.
 #[derive(Debug, Drop)]
 pub struct FilePart<'a> {
     bytes: &'a HeldBytes,
@@ -31,7 +31,7 @@ impl<'a> FilePart<'a> {
         FilePart { bytes, from, size }
     }
 
-    /// So many bytes of these from a place on.
+    /// This many of these bytes from a place on.
     #[tactic(auto, using(crate::proofs::PartLemmas::part_of_part, crate::proofs::PartLemmas::length_part))]
     pub fn part(&self, at: usize, size: usize) -> FilePart<'a>
         requires { at + size ≤ length self.now }

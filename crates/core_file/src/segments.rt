@@ -42,7 +42,7 @@ fn read_segment<B: ByteList>(list: &B, at: usize) -> Segment
     }
 }
 
-/// The first program headers of a table, which lies in the list where it is not empty.
+/// The first program headers of a table. A table that is not empty lies in the list.
 #[tactic(auto, using(crate::proofs::SegmentLemmas::segments_none, crate::proofs::SegmentLemmas::segments_more))]
 pub fn read_segments<B: ByteList>(
     alloc: Global,
@@ -61,7 +61,7 @@ pub fn read_segments<B: ByteList>(
     Ok(segments)
 }
 
-/// Whether it is a segment of notes that leaves the file, or a loaded one whose bytes leave the addresses.
+/// Whether it is a segment of notes that extends past the end of the file, or a loaded one whose bytes extend past the last address.
 #[tactic(auto, unfolding(crate::specs::Segments::is_bad))]
 fn is_bad(file: &HeldBytes, segment: &Segment) -> bool
     ensures { result ≡ is_bad file.now segment.now }

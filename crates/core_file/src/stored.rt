@@ -16,9 +16,9 @@ const PIECE: usize = 65536;
 /// The most bytes that a core file has: 2^40.
 const LIMIT: usize = 0x100_0000_0000;
 
-/// The bytes of the core file of that name, read in pieces. The store is asked for this name alone, at most once.
+/// The bytes of the core file `name`, read in pieces. The store is asked for this name only, at most once.
 ///
-/// `CantOpen` and `CantRead` come only where the store's count of faults rose, and it stands still where anything else comes.
+/// If the result is `CantOpen` or `CantRead`, the store's count of faults rose; otherwise it did not change.
 #[tactic(auto, using(crate::proofs::StoredLemmas::opened_held, crate::proofs::StoredLemmas::steady_behind))]
 pub fn read_held<S: Store>(
     alloc: Global,

@@ -1,4 +1,4 @@
-//! What no contract says: that memory suffices, also for many segments, notes and mappings.
+//! What no contract says: that memory suffices, even for many segments, notes and mappings.
 use crate::byte_list::ByteList;
 use crate::core_read::read_core;
 use crate::held::HeldBytes;
@@ -7,7 +7,7 @@ use std::mem::size_of;
 use std::test::Fail;
 use sym_edges::OutOfMemory;
 
-/// So many zeros.
+/// A list of zeros.
 fn zeros(alloc: Global, count: usize) -> Result<Vec<u8>, OutOfMemory> {
     let bytes = vec![in alloc; 0; count]?;
     Ok(bytes)
@@ -23,7 +23,7 @@ fn put8(bytes: &mut Vec<u8>, n: u64) -> Result<(), OutOfMemory> {
     Ok(())
 }
 
-/// A file header with so many program headers of 56 bytes.
+/// A file header for this many program headers of 56 bytes.
 fn put_header(bytes: &mut Vec<u8>, programs: u16) -> Result<(), OutOfMemory> {
     bytes.extend_from_slice(b"\x7fELF\x02\x01\x01\0\0\0\0\0\0\0\0\0")?;
     put4(bytes, 4 + (62 << 16))?;
@@ -64,7 +64,7 @@ fn put_note(bytes: &mut Vec<u8>, kind: u32, descriptor: &[u8]) -> Result<(), Out
     Ok(())
 }
 
-/// So many states of 336 bytes, and a note of as many mappings, each of a file of its own.
+/// This many states of 336 bytes, and a note of as many mappings, each of another file.
 fn notes(alloc: Global, count: u16) -> Result<Vec<u8>, OutOfMemory> {
     let mut bytes = Vec::new(alloc);
     let state = zeros(alloc, 336)?;
@@ -84,7 +84,7 @@ fn notes(alloc: Global, count: u16) -> Result<Vec<u8>, OutOfMemory> {
     Ok(bytes)
 }
 
-/// A core of one segment of notes and so many loaded ones, which lie over one another.
+/// A core with one segment of notes and this many loaded segments, which overlap.
 fn many(alloc: Global, count: u16) -> Result<Vec<u8>, OutOfMemory> {
     let notes = notes(alloc, count)?;
     let size = notes.len().min(1 << 30) as u64;

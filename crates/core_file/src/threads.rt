@@ -35,7 +35,7 @@ pub struct Thread {
     pub registers: Registers,
 }
 
-/// The registers of a state, as they stand in its `pr_reg`.
+/// The registers in the `pr_reg` of a state.
 #[tactic(auto, unfolding(crate::specs::Threads::registers_of, crate::specs::Threads::register_at))]
 fn read_registers(state: &FilePart<'_>) -> Registers
     requires { 272 ≤ length state.now }
@@ -62,7 +62,7 @@ fn read_registers(state: &FilePart<'_>) -> Registers
     }
 }
 
-/// A thread by its state, a `struct elf_prstatus`.
+/// A thread, given its state, a `struct elf_prstatus`.
 #[tactic(auto, unfolding(crate::specs::Threads::thread_of))]
 pub fn read_thread(state: &FilePart<'_>) -> Thread
     requires { 272 ≤ length state.now }

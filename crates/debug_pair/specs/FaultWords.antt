@@ -1,11 +1,11 @@
--- The words by which faults of a pair, and of a supplementary file, are printed.
+-- The words that are printed for the faults of a pair and of a supplementary file.
 use Rattle.std.specs.Prelude.{ℕ, List, codes}
 use Rattle.debug_pair.specs.declared.fault.PairFault.{PairFault}
 use Rattle.debug_pair.specs.declared.fault.PairFault.TheVariants.{NoBuildId, BuildId}
 use Rattle.debug_pair.specs.declared.fault.SupFault.{SupFault}
 use Rattle.debug_pair.specs.declared.fault.SupFault.TheVariants as sup
 
--- the word of a fault
+-- the word of a fault of a pair
 abbrev pub pair_word : PairFault → List ℕ
 pair_word NoBuildId = codes "no-build-id"
 pair_word BuildId = codes "build-id"

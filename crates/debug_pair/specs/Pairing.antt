@@ -1,4 +1,4 @@
--- When two files are a stripped binary and its debug file: both have a build id, and these are the same.
+-- Two files are a stripped binary and its debug file if both have a build id and the two ids are equal.
 use Rattle.std.specs.Prelude.{ℕ, List, Option, Some, None, Result, Ok, Err}
 use Rattle.std.specs.Str.{bytes_eq}
 use Rattle.sym_edges.specs.Results.{unless}
@@ -7,7 +7,7 @@ use Rattle.elf_sections.specs.Pair.{paired}
 use Rattle.debug_pair.specs.declared.fault.PairFault.{PairFault}
 use Rattle.debug_pair.specs.declared.fault.PairFault.TheVariants.{NoBuildId, BuildId}
 
--- why the two ids make no pair
+-- why two build ids make no pair
 abbrev pub pair_fault : Option (List ℕ) → Option (List ℕ) → Option PairFault
 pair_fault None debug = Some NoBuildId
 pair_fault (Some id) None = Some NoBuildId

@@ -1,4 +1,4 @@
--- A link, and the fields of a `.debug_sup`, as they are handed out.
+-- A link, and the fields of a `.debug_sup`, as the specs see them.
 use Rattle.std.specs.Prelude.{ℕ, List}
 use Rattle.debug_pair.specs.SupLink.{SupLink}
 use Rattle.debug_pair.specs.declared.sup_link.SupLink as code

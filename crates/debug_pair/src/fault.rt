@@ -1,4 +1,4 @@
-//! Why two files are no pair, a build id leads to no path, or a file's supplementary file cannot be read with it.
+//! Why two files are no pair, why a build id gives no path, and why a file is not read with its supplementary file.
 ghost use Rattle.std.specs.Prelude.{◌≡◌};
 ghost use Rattle.debug_pair.specs.declared.fault.SupFault.TheVariants.{Link};
 
@@ -47,9 +47,9 @@ impl ShortId {
 /// Why a file is not read with the supplementary file to which it links.
 #[derive(Clone, Copy, Debug, PartialEq, Eq)]
 pub enum SupFault {
-    /// The section that links to it has not all its parts, or leads nowhere.
+    /// The section with the link lacks a part, or the link leads nowhere.
     Link,
-    /// The file there has another id, or none.
+    /// The file at that path has another id, or none.
     BuildId,
 }
 

@@ -9,7 +9,7 @@ ghost use Rattle.debug_pair.specs.ModuleId.{turned, module_id};
 use std::alloc::Global;
 use sym_edges::OutOfMemory;
 
-/// The identity of a build by its id: the id's first 16 bytes, padded with zeros.
+/// The identity of a build, given its id: the id's first 16 bytes, padded with zeros.
 #[tactic(auto, using(elf_sections::proofs::IdentityLemmas::front16_is))]
 pub fn build_identity(id: &[u8]) -> [u8; 16]
     ensures { result ≡ front16 id.now }
@@ -30,7 +30,7 @@ pub fn hex_text(alloc: Global, bytes: &[u8]) -> Result<Vec<u8>, OutOfMemory>
     Ok(hex::encode_upper(alloc, bytes)?.into_bytes())
 }
 
-/// The identity as a GUID is written.
+/// The identity in the byte order in which a GUID is written.
 #[tactic(auto, unfolding(crate::specs::ModuleId::turned))]
 fn turn_identity(id: [u8; 16]) -> [u8; 16]
     ensures { result ≡ turned id }
@@ -41,7 +41,7 @@ fn turn_identity(id: [u8; 16]) -> [u8; 16]
     ]
 }
 
-/// The id by which MODULE names an identity: 33 hexadecimal digits, of which the last is the age 0.
+/// The id of an identity in MODULE: 33 hexadecimal digits, of which the last is the age 0.
 #[tactic(auto, using(crate::proofs::IdentityLemmas::age_digit), unfolding(crate::specs::ModuleId::module_id))]
 pub fn make_id(alloc: Global, identity: [u8; 16]) -> Result<Vec<u8>, OutOfMemory>
     ensures text { IfOk result (λ v. v.items ≡ module_id identity) }

@@ -1,13 +1,13 @@
-//! What belongs to a binary: its separate debug file by the build id (GDB manual, "Debugging Information in Separate Files"), the
-//! supplementary file to which either links (DWARF 5, 7.3.6), and its symbol file (Breakpad's symbol_files.md).
+//! What belongs to a binary: its separate debug file, found by the build id (GDB manual, "Debugging Information in Separate Files"); the
+//! supplementary file to which either links (DWARF 5, 7.3.6); and its symbol file (Breakpad's symbol_files.md).
 //!
-//! [`pair`] answers the image of both where they are of one build: both have a build id, and the ids are the same in all their bytes.
-//! [`debug_path`] says where the debug file of a build lies below a root, as distributions lay them out. [`make_id`] is the id by which a
-//! symbol file names a build in MODULE, by the identity of 16 bytes, which [`build_identity`] gives for a build id; [`symbol_path`] says where
-//! that symbol file lies in a store.
+//! [`pair`] returns the image of both files if they are of one build: both have a build id, and the two ids are equal. [`debug_path`] gives the path
+//! of the debug file of a build below a root directory, as distributions lay them out. [`make_id`] gives the id that a symbol file has in MODULE,
+//! given the build's identity of 16 bytes; [`build_identity`] gives that identity for a build id. [`symbol_path`] gives the path of the symbol file
+//! in a store.
 //!
-//! [`find_sup_link`] reads to which supplementary file an image links, [`sup_path`] says where that lies, and [`is_linked`] whether a file is
-//! the one that is meant.
+//! [`find_sup_link`] reads to which supplementary file an image links, [`sup_path`] gives the path of that file, and [`is_linked`] says whether a
+//! file is the one that the link means.
 #![tactic(auto)]
 
 mod fault;

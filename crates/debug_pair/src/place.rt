@@ -1,4 +1,4 @@
-//! Where a debug file lies below a root, by the build id.
+//! The path of a debug file below a root directory, given the build id.
 ghost use Rattle.std.specs.Prelude.{◌≡◌, ◌++◌, Some, None, IfOk, codes};
 ghost use Rattle.std.specs.String.{string_bytes};
 ghost use Rattle.hex.specs.Hex.{encode_lower};
@@ -9,7 +9,7 @@ use crate::fault::ShortId;
 use std::alloc::{AllocError, Global};
 use sym_edges::Stop;
 
-/// The path of a file below a root, by both parts of a build id.
+/// The path of a file below a root, given both parts of a build id.
 #[tactic(auto, using(crate::proofs::PathLemmas::joined))]
 fn join_path(alloc: Global, root: &str, first: &[u8], rest: &[u8]) -> Result<String, AllocError>
     ensures { IfOk result (λ path. string_bytes path

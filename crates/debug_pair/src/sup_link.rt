@@ -17,12 +17,12 @@ const LINKS: u8 = 0;
 
 const IS_SUPPLEMENTARY: u8 = 1;
 
-/// Where a supplementary file is said to be, and the id that it has.
+/// The path of a supplementary file, and its id, as a link gives them.
 #[derive(Clone, Copy, Debug)]
 pub struct SupLink<'a> {
     pub path: &'a str,
     pub id: &'a [u8],
-    /// Whether the id is its build id, else the one in its `.debug_sup`.
+    /// Whether the id is its build id; if not, it is the one in its `.debug_sup`.
     pub by_build_id: bool,
 }
 
@@ -40,7 +40,7 @@ fn cursor_over(bytes: &[u8]) -> Cursor<'_>
     Cursor::new(bytes, 0, bytes.len())
 }
 
-/// Whether the version is 5 and the second field is this one.
+/// Whether the version is 5 and the second field is `kind`.
 #[tactic(auto, unfolding(crate::specs::SupLink::sup_front_at))]
 fn read_front(kind: u8, cursor: &mut Cursor<'_>) -> Result<bool, SupFault>
     ensures { gave result cursor.new ≡ sup_front_at kind cursor.old }
@@ -50,7 +50,7 @@ fn read_front(kind: u8, cursor: &mut Cursor<'_>) -> Result<bool, SupFault>
     Ok(version == 5 && is_supplementary == kind)
 }
 
-/// The name and the id behind the first two fields.
+/// The name and the id after the first two fields.
 #[tactic(auto, unfolding(crate::specs::SupLink::sup_name_at))]
 fn read_name<'a>(cursor: &mut Cursor<'a>) -> Result<SupFields<'a>, SupFault>
     ensures { MatchResult result (λ fields. sup_name_at cursor.old ≡ Ok (fields_view fields)) (λ fault. sup_name_at cursor.old ≡ Err fault) }
@@ -61,7 +61,7 @@ fn read_name<'a>(cursor: &mut Cursor<'a>) -> Result<SupFields<'a>, SupFault>
     Ok(SupFields { name, id })
 }
 
-/// The name and the id of a `.debug_sup` of version 5 whose second field is this one.
+/// The name and the id of a `.debug_sup` of version 5 whose second field is `kind`.
 #[tactic(auto, unfolding(crate::specs::SupLink::sup_fields))]
 fn read_fields(kind: u8, bytes: &[u8]) -> Result<Option<SupFields<'_>>, SupFault>
     ensures { MatchResult result
@@ -75,7 +75,7 @@ fn read_fields(kind: u8, bytes: &[u8]) -> Result<Option<SupFields<'_>>, SupFault
     Ok(Some(fields))
 }
 
-/// A link by its parts, where it has a path, which is a text, and an id.
+/// A link with these parts, if it has a path in UTF-8 and an id.
 #[tactic(auto, using(crate::proofs::LinkLemmas::text_path, crate::proofs::LinkLemmas::no_text), unfolding(crate::specs::SupLink::checked))]
 fn check_link<'a>(path: &'a [u8], id: &'a [u8], by_build_id: bool) -> Result<SupLink<'a>, SupFault>
     ensures { MatchResult result
@@ -132,7 +132,7 @@ fn read_debug_sup<'a>(section: LinkSection<'a>) -> Result<Option<SupLink<'a>>, S
     }
 }
 
-/// Where the supplementary file of an image is said to be, by the first of its two sections that is there.
+/// The link of an image to its supplementary file, in the first of the two sections that is there.
 #[tactic(auto, unfolding(crate::specs::SupLink::sup_link))]
 pub fn find_sup_link<'a>(image: &Image<'a>) -> Result<Option<SupLink<'a>>, SupFault>
     ensures exact { MatchResult result
@@ -162,7 +162,7 @@ fn own_id<'a>(section: LinkSection<'a>) -> Option<&'a [u8]>
     }
 }
 
-/// Whether a file is the supplementary file that a link means: whether it has that id.
+/// Whether a file is the supplementary file that a link means: whether it has the id of the link.
 #[tactic(auto, unfolding(crate::specs::SupLink::is_of_link))]
 pub fn is_linked(link: &SupLink<'_>, sup: &Image<'_>) -> bool
     ensures exact { result ≡ is_of_link (sup_link_view link.now) sup.now }

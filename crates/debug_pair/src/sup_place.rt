@@ -1,4 +1,4 @@
-//! Where the supplementary file of a file lies.
+//! The path of a supplementary file.
 ghost use Rattle.std.specs.Prelude.{◌≡◌, ◌++◌, ◌<◌, Some, None, IfOk, length, codes};
 ghost use Rattle.std.specs.Option.{option_copied};
 ghost use Rattle.std.specs.String.{string_bytes};
@@ -10,7 +10,7 @@ use crate::fault::SupFault;
 use std::alloc::{AllocError, Global};
 use sym_edges::Stop;
 
-/// What stands in a text before the last place of a part.
+/// The part of a text before the last `part`.
 fn before_last<'t>(text: &'t str, part: &str) -> Option<&'t str>
     requires { 0 < length part.now }
     ensures { option_copied result ≡ before_last part.now text.now }
@@ -21,7 +21,7 @@ fn before_last<'t>(text: &'t str, part: &str) -> Option<&'t str>
     }
 }
 
-/// What stands in a text behind the last place of a part.
+/// The part of a text after the last `part`.
 fn behind_last<'t>(text: &'t str, part: &str) -> Option<&'t str>
     requires { 0 < length part.now }
     ensures { option_copied result ≡ behind_last part.now text.now }
@@ -52,7 +52,7 @@ fn has_parent(alloc: Global, path: &str) -> Result<bool, AllocError>
     Ok(before_last(closed.as_str(), "/../").is_some())
 }
 
-/// The directory of debug files: the root that is given, or the one in which the name of a file says that it is.
+/// The directory of debug files: the given root, or else the one in which a file lies according to its name.
 fn debug_root<'t>(root: Option<&'t str>, name: &'t str) -> Option<&'t str>
     ensures { option_copied result ≡ debug_root (option_copied root.entry) name.now }
 {
@@ -77,7 +77,7 @@ fn path_below(alloc: Global, root: &str, path: &str) -> Result<String, Stop<SupF
     Ok(join(alloc, root, "/.dwz/", rest)?)
 }
 
-/// The path as it is, or from the folder of the file of that name on.
+/// The path as it is, or relative to the folder of the file `name`.
 #[tactic(auto, unfolding(crate::specs::SupPath::path_beside))]
 fn path_beside(alloc: Global, name: &str, path: &str) -> Result<String, AllocError>
     ensures { IfOk result (λ found. string_bytes found ≡ path_beside name.now path.now) }
@@ -91,8 +91,8 @@ fn path_beside(alloc: Global, name: &str, path: &str) -> Result<String, AllocErr
     }
 }
 
-/// The path of the supplementary file to which the file of a name links by this path: below a root of debug files where one is given or
-/// the name has one, else beside the file. The fault is `Link`.
+/// The path of the supplementary file to which the file `name` links by `path`: below a root of debug files if one is given or the name has one, else
+/// relative to the folder of the file. The fault is `Link`.
 #[tactic(auto, unfolding(crate::specs::SupPath::sup_path))]
 pub fn sup_path(
     alloc: Global,

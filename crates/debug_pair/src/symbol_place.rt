@@ -1,4 +1,4 @@
-//! Where the symbol file of a module lies in a store.
+//! The path of the symbol file of a module in a store.
 ghost use Rattle.std.specs.Prelude.{◌≡◌, ◌++◌, IfOk, codes};
 ghost use Rattle.std.specs.String.{string_bytes};
 ghost use Rattle.debug_pair.specs.SymbolPath.{symbol_path};
@@ -7,7 +7,7 @@ use crate::identity::id_text;
 use std::alloc::{AllocError, Global};
 use sym_edges::OutOfMemory;
 
-/// The path of a file in a store, by the parts of it.
+/// The path of a file in a store, given its parts.
 #[tactic(auto, using(crate::proofs::PathLemmas::joined_eight))]
 fn join_parts(alloc: Global, store: &str, name: &str, id: &str) -> Result<String, AllocError>
     ensures { IfOk result (λ path. string_bytes path
@@ -24,7 +24,7 @@ fn join_parts(alloc: Global, store: &str, name: &str, id: &str) -> Result<String
     Ok(path)
 }
 
-/// The path of the symbol file of a module in a store, by the module's name and its identity: `STORE/NAME/ID/NAME.sym`, with the ID of MODULE.
+/// The path of the symbol file of a module in a store, given the module's name and its identity: `STORE/NAME/ID/NAME.sym`, with the ID of MODULE.
 #[tactic(auto, unfolding(crate::specs::SymbolPath::symbol_path))]
 pub fn symbol_path(
     alloc: Global,

@@ -1,8 +1,8 @@
--- The numbers of ELF-64 files, by the names of the standards in lower case (System V gABI, chapters 4 and 5; the AMD64
--- supplement for the machine; the GNU extensions where it is said).
+-- The numbers of ELF-64 files, under their standard names in lower case: of the System V gABI, chapters 4 and 5; of its AMD64 supplement for the
+-- machine; and of the GNU extensions where a comment names them.
 use Rattle.std.specs.Prelude.{ℕ}
 
--- places in e_ident, and what stands there: 64-bit objects, with the lowest byte of a number first
+-- two places in e_ident, each with a value for it: 64-bit objects, and numbers with the lowest byte first
 abbrev pub ei_class : ℕ
 ei_class = 4
 
@@ -26,7 +26,7 @@ et_dyn = 3
 abbrev pub em_x86_64 : ℕ
 em_x86_64 = 62
 
--- special section indices: undefined, and the first that is reserved
+-- special section indices: the undefined one, and the first reserved one
 abbrev pub shn_undef : ℕ
 shn_undef = 0
 
@@ -52,7 +52,7 @@ sht_nobits = 8
 abbrev pub sht_dynsym : ℕ
 sht_dynsym = 11
 
--- sh_flags: memory during execution, machine instructions, compressed
+-- sh_flags: occupies memory during execution, contains machine instructions, is compressed
 abbrev pub shf_alloc : ℕ
 shf_alloc = 0x2
 
@@ -66,18 +66,18 @@ shf_compressed = 0x800
 abbrev pub pt_load : ℕ
 pt_load = 1
 
--- the type of a note with a build id, by the owner GNU (GNU extensions)
+-- the type of a note with a build id, whose owner is GNU (GNU extensions)
 abbrev pub nt_gnu_build_id : ℕ
 nt_gnu_build_id = 3
 
--- the type of a symbol, in the low four bits of st_info: a function, and one that is found by a call (GNU extensions)
+-- symbol types, in the low four bits of st_info: a function, and a function whose address is found by a call (GNU extensions)
 abbrev pub stt_func : ℕ
 stt_func = 2
 
 abbrev pub stt_gnu_ifunc : ℕ
 stt_gnu_ifunc = 10
 
--- the bytes of an Elf64_Ehdr, an Elf64_Shdr, an Elf64_Phdr and an Elf64_Sym
+-- the sizes in bytes of an Elf64_Ehdr, an Elf64_Shdr, an Elf64_Phdr and an Elf64_Sym
 abbrev pub file_header_size : ℕ
 file_header_size = 64
 

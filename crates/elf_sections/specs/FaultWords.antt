@@ -1,9 +1,9 @@
--- The words by which faults of an image are printed.
+-- The words printed for the faults of an image.
 use Rattle.std.specs.Prelude.{ℕ, List, ◌++◌, Option, Some, None, codes, decimal}
 use Rattle.elf_sections.specs.declared.fault.ElfFault.{ElfFault}
 use Rattle.elf_sections.specs.declared.fault.ElfFault.TheVariants.{NotElf, Class, Order, Machine, Kind, SectionTable, SectionNames, SectionBytes, Compressed, ProgramTable, SymbolTable, NoIdentity, InflatedTooLong, Inflate}
 
--- the word of an image fault
+-- the word of a fault, for some with the index of a section
 abbrev pub fault_word : ElfFault → List ℕ
 fault_word NotElf = codes "not-elf"
 fault_word Class = codes "class"
@@ -20,7 +20,7 @@ fault_word NoIdentity = codes "no-identity"
 fault_word InflatedTooLong = codes "inflated-too-long"
 fault_word (Inflate index) = codes "inflate " ++ decimal index
 
--- a word and the number after it, where there is one
+-- a word, and the number after it if there is one
 abbrev pub joined_word : List ℕ → Option ℕ → List ℕ
 joined_word word None = word
 joined_word word (Some index) = word ++ decimal index

@@ -39,32 +39,33 @@ machine_of file = u16_at file 18
 abbrev pub magic : List ℕ
 magic = 0x7f ∷ 0x45 ∷ 0x4c ∷ 0x46 ∷ []
 
--- it has no file header
+-- the file is shorter than a file header, or does not begin with the magic bytes
 unfoldable pub is_not_elf : List ℕ → Bool
 is_not_elf file = nat_lt (length file) file_header_size || not (bytes_eq (take 4 file) magic)
 
--- it is neither an executable nor a shared object
+-- the file is neither an executable nor a shared object
 unfoldable pub is_other_kind : List ℕ → Bool
 is_other_kind file = not (type_of file == et_exec || type_of file == et_dyn)
 
--- a section header table of whole headers, not empty and not too long, lies in a file of that length
+-- the section header table lies within `len` bytes, at an offset above 0; it has at least one and fewer than `shn_loreserve` headers, of 64 bytes
+-- each
 unfoldable pub has_sections : FileHeader → ℕ → Bool
 has_sections header len =
     (nat_lt 0 header.section_table && (nat_lt 0 header.section_count && nat_lt header.section_count shn_loreserve))
     && ((header.section_size == section_header_size) && nat_le (header.section_table + section_header_size * header.section_count) len)
 
--- the first fault of the header before the type of the file
+-- the first fault of the header that is looked for before the file's type
 unfoldable pub machine_fault : List ℕ → Option ElfFault
 machine_fault file = fault_if (is_not_elf file) NotElf
     (fault_if (not (slice_index file ei_class == elfclass64)) Class
     (fault_if (not (slice_index file ei_data == elfdata2lsb)) Order
     (fault_if (not (machine_of file == em_x86_64)) Machine None)))
 
--- the first fault of the header before its tables
+-- the first fault of the header, without that of its tables
 unfoldable pub ident_fault : List ℕ → Option ElfFault
 ident_fault file = option_or (machine_fault file) (fault_if (is_other_kind file) Kind None)
 
--- there is no section header table
+-- the fault of a file without a section header table
 unfoldable pub section_table_fault : List ℕ → Option ElfFault
 section_table_fault file = fault_if (not (has_sections (header_of file) (length file))) SectionTable None
 
@@ -72,6 +73,6 @@ section_table_fault file = fault_if (not (has_sections (header_of file) (length 
 unfoldable pub header_fault : List ℕ → Option ElfFault
 header_fault file = option_or (ident_fault file) (section_table_fault file)
 
--- the first fault of the file header of a supplementary file, which may be of any type: it is mostly relocatable
+-- the first fault of the header of a supplementary file, which may be of any type; most are relocatable
 unfoldable pub sup_header_fault : List ℕ → Option ElfFault
 sup_header_fault file = option_or (machine_fault file) (section_table_fault file)

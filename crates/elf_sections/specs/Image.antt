@@ -1,4 +1,4 @@
--- The image of a file, and the first of its twelve faults.
+-- The image of a file, or the first of its twelve possible faults.
 use Rattle.std.specs.Prelude.{ℕ, ◌==◌, ◌&&◌, List, [], Option, Some, None, Result, Ok, Err, length, find, is_none, codes}
 use Rattle.sym_edges.specs.Addresses.{Range}
 use Rattle.sym_edges.specs.declared.part.Part.{Part}
@@ -22,16 +22,16 @@ pub record SectionPart : Type 0 where
   pub bytes : List ℕ
   pub address : ℕ
 
--- a part as it is handed out
+-- a part, as the specs see it
 abbrev pub part_view : Part → SectionPart
 part_view p = record { bytes = p.bytes.now; address = p.address }
 
--- the part of a section, or the empty one at address 0
+-- the bytes and the address of a section; without a section, no bytes and address 0
 abbrev pub part_of : List ℕ → Option SectionHeader → SectionPart
 part_of file None = record { bytes = []; address = 0 }
 part_of file (Some s) = record { bytes = bytes_of file s; address = s.address }
 
--- the first section of that name
+-- the first section with this name
 unfoldable pub part_named : List ℕ → List ℕ → SectionPart
 part_named file name = part_of file (find (is_named (names file) name) (sections file))
 
@@ -50,20 +50,20 @@ name_of DebugFrame = codes ".debug_frame"
 name_of EhFrame = codes ".eh_frame"
 name_of Text = codes ".text"
 
--- the bytes of `.text` from which a file without a build id takes its identity
+-- how many bytes of `.text` give the identity of a file without a build id
 abbrev pub identity_bytes : ℕ
 identity_bytes = 4096
 
--- the identity: the front of the build id, or else of the code
+-- the identity: the first 16 bytes of the build id, or without a build id the exclusive or of the first bytes of `.text`
 abbrev pub identity_of : List ℕ → Option (List ℕ) → List ℕ
 identity_of text None = folded identity_bytes text
 identity_of text (Some id) = front16 id
 
--- there is neither a build id nor code to take an identity from
+-- the fault `NoIdentity`, if the file has no build id and no bytes of `.text`
 unfoldable pub identity_fault : List ℕ → Option ElfFault
 identity_fault file = fault_if (is_none (build_id file) && (length (part_named file (name_of Text)).bytes == 0)) NoIdentity None
 
--- the first fault behind those of the sections: of the program headers, the symbols and the identity
+-- the first of the faults that come after those of the sections: of the program headers, the symbols and the identity
 unfoldable pub loaded_fault : List ℕ → Option ElfFault
 loaded_fault file = option_or (program_fault file) (option_or (symbols_fault file) (identity_fault file))
 
@@ -85,8 +85,8 @@ pub record DebugSections : Type 0 where
   pub rnglists : SectionPart
   pub debug_frame : SectionPart
 
--- what an image is: its sections by name, base, code, build id, identity and function symbols, and what belongs to a supplementary file:
--- the sections by which it leads to one or is one, and the sections of the one that was read with it
+-- an image: its sections by name, its base, code, build id, identity and function symbols; the two sections that link to a supplementary file or
+-- identify the file as one (`altlink`, `debug_sup`); and the sections of the supplementary file that was read with it (`sup`)
 pub record ImageParts : Type 0 where
   pub info : SectionPart
   pub abbrevs : SectionPart
@@ -109,7 +109,7 @@ pub record ImageParts : Type 0 where
   pub debug_sup : LinkPart
   pub sup : Option DebugSections
 
--- the parts of a file
+-- the parts of the image of a file
 unfoldable pub parts_of : List ℕ → ImageParts
 parts_of file = record {
   info = part_named file (name_of Info);
@@ -142,7 +142,7 @@ image_by (Some fault) parts = Err fault
 unfoldable pub image : List ℕ → Result ImageParts ElfFault
 image file = image_by (image_fault file) (parts_of file)
 
--- the same image with these sections in place of its own
+-- the same image with these sections of debugging information in place of its own
 unfoldable pub with_sections : DebugSections → ImageParts → ImageParts
 with_sections debug i = record {
   info = debug.info;

@@ -1,4 +1,4 @@
--- No public clause cites this: what the code keeps of a file and of a string table while it reads.
+-- What the code keeps of a file and of a string table while it reads. No public clause cites it.
 use Rattle.std.specs.Prelude.{◌≡◌, ℕ, ◌+◌, ◌*◌, ◌/◌, ◌^◌, ◌<◌, ◌==◌, true, List, None, length, drop, slice_index}
 use Rattle.std.specs.List.{position_or_len}
 use Rattle.std.specs.declared.cmp.Ordering.{Ordering}
@@ -18,19 +18,19 @@ pub record AreTables (file : List ℕ) (header : FileHeader) (list : List Sectio
   pub table_is : table ≡ names file
   pub few : length list < 2 ^ 16
 
--- the order of runs: by their offsets, then by their sizes
+-- the order of runs of bytes: by offset, then by size
 abbrev pub run_cmp : ℕ × ℕ → ℕ × ℕ → Ordering
 run_cmp x y = ordering_then (nat_cmp x.0 y.0) (nat_cmp x.1 y.1)
 
--- no section of notes with the offset and the size of a run in the set has a build id
+-- if the set has the offset and the size of a section of notes, that section has no build id
 abbrev pub GaveNone : List ℕ → BTreeSet (ℕ × ℕ) → Type 0
 GaveNone file runs = (s : SectionHeader) → s.kind ≡ sht_note → contains run_cmp runs (s.offset, s.size) ≡ true → first_id (notes_of file s) ≡ None
 
--- the place of the first zero byte from a place on, or the table's end
+-- the place of the first zero byte at or after a place, or the table's end
 unfoldable pub string_end : List ℕ → ℕ → ℕ
 string_end table at = at + position_or_len (λ b. b == 0) (drop at table)
 
--- the ends at the starts of all blocks that begin in the table
+-- for the start of each block, the place of the first zero byte from there on, or the table's end
 pub record AreEnds (table : List ℕ) (block : ℕ) (ends : List ℕ) : Type 0 where
   pub some : 0 < block
   pub count : length ends ≡ length table / block + 1

@@ -18,15 +18,15 @@ pub record NoteParts : Type 0 where
 unfoldable pub padded : ℕ → ℕ
 padded n = (n + 3) / 4 * 4
 
--- the bytes of a note: three numbers, the name with its padding, and the descriptor, whose padding may be missing
+-- the length of a note up to the end of its descriptor: three numbers, the padded name, and the descriptor, whose padding may be missing
 unfoldable pub note_len : List ℕ → ℕ
 note_len bytes = 12 + padded (u32_at bytes 0) + u32_at bytes 4
 
--- a note stands in front of the bytes
+-- the bytes begin with a whole note
 unfoldable pub has_note : List ℕ → Bool
 has_note bytes = nat_le 12 (length bytes) && nat_le (note_len bytes) (length bytes)
 
--- the note in front of the bytes
+-- the note at the start of the bytes
 unfoldable pub note_at : List ℕ → NoteParts
 note_at bytes = record {
   name = take (u32_at bytes 0) (drop 12 bytes);
@@ -34,17 +34,17 @@ note_at bytes = record {
   descriptor = take (u32_at bytes 4) (drop (12 + padded (u32_at bytes 0)) bytes);
 }
 
--- what stands after the note in front
+-- the bytes after the first note
 unfoldable pub after_note : List ℕ → List ℕ
 after_note bytes = drop (12 + padded (u32_at bytes 0) + padded (u32_at bytes 4)) bytes
 
--- the notes in front of the bytes, `n` at most; one that does not fit ends them
+-- the notes at the start of the bytes, `n` at most; a note that does not fit ends them
 unfoldable pub notes_in : ℕ → List ℕ → List NoteParts
 notes_in zero bytes = []
 notes_in (suc n) bytes = if has_note bytes then note_at bytes ∷ notes_in n (after_note bytes) else []
 
--- the notes of a section; each has some bytes, so there are no more notes than bytes (`find_id` ensures that they are the
--- note in front, and the notes after it)
+-- the notes of a section. Each note has some bytes, so there are no more notes than bytes. (`find_id` ensures that they are the first note, and the
+-- notes after it.)
 unfoldable pub notes : List ℕ → List NoteParts
 notes bytes = notes_in (length bytes) bytes
 
@@ -57,10 +57,10 @@ is_build_id note = bytes_eq note.name (codes "GNU\0")
 unfoldable pub first_id : List NoteParts → Option (List ℕ)
 first_id found = option_map (λ note. note.descriptor) (find is_build_id found)
 
--- the notes of a section, where it is a section of notes
+-- the notes of a section, if it is a section of notes
 unfoldable pub notes_of : List ℕ → SectionHeader → List NoteParts
 notes_of file s = if s.kind == sht_note then notes (bytes_of file s) else []
 
--- the first build id over the sections of notes, in their order
+-- the first build id in the sections of notes, in the order of the sections
 unfoldable pub build_id : List ℕ → Option (List ℕ)
 build_id file = first_id (flat_map (notes_of file) (sections file))

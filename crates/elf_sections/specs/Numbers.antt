@@ -1,4 +1,4 @@
--- Numbers at a place of a file, the lowest byte first (System V gABI, ELFDATA2LSB).
+-- Numbers at a place of a file, with the lowest byte first (System V gABI, ELFDATA2LSB).
 use Rattle.std.specs.Prelude.{ℕ, List, drop}
 use Rattle.leb_cursor.specs.Readings.{fixed_sum}
 

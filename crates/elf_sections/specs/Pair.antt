@@ -6,7 +6,7 @@ use Rattle.elf_sections.specs.Programs.{is_in_code}
 use Rattle.elf_sections.specs.Symbols.{SymbolParts}
 use Rattle.elf_sections.specs.Image.{ImageParts}
 
--- the symbols of the debug file where it has one, else those of the binary
+-- the symbols of the debug file if it has any, else those of the binary
 abbrev pub first_symbols : List SymbolParts → List SymbolParts → List SymbolParts
 first_symbols binary [] = binary
 first_symbols binary (s ∷ debug) = s ∷ debug
@@ -15,8 +15,8 @@ first_symbols binary (s ∷ debug) = s ∷ debug
 unfoldable pub symbols_in : List Range → List SymbolParts → List SymbolParts
 symbols_in ranges found = filter (λ s. is_in_code ranges s.address) found
 
--- what is loaded and what names the build are the binary's, all other sections the debug file's, which has no bytes for loaded
--- sections; the symbols are those of either at addresses in the binary's code
+-- the image of both files. The loaded sections, the base, the code and the ids are those of the binary, since the debug file has no bytes for loaded
+-- sections. All other sections are those of the debug file. The symbols are those of one file (`first_symbols`), at addresses in the binary's code
 unfoldable pub paired : ImageParts → ImageParts → ImageParts
 paired binary debug = record {
   info = debug.info;

@@ -23,12 +23,12 @@ program_at file at = record {
   address = u64_at file (at + 16);
 }
 
--- a program header table of whole headers, which may be empty, lies in a file of that length
+-- the program header table is empty, or it has headers of 56 bytes and lies within a file of `len` bytes
 unfoldable pub has_programs : FileHeader → ℕ → Bool
 has_programs header len = (header.program_count == 0)
     || ((header.program_size == program_header_size) && nat_le (header.program_table + program_header_size * header.program_count) len)
 
--- the program header table leaves the file, or its headers have another size
+-- the fault `ProgramTable`, if the table is not empty and either extends past the end of the file or has headers of another size
 unfoldable pub program_fault : List ℕ → Option ElfFault
 program_fault file = fault_if (not (has_programs (header_of file) (length file))) ProgramTable None
 
@@ -40,7 +40,7 @@ programs_from file table first count = map (λ k. program_at file (table + progr
 unfoldable pub programs : List ℕ → List ProgramHeader
 programs file = programs_from file (header_of file).program_table 0 (header_of file).program_count
 
--- the address of the first loaded segment, or 0
+-- the address of the first loaded segment, or 0 if there is none
 unfoldable pub loaded_address : List ProgramHeader → ℕ
 loaded_address all = option_map_or (λ p. p.address) (find (λ p. p.kind == pt_load) all) 0
 
@@ -48,12 +48,12 @@ loaded_address all = option_map_or (λ p. p.address) (find (λ p. p.kind == pt_l
 unfoldable pub base : List ℕ → ℕ
 base file = loaded_address (programs file)
 
--- the section is loaded code, not empty, at or above the base, and its end is an address
+-- the section is loaded and has machine instructions; it is not empty, starts at or above the base `low`, and ends below 2^64
 unfoldable pub is_code : ℕ → SectionHeader → Bool
 is_code low s = (has_flag shf_alloc s && has_flag shf_execinstr s)
     && (nat_lt 0 s.size && (nat_le low s.address && nat_lt (s.address + s.size) (2 ^ 64)))
 
--- the addresses of a section of code
+-- the addresses of a section, if it is code
 unfoldable pub code_range : ℕ → SectionHeader → Option Range
 code_range low s = if is_code low s then Some (record { start = s.address; end = s.address + s.size }) else None
 

@@ -38,31 +38,31 @@ sections_from file table count = map (λ k. section_at file (table + section_hea
 unfoldable pub sections : List ℕ → List SectionHeader
 sections file = sections_from file (header_of file).section_table (header_of file).section_count
 
--- a section whose type says that the file has no bytes for it
+-- the type of the section says that the file has no bytes for it
 unfoldable pub is_empty_kind : SectionHeader → Bool
 is_empty_kind s = s.kind == sht_null || s.kind == sht_nobits
 
--- the bytes of a section, or none where they leave the file
+-- the bytes of a section, or `None` if they extend past the end of the file
 unfoldable pub content : List ℕ → SectionHeader → Option (List ℕ)
 content file s = if is_empty_kind s then Some [] else
     if nat_le (s.offset + s.size) (length file) then Some (take s.size (drop s.offset file)) else None
 
--- the bytes of a section that does not leave the file
+-- the same bytes, or no bytes
 unfoldable pub bytes_of : List ℕ → SectionHeader → List ℕ
 bytes_of file s = unwrap_or (content file s) []
 
--- the section that holds the sections' names, where there is one in the file
+-- the bytes of the section with the names of all sections, if the file has it
 unfoldable pub name_table : List ℕ → Option (List ℕ)
 name_table file = option_and_then (content file) (slice_get (sections file) (header_of file).names_index)
 
 unfoldable pub names : List ℕ → List ℕ
 names file = unwrap_or (name_table file) []
 
--- the section has that name: at its place stand the name and a zero
+-- the section has this name: the table of names has it at the section's place, followed by a zero byte
 unfoldable pub is_named : List ℕ → List ℕ → SectionHeader → Bool
 is_named table name s = starts_with nat_eq (drop s.name table) (name ++ 0 ∷ [])
 
--- the section's name begins so
+-- the name of the section begins with `front`
 unfoldable pub is_named_from : List ℕ → List ℕ → SectionHeader → Bool
 is_named_from table front s = starts_with nat_eq (drop s.name table) front
 
@@ -72,35 +72,35 @@ read_names = codes ".debug_info" ∷ codes ".debug_abbrev" ∷ codes ".debug_lin
     ∷ codes ".debug_str_offsets" ∷ codes ".debug_addr" ∷ codes ".debug_ranges" ∷ codes ".debug_rnglists"
     ∷ codes ".debug_frame" ∷ codes ".eh_frame" ∷ codes ".text" ∷ []
 
--- the section is read for its type
+-- the section is read because of its type
 unfoldable pub is_read_kind : SectionHeader → Bool
 is_read_kind s = s.kind == sht_symtab || (s.kind == sht_dynsym || (s.kind == sht_strtab || s.kind == sht_note))
 
--- the section is read, for its type or its name
+-- the section is read, because of its type or its name
 unfoldable pub is_read : List ℕ → SectionHeader → Bool
 is_read table s = is_read_kind s || list_any (λ name. is_named table name s) read_names
 
--- the section has a flag
+-- the section has this flag
 abbrev pub has_flag : ℕ → SectionHeader → Bool
 has_flag flag s = not (bit_and s.flags flag == 0)
 
--- a section that is read and leaves the file
+-- the section is read, and its bytes extend past the end of the file
 unfoldable pub leaves_file : List ℕ → List ℕ → SectionHeader → Bool
 leaves_file file table s = is_read table s && is_none (content file s)
 
--- a section that is compressed: read and flagged, or named so
+-- the section is compressed: it is read and has the flag, or its name begins with `.zdebug_`
 unfoldable pub is_compressed : List ℕ → SectionHeader → Bool
 is_compressed table s = (is_read table s && has_flag shf_compressed s) || is_named_from table (codes ".zdebug_") s
 
--- there is no table of names, or a section's name is not zero-ended inside it
+-- there is no table of names, or some section's name does not end with a zero byte inside the table
 unfoldable pub names_fault : List ℕ → Option ElfFault
 names_fault file = fault_if
     (is_none (name_table file) || list_any (λ s. is_none (string_at (names file) s.name)) (sections file)) SectionNames None
 
--- the lowest section that is read and leaves the file
+-- the fault of the first section that is read and extends past the end of the file
 unfoldable pub bytes_fault : List ℕ → Option ElfFault
 bytes_fault file = option_map SectionBytes (position (leaves_file file (names file)) (sections file))
 
--- the lowest section that is compressed
+-- the fault of the first section that is compressed
 unfoldable pub compressed_fault : List ℕ → Option ElfFault
 compressed_fault file = option_map Compressed (position (is_compressed (names file)) (sections file))

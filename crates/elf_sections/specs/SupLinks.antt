@@ -1,5 +1,5 @@
--- The sections by which a file leads to its supplementary file, and by which that file says what it is (DWARF 5, 7.3.6;
--- `.gnu_debugaltlink` is the GNU extension that came before it).
+-- The sections that link a file to its supplementary file, or identify a file as a supplementary one (DWARF 5, 7.3.6; `.gnu_debugaltlink` is an older
+-- GNU extension).
 use Rattle.std.specs.Prelude.{ℕ, ◌==◌, ◌||◌, List, Option, Some, None, find, codes, if◌then◌else◌}
 use Rattle.elf_sections.specs.Sections.{sections, names, is_named, has_flag, content}
 use Rattle.elf_sections.specs.ElfNumbers.{sht_nobits, shf_compressed}
@@ -7,15 +7,15 @@ use Rattle.elf_sections.specs.declared.section.SectionHeader.{SectionHeader}
 use Rattle.elf_sections.specs.declared.links.LinkSection.{LinkSection}
 use Rattle.elf_sections.specs.declared.links.LinkSection.TheVariants as code
 
--- what such a section holds
+-- the content of such a section
 pub data LinkPart : Type 0 where
-  -- there is no section of the name
+  -- there is no section with this name
   Missing : LinkPart
-  -- it is compressed, has no bytes in the file, or leaves the file
+  -- the section is compressed, has no bytes in the file, or extends past the end of the file
   Unreadable : LinkPart
   Held : (bytes : List ℕ) → LinkPart
 
--- the content as it is handed out
+-- the content, as the specs see it
 abbrev pub link_view : LinkSection → LinkPart
 link_view code.Missing = Missing
 link_view code.Unreadable = Unreadable
@@ -31,11 +31,11 @@ abbrev pub held : Option (List ℕ) → LinkPart
 held None = Unreadable
 held (Some bytes) = Held bytes
 
--- the content of a section, where there is one
+-- the content of a section, if there is one
 abbrev pub link_of : List ℕ → Option SectionHeader → LinkPart
 link_of file None = Missing
 link_of file (Some s) = if has_flag shf_compressed s || s.kind == sht_nobits then Unreadable else held (content file s)
 
--- the content of the first section of that name
+-- the content of the first section with this name
 unfoldable pub link_section : List ℕ → List ℕ → LinkPart
 link_section file name = link_of file (find (is_named (names file) name) (sections file))

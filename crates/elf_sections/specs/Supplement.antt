@@ -21,6 +21,6 @@ debug_sections_of i = record {
   debug_frame = i.debug_frame;
 }
 
--- the same image, read together with that of its supplementary file
+-- the same image, with the sections of debugging information of its supplementary file
 unfoldable pub with_sup : ImageParts → ImageParts → ImageParts
 with_sup i sup = record i { sup = Some (debug_sections_of sup) }

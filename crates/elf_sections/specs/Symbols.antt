@@ -32,19 +32,19 @@ symbol_at table at = record {
 unfoldable pub entries_of : List ℕ → ℕ → List SymbolEntry
 entries_of table count = map (λ k. symbol_at table (symbol_size * k)) (range_with_len 0 count)
 
--- the symbols of a table; bytes after the last whole one are no symbol
+-- the symbols of a table; bytes after the last whole symbol are ignored
 unfoldable pub entries : List ℕ → List SymbolEntry
 entries table = entries_of table (length table / symbol_size)
 
--- a function in code: a function by its type, defined in some section, at an address in code
+-- the symbol is a function in code: it has the type of a function, is defined in some section, and has an address in code
 unfoldable pub is_function : List Range → SymbolEntry → Bool
 is_function ranges e = (e.info % 16 == stt_func || e.info % 16 == stt_gnu_ifunc) && (not (e.section == shn_undef) && is_in_code ranges e.value)
 
--- the first symbol table, else the first table of dynamic symbols
+-- the first symbol table, or if there is none the first table of dynamic symbols
 unfoldable pub symbol_table : List SectionHeader → Option SectionHeader
 symbol_table all = option_or (find (λ s. s.kind == sht_symtab) all) (find (λ s. s.kind == sht_dynsym) all)
 
--- the section of texts that a symbol table links to
+-- the string table to which a symbol table links
 unfoldable pub linked : List SectionHeader → SectionHeader → Option SectionHeader
 linked all table = option_and_then (λ s. if s.kind == sht_strtab then Some s else None) (slice_get all table.link)
 
@@ -53,25 +53,25 @@ pub record SymbolParts : Type 0 where
   pub address : ℕ
   pub name : List ℕ
 
--- a symbol as it is handed out
+-- a symbol, as the specs see it
 abbrev pub symbol_view : Symbol → SymbolParts
 symbol_view s = record { address = s.address; name = s.name.now }
 
--- a function whose name is not zero-ended
+-- the symbol is a function in code without a zero-ended name
 unfoldable pub is_nameless : List Range → List ℕ → SymbolEntry → Bool
 is_nameless ranges strings e = is_function ranges e && is_none (string_at strings e.name)
 
--- a symbol of that name, where the name is not empty
+-- a symbol with this address and this name, if there is a name and it is not empty
 abbrev pub named_symbol : ℕ → Option (List ℕ) → Option SymbolParts
 named_symbol address None = None
 named_symbol address (Some []) = None
 named_symbol address (Some (b ∷ text)) = Some (record { address = address; name = b ∷ text })
 
--- the function symbol of an entry, where it is one
+-- the function symbol of an entry, if the entry is a function in code with a name
 unfoldable pub function_of : List Range → List ℕ → SymbolEntry → Option SymbolParts
 function_of ranges strings e = if is_function ranges e then named_symbol e.value (string_at strings e.name) else None
 
--- some function's name is not zero-ended
+-- some function has no zero-ended name
 unfoldable pub has_nameless : List Range → List ℕ → List SymbolEntry → Bool
 has_nameless ranges strings found = list_any (is_nameless ranges strings) found
 
@@ -79,7 +79,7 @@ has_nameless ranges strings found = list_any (is_nameless ranges strings) found
 unfoldable pub functions : List Range → List ℕ → List SymbolEntry → List SymbolParts
 functions ranges strings found = filter_map (function_of ranges strings) found
 
--- a symbol table's faults and function symbols, over what its link names
+-- the fault and the function symbols of a symbol table, given the string table to which it links
 abbrev pub linked_fault : List ℕ → List ℕ → Option SectionHeader → Option ElfFault
 linked_fault file table None = Some SymbolTable
 linked_fault file table (Some s) = fault_if (has_nameless (code file) (bytes_of file s) (entries table)) SymbolTable None
@@ -88,7 +88,7 @@ abbrev pub linked_symbols : List ℕ → List ℕ → Option SectionHeader → L
 linked_symbols file table None = []
 linked_symbols file table (Some s) = functions (code file) (bytes_of file s) (entries table)
 
--- no symbol table is no fault, and has no symbols
+-- the fault and the function symbols of a file, given its symbol table if it has one
 abbrev pub table_fault : List ℕ → Option SectionHeader → Option ElfFault
 table_fault file None = None
 table_fault file (Some table) = linked_fault file (bytes_of file table) (linked (sections file) table)
@@ -97,7 +97,7 @@ abbrev pub table_symbols : List ℕ → Option SectionHeader → List SymbolPart
 table_symbols file None = []
 table_symbols file (Some table) = linked_symbols file (bytes_of file table) (linked (sections file) table)
 
--- the symbol table links to no table of texts, or a function's name is not zero-ended
+-- the symbol table links to no string table, or some function has no zero-ended name
 unfoldable pub symbols_fault : List ℕ → Option ElfFault
 symbols_fault file = table_fault file (symbol_table (sections file))
 

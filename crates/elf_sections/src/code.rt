@@ -19,7 +19,7 @@ fn is_code_section(base: u64, section: &SectionHeader) -> bool
             && (base <= section.address && section.size <= u64::MAX - section.address))
 }
 
-/// The addresses of a section, where it is code.
+/// The addresses of a section, if it is code.
 #[tactic(auto, unfolding(crate::specs::Programs::code_range, crate::specs::Programs::is_code))]
 fn span_of(base: u64, section: &SectionHeader) -> Option<Span>
     ensures { result ≡ code_range base section.now }

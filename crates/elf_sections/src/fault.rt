@@ -1,7 +1,7 @@
 //! Why a file has no image.
 use thiserror::Error;
 
-/// Why a file is no image that is read, in the order in which faults are looked for.
+/// Why a file has no image, in the order in which faults are looked for.
 #[derive(Clone, Copy, Debug, PartialEq, Eq, Error)]
 pub enum ElfFault {
     #[error("not an ELF file")]
@@ -28,10 +28,10 @@ pub enum ElfFault {
     SymbolTable,
     #[error("neither a build id nor code to take an identity from")]
     NoIdentity,
-    /// Only where compressed sections are read: they have more bytes than a file may have.
+    /// Only if compressed sections are read: they inflate to more bytes than a file may have.
     #[error("the compressed sections are too long")]
     InflatedTooLong,
-    /// Only where compressed sections are read: its streams are bad.
+    /// Only if compressed sections are read: the data of this section is bad.
     #[error("section {index} cannot be inflated")]
     Inflate { index: u32 },
 }
@@ -40,7 +40,7 @@ impl ElfFault {
     ghost use Rattle.std.specs.Prelude.{◌≡◌};
     ghost use Rattle.elf_sections.specs.FaultWords.{fault_word, joined_word};
 
-    /// The fault as it is printed: a word, and after it the number of a section where there is one.
+    /// The fault as it is printed: a word, and after it the number of a section if there is one.
     pub fn word(self) -> (&'static [u8], Option<u32>)
         ensures { fault_word self ≡ joined_word result.0.now result.1 }
     {

@@ -44,7 +44,7 @@ pub fn read_header(file: &[u8]) -> Result<FileHeader, ElfFault>
     header_with_sections(file)
 }
 
-/// The file header of a supplementary file: as `read_header`, of any type of file.
+/// The file header of a supplementary file: as `read_header`, for a file of any type.
 #[tactic(auto, unfolding(crate::specs::FileHeader::sup_header_fault))]
 pub fn read_sup_header(file: &[u8]) -> Result<FileHeader, ElfFault>
     ensures read { MatchResult result

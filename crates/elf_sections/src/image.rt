@@ -120,7 +120,7 @@ impl<'a> Image<'a> {
         }
     }
 
-    /// The same image with what its segments, its code and its symbols say.
+    /// The same image with this base, code, identity and symbols.
     pub(crate) fn with_loaded(
         mut self,
         base: u64,
@@ -138,7 +138,7 @@ impl<'a> Image<'a> {
         self
     }
 
-    /// The same image, read together with that of its supplementary file.
+    /// The same image with the sections of its supplementary file.
     #[tactic(auto, unfolding(crate::specs::Supplement::with_sup))]
     pub fn with_sup(mut self, sup: &Image<'a>) -> Image<'a>
         ensures { result ≡ with_sup self.entry sup.now }
@@ -165,7 +165,7 @@ impl<'a> Image<'a> {
         }
     }
 
-    /// The bytes and the address of a section: the first of that name, or no bytes at address 0.
+    /// The bytes and the address of the first section with this name, or no bytes at address 0.
     pub fn section(&self, which: Sect) -> Part<'a>
         ensures { part_view result ≡ section_of self.now which }
     {
@@ -208,7 +208,7 @@ impl<'a> Image<'a> {
         self.build_id
     }
 
-    /// The front of the build id, or else the exclusive or of the front of `.text`.
+    /// The first 16 bytes of the build id, or without one the exclusive or of the first bytes of `.text`.
     pub fn identity(&self) -> [u8; 16]
         ensures { result ≡ self.now.identity }
     {
@@ -222,14 +222,14 @@ impl<'a> Image<'a> {
         self.symbols.as_slice()
     }
 
-    /// The content of `.gnu_debugaltlink`, by which the file leads to its supplementary file (a GNU extension).
+    /// The content of `.gnu_debugaltlink`, which links to the supplementary file (a GNU extension).
     pub fn altlink(&self) -> LinkSection<'a>
         ensures { link_view result ≡ self.now.altlink }
     {
         self.altlink
     }
 
-    /// The content of `.debug_sup`, by which the file leads to its supplementary file, or says that it is one (DWARF 5, 7.3.6).
+    /// The content of `.debug_sup`, which links to the supplementary file, or says that this file is one (DWARF 5, 7.3.6).
     pub fn debug_sup(&self) -> LinkSection<'a>
         ensures { link_view result ≡ self.now.debug_sup }
     {

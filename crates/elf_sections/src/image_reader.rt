@@ -45,7 +45,7 @@ fn ended_name(which: Sect) -> &'static [u8]
     }
 }
 
-/// The first section of that name.
+/// The first section with this name.
 #[tactic(auto, unfolding(crate::specs::Image::part_named, crate::specs::Sections::is_named, crate::specs::Sections::bytes_of))]
 fn find_part<'a>(tables: &Tables<'a>, which: Sect) -> Part<'a>
     ensures { part_view result ≡ part_named tables.now (name_of which) }
@@ -62,7 +62,7 @@ fn find_part<'a>(tables: &Tables<'a>, which: Sect) -> Part<'a>
     }
 }
 
-/// The function symbols of a file, or its fault where its symbol table cannot be read.
+/// The function symbols of a file, or its fault if its symbol table cannot be read.
 #[tactic(auto, unfolding(crate::specs::Symbols::symbols, crate::specs::Symbols::symbols_fault, crate::specs::Symbols::entries, crate::specs::Sections::bytes_of))]
 fn find_symbols<'a>(
     alloc: Global,
@@ -105,8 +105,8 @@ fn find_identity(text: &[u8], build_id: Option<&[u8]>) -> Option<[u8; 16]>
     }
 }
 
-/// The image of a supplementary file, as far as none of its sections is compressed: its sections by name, its build id, and the sections
-/// by which it says what it is.
+/// The image of a supplementary file, in which compressed sections are not inflated: its sections by name, its build id, and the sections that
+/// identify it as one.
 #[tactic(auto, unfolding(crate::specs::Supplement::sup_parts_of, crate::specs::Image::parts_of, crate::specs::Notes::build_id))]
 pub fn read_sup_parts<'a>(alloc: Global, tables: &Tables<'a>) -> Result<Image<'a>, OutOfMemory>
     ensures { IfOk result (λ i. i ≡ sup_parts_of tables.now) }
@@ -136,8 +136,7 @@ pub fn read_sup_parts<'a>(alloc: Global, tables: &Tables<'a>) -> Result<Image<'a
     })
 }
 
-/// The image of a file whose sections have no fault, as far as none of them is compressed: its first fault behind those of the
-/// sections, or its parts.
+/// The image of a file whose sections have no fault, or its first fault after those of the sections. Compressed sections are not inflated.
 #[tactic(auto, unfolding(crate::specs::Image::loaded_fault, crate::specs::Image::parts_of, crate::specs::Supplement::sup_parts_of, crate::specs::Image::identity_fault, crate::specs::Programs::code, crate::specs::Notes::build_id))]
 pub fn read_loaded<'a>(alloc: Global, tables: &Tables<'a>) -> Result<Image<'a>, Stop<ElfFault>>
     ensures read { MatchStop result

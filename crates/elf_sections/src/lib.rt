@@ -1,15 +1,15 @@
 //! The image of an ELF64 x86-64 file: its sections, base, code, build id, identity and function symbols.
 //!
-//! `read_image` reads the file header, the section and program header tables, the notes and the symbol table (System V
-//! ABI, ELF64; LSB notes). It refuses a file exactly with the first of twelve faults, in the order of `ElfFault`, and
-//! else answers an `Image`, each part of which is chosen from the list of all headers by a condition. `Image::with_debug` puts
-//! the image of a stripped binary together with that of its separate debug file.
+//! `read_image` reads the file header, the section and program header tables, the notes and the symbol table (System V ABI, ELF64; LSB notes). If a
+//! file has any of twelve faults, it is refused with the first of them, in the order of `ElfFault`. Otherwise the result is an `Image`, each part of
+//! which is chosen from the list of all headers by a condition. `Image::with_debug` joins the image of a stripped binary and that of its separate
+//! debug file.
 //!
-//! What a reader of compressed sections needs is public too: the [`Tables`] of a file, [`read_loaded`], which reads all but the sections
-//! of debugging information, and [`Image::with_sections`], which puts these in.
+//! What a reader of compressed sections needs is public too: the [`Tables`] of a file; [`read_loaded`], which reads all but the sections of debugging
+//! information; and [`Image::with_sections`], which adds these sections.
 //!
-//! A file may share entries and strings with other files in a supplementary file (DWARF 5, 7.3.6). The image keeps the sections by which it
-//! leads to that file, [`read_sup_tables`] and [`read_sup_parts`] read the file, and [`Image::with_sup`] puts its sections into the image.
+//! A file may share entries and strings with other files in a supplementary file (DWARF 5, 7.3.6). The image keeps the sections that link to that
+//! file. [`read_sup_tables`] and [`read_sup_parts`] read the file, and [`Image::with_sup`] adds its sections to the image.
 #![tactic(auto)]
 
 mod code;

@@ -1,4 +1,4 @@
-//! The sections by which a file leads to its supplementary file (DWARF 5, 7.3.6; GNU's `.gnu_debugaltlink`).
+//! The sections that link a file to its supplementary file (DWARF 5, 7.3.6; GNU's `.gnu_debugaltlink`).
 ghost use Rattle.std.specs.Prelude.{◌≡◌, find, drop, nat_eq};
 ghost use Rattle.std.specs.List.{starts_with};
 ghost use Rattle.elf_sections.specs.Sections.{sections, names};
@@ -8,17 +8,17 @@ use crate::constants::{SHF_COMPRESSED, SHT_NOBITS};
 use crate::section::{find_named, read_content};
 use crate::tables::Tables;
 
-/// The content of `.gnu_debugaltlink` or `.debug_sup`: of the first section of that name.
+/// The content of the first section named `.gnu_debugaltlink` or of the first named `.debug_sup`.
 #[derive(Clone, Copy, Debug)]
 pub enum LinkSection<'a> {
-    /// There is none.
+    /// There is no such section.
     Missing,
-    /// It is compressed, has no bytes in the file (`SHT_NOBITS`), or leaves the file.
+    /// It is compressed, has no bytes in the file (`SHT_NOBITS`), or extends past the end of the file.
     Unreadable,
     Held(&'a [u8]),
 }
 
-/// The content of the first section whose name is this zero-ended one.
+/// The content of the first section with this zero-ended name.
 fn read_link<'a>(tables: &Tables<'a>, ended: &[u8]) -> LinkSection<'a>
     ensures { link_view result ≡ link_of tables.now
         (find (λ s. starts_with nat_eq (drop s.name (names tables.now)) ended.now) (sections tables.now)) }

@@ -14,7 +14,7 @@ use crate::section::{SectionHeader, read_content};
 use std::alloc::{AllocError, Global};
 use std::collections::BTreeSet;
 
-/// A note in front of some bytes, and what stands after it.
+/// A note at the start of some bytes, and the bytes after it.
 #[derive(Clone, Copy)]
 struct Note<'a> {
     name: &'a [u8],
@@ -32,7 +32,7 @@ fn padded_len(len: u32) -> u64
     (u64::from(len) + 3) / 4 * 4
 }
 
-/// What stands after the first `len` bytes, or nothing where there are fewer.
+/// The bytes after the first `len` bytes, or nothing if there are fewer.
 fn behind(bytes: &[u8], len: u64) -> &[u8]
     ensures { result.now ≡ drop len bytes.now }
 {
@@ -43,7 +43,7 @@ fn behind(bytes: &[u8], len: u64) -> &[u8]
     }
 }
 
-/// The note in front of the bytes, where it fits.
+/// The note at the start of the bytes, if it fits.
 #[tactic(auto, unfolding(crate::specs::Notes::has_note, crate::specs::Notes::note_len, crate::specs::Notes::note_at, crate::specs::Notes::after_note))]
 fn read_note(bytes: &[u8]) -> Option<Note<'_>>
     ensures { MatchOption result (has_note bytes.now ≡ false)
@@ -100,7 +100,7 @@ fn find_id(bytes: &[u8]) -> Option<&[u8]>
     None
 }
 
-/// The build id of one section, where it is a section of notes.
+/// The build id of one section, if it is a section of notes.
 #[tactic(auto, unfolding(crate::specs::Sections::bytes_of, crate::specs::Notes::notes_of, crate::specs::Notes::first_id, crate::specs::Notes::notes, crate::specs::Notes::notes_in))]
 fn id_in<'a>(file: &'a [u8], section: &SectionHeader) -> Option<&'a [u8]>
     ensures first { option_copied result ≡ first_id (notes_of file.now section.now) }
@@ -115,7 +115,7 @@ fn id_in<'a>(file: &'a [u8], section: &SectionHeader) -> Option<&'a [u8]>
     }
 }
 
-/// The build id of one section, as `id_in`. The bytes of a run that gave none before are not walked again.
+/// The build id of one section, as in `id_in`. A run of bytes that had no build id before is not walked again.
 #[tactic(auto, using(crate::proofs::WalkedLemmas::no_notes, crate::proofs::WalkedLemmas::none_again, crate::proofs::WalkedLemmas::gave_none_more))]
 fn id_unless_walked<'a>(
     file: &'a [u8],
@@ -143,7 +143,7 @@ fn id_unless_walked<'a>(
     }
 }
 
-/// The first build id over the sections of notes, in their order.
+/// The first build id in the sections of notes, in the order of the sections.
 pub fn find_build_id<'a>(
     alloc: Global,
     file: &'a [u8],

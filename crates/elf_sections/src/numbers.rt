@@ -1,4 +1,4 @@
-//! Numbers of fixed width at a place, the lowest byte first.
+//! Numbers of fixed width at a place, with the lowest byte first.
 ghost use Rattle.std.specs.Prelude.{◌≡◌, ◌+◌, ◌≤◌, length};
 ghost use Rattle.elf_sections.specs.Numbers.{u16_at, u32_at, u64_at};
 

@@ -62,7 +62,7 @@ fn program_table_fits(header: &FileHeader, len: usize) -> bool
             ))
 }
 
-/// The base of a file, or its fault where its program header table cannot be read.
+/// The base of a file, or its fault if its program header table cannot be read.
 #[tactic(auto, unfolding(crate::specs::Programs::program_fault, crate::specs::Programs::base, crate::specs::Programs::has_programs, crate::specs::Programs::programs))]
 pub fn read_base(tables: &Tables<'_>) -> Result<u64, ElfFault>
     ensures { MatchResult result

@@ -46,7 +46,7 @@ pub fn read_section(file: &[u8], at: usize) -> SectionHeader
     }
 }
 
-/// The bytes of a section, or none where they leave the file.
+/// The bytes of a section, or none if they extend past the end of the file.
 #[tactic(auto, unfolding(crate::specs::Sections::content, crate::specs::Sections::is_empty_kind))]
 pub fn read_content<'a>(file: &'a [u8], section: &SectionHeader) -> Option<&'a [u8]>
     ensures { option_copied result ≡ content file.now section.now }
@@ -63,7 +63,7 @@ pub fn read_content<'a>(file: &'a [u8], section: &SectionHeader) -> Option<&'a [
     }
 }
 
-/// Whether the bytes at a place of the table of names begin so.
+/// Whether `front` is in the table of names at this place.
 pub fn begins(table: &[u8], at: u32, front: &[u8]) -> bool
     ensures { result ≡ starts_with nat_eq (drop at table.now) front.now }
 {
@@ -76,7 +76,7 @@ pub fn begins(table: &[u8], at: u32, front: &[u8]) -> bool
     }
 }
 
-/// The first section whose name is this zero-ended one.
+/// The first section with this zero-ended name.
 pub fn find_named<'s>(
     sections: &'s [SectionHeader],
     names: &[u8],
@@ -97,7 +97,7 @@ fn is_read_for_kind(section: &SectionHeader) -> bool
     kind == SHT_SYMTAB || (kind == SHT_DYNSYM || (kind == SHT_STRTAB || kind == SHT_NOTE))
 }
 
-/// Whether the section is read, for its type or its name.
+/// Whether the section is read, because of its type or its name.
 #[tactic(auto, unfolding(crate::specs::Sections::is_read, crate::specs::Sections::is_named))]
 pub fn is_section_read(table: &[u8], section: &SectionHeader) -> bool
     ensures { result ≡ is_read table.now section.now }

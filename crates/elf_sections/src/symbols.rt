@@ -20,7 +20,7 @@ use range_set::{RangeSet, of_ranges};
 use std::alloc::{AllocError, Global};
 use sym_edges::{OutOfMemory, Span};
 
-/// A function in code, by the symbol table: its ELF address, and its name as it stands in the file.
+/// A function in code, from the symbol table: its ELF address, and its name as the file has it.
 #[derive(Clone, Copy, Debug)]
 pub struct Symbol<'a> {
     pub address: u64,
@@ -69,7 +69,7 @@ fn first_of_kind(sections: &[SectionHeader], kind: u32) -> Option<&SectionHeader
     sections.iter().find(|section| section.kind == kind)
 }
 
-/// The first symbol table, else the first table of dynamic symbols.
+/// The first symbol table, or if there is none the first table of dynamic symbols.
 #[tactic(auto, unfolding(crate::specs::Symbols::symbol_table))]
 pub fn find_symbol_table(sections: &[SectionHeader]) -> Option<&SectionHeader>
     ensures { option_copied result ≡ symbol_table sections.now }
@@ -100,7 +100,7 @@ pub fn find_linked<'s>(
     }
 }
 
-/// What an entry is: a function without a zero-ended name, no function symbol, or one.
+/// What an entry is: a function without a zero-ended name, no function symbol, or a function symbol.
 enum Found<'a> {
     Nameless,
     Other,
@@ -124,7 +124,7 @@ fn classify<'a>(code: &RangeSet, strings: &StringTable<'a>, entry: &SymbolEntry)
     }
 }
 
-/// The function symbols of a table by the set of all addresses in code, or none where a function's name is not zero-ended.
+/// The function symbols of a table, given the set of all addresses in code; none if some function has no zero-ended name.
 #[tactic(auto, using(crate::proofs::SymbolLemmas::reading_begins, crate::proofs::SymbolLemmas::reading_other, crate::proofs::SymbolLemmas::reading_found, crate::proofs::SymbolLemmas::reading_nameless))]
 fn read_symbols<'a>(
     alloc: Global,
@@ -147,7 +147,7 @@ fn read_symbols<'a>(
     Ok(Some(symbols))
 }
 
-/// The function symbols of a table, in its order, or none where a function's name is not zero-ended.
+/// The function symbols of a table, in its order; none if some function has no zero-ended name.
 #[tactic(auto, using(crate::proofs::CodeLemmas::same_reading))]
 pub fn read_functions<'a>(
     alloc: Global,

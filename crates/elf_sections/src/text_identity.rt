@@ -2,7 +2,7 @@
 ghost use Rattle.std.specs.Prelude.{◌≡◌, ◌≤◌, length};
 ghost use Rattle.elf_sections.specs.Identity.{folded, front16, folded_byte};
 
-/// The exclusive or of the groups of 16 bytes of the first `limit` bytes.
+/// The exclusive or of all groups of 16 bytes among the first `limit` bytes.
 #[tactic(auto, using(crate::proofs::IdentityLemmas::folded_is))]
 pub fn fold_text(text: &[u8], limit: usize) -> [u8; 16]
     ensures { result ≡ folded limit text.now }

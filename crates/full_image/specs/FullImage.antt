@@ -1,4 +1,4 @@
--- The image of a file whose sections of debugging information may be compressed: that of `elf_sections` with these changes.
+-- The image of a file whose sections of debugging information may be compressed: the image of `elf_sections`, with these changes.
 use Rattle.std.specs.Prelude.{ℕ, ◌^◌, ◌&&◌, Bool, true, false, List, [], Option, Some, None, Result, map, find, position, is_none, nat_lt, unwrap_or, if◌then◌else◌}
 use Rattle.std.specs.List.{sum_by}
 use Rattle.std.specs.Option.{option_map, option_or}
@@ -15,21 +15,21 @@ use Rattle.elf_sections.specs.declared.fault.ElfFault.{ElfFault}
 use Rattle.elf_sections.specs.declared.fault.ElfFault.TheVariants.{SectionBytes, Compressed, InflatedTooLong, Inflate}
 use Rattle.full_image.specs.Compressed.{Stream, is_called, is_packed, is_read_full, stream_in, stream_of}
 
--- a section that is read and leaves the file
+-- the section is read, and its bytes extend past the end of the file
 unfoldable pub is_cut : List ℕ → List ℕ → SectionHeader → Bool
 is_cut file table s = is_read_full table s && is_none (content file s)
 
--- a section that is compressed and not inflated: one of debugging information without data that zlib compressed, or another one with the flag
+-- the section is compressed and not inflated: one of debugging information without zlib data, or another one that is read and has the flag
 unfoldable pub is_refused : List ℕ → List ℕ → SectionHeader → Bool
 is_refused file table s = if is_packed table s then is_none (stream_in file s) else is_read table s && has_flag shf_compressed s
 
--- the first fault of the sections: the lowest that leaves the file, else the lowest that is not inflated
+-- the first fault of the sections: the first section that extends past the end of the file, else the first that is compressed and not inflated
 unfoldable pub sections_fault : List ℕ → Option ElfFault
 sections_fault file = option_or
     (option_map SectionBytes (position (is_cut file (names file)) (sections file)))
     (option_map Compressed (position (is_refused file (names file)) (sections file)))
 
--- the data of each section that is compressed
+-- the compressed data of each section, for those that are compressed
 unfoldable pub streams : List ℕ → List (Option Stream)
 streams file = map (stream_of file (names file)) (sections file)
 
@@ -37,29 +37,29 @@ abbrev pub size_of : Option Stream → ℕ
 size_of None = 0
 size_of (Some s) = s.size
 
--- together they give more bytes than a file may have
+-- all data together inflates to more bytes than a file may have
 unfoldable pub are_too_long : List (Option Stream) → Bool
 are_too_long all = nat_lt (2 ^ 29) (sum_by size_of all)
 
--- what the data gives, or none where it is bad; a section that is not compressed gives nothing
+-- what the data inflates to, or `None` if the data is bad; a section that is not compressed gives no bytes
 unfoldable pub outcome_of : Option Stream → Option (List ℕ)
 outcome_of None = Some []
 outcome_of (Some s) = inflated s.bytes s.size
 
--- the lowest section whose data is bad
+-- the fault of the first section whose data is bad
 abbrev pub inflate_fault : List (Option (List ℕ)) → Option ElfFault
 inflate_fault outcomes = option_map Inflate (position is_none outcomes)
 
--- the bytes of a section
+-- the bytes of a section, inflated if it is compressed
 unfoldable pub full_bytes : List ℕ → SectionHeader → List ℕ
 full_bytes file s = if is_packed (names file) s then unwrap_or (outcome_of (stream_in file s)) [] else bytes_of file s
 
--- the part of a section, or the empty one at address 0
+-- the bytes and the address of a section; without a section, no bytes and address 0
 abbrev pub full_part_of : List ℕ → Option SectionHeader → SectionPart
 full_part_of file None = record { bytes = []; address = 0 }
 full_part_of file (Some s) = record { bytes = full_bytes file s; address = s.address }
 
--- the first section of that name, in either spelling
+-- the first section with this name, in either spelling
 unfoldable pub full_part : List ℕ → Sect → SectionPart
 full_part file which = full_part_of file (find (is_called (names file) which) (sections file))
 
@@ -78,7 +78,7 @@ full_sections file = record {
   debug_frame = full_part file DebugFrame;
 }
 
--- the first fault: the twelve of an image in their order; then that the sections give too much, or that the data of one is bad
+-- the first fault: the twelve of an image in their order; then that the sections inflate to too many bytes; then that the data of one is bad
 unfoldable pub full_fault : List ℕ → Option ElfFault
 full_fault file = option_or (header_fault file) (option_or (names_fault file) (option_or (sections_fault file) (option_or (loaded_fault file)
     (option_or (fault_if (are_too_long (streams file)) InflatedTooLong None) (inflate_fault (map outcome_of (streams file)))))))
@@ -87,7 +87,7 @@ full_fault file = option_or (header_fault file) (option_or (names_fault file) (o
 unfoldable pub full_image : List ℕ → Result ImageParts ElfFault
 full_image file = image_by (full_fault file) (with_sections (full_sections file) (parts_of file))
 
--- the image of a file, whose compressed sections are inflated or refused
+-- the image of a file; its compressed sections are inflated if this is true, and else refused
 abbrev pub any_image : Bool → List ℕ → Result ImageParts ElfFault
 any_image true file = full_image file
 any_image false file = image file
@@ -97,7 +97,7 @@ pub record Packed : Type 0 where
   pub full : Bool
   pub file : List ℕ
 
--- what the data of each section gives, where they are inflated
+-- the data of each section, and what it inflates to; both lists are empty if compressed sections are not inflated
 abbrev pub streams_by : Bool → List ℕ → List (Option Stream)
 streams_by true file = streams file
 streams_by false file = []

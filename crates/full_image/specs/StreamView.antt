@@ -1,4 +1,4 @@
--- The data of a compressed section as it is handed out.
+-- The data of a compressed section, as the specs see it.
 use Rattle.full_image.specs.Compressed.{Stream}
 use Rattle.full_image.specs.declared.stream.Stream as code
 

@@ -1,3 +1,3 @@
--- What serves the functions of the crate alone: no public clause cites it.
+-- What only the functions of the crate need: no public clause cites it.
 pub mod Front
 pub mod SupFront

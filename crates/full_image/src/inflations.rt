@@ -14,10 +14,10 @@ use std::thread::Threads;
 use sym_edges::{ByteRun, ListOf, OutOfMemory, Stop};
 use unit_workers::{Crew, NoGate, UnitJob};
 
-/// What the data of each section gives, by the number of the section: nothing where it is not compressed, and none where it is bad.
+/// What the data of each section inflates to, by the number of the section: no bytes if it is not compressed, `None` if the data is bad.
 pub type Inflations = ListOf<Option<ByteRun>>;
 
-/// What compressed data gives.
+/// What compressed data inflates to.
 #[tactic(auto, unfolding(crate::specs::FullImage::outcome_of))]
 fn inflate_one(alloc: Global, stream: &Stream<'_>) -> Result<Option<ByteRun>, OutOfMemory>
     ensures { IfOk result (λ out. out ≡ outcome_of (Some (stream_view stream.now))) }
@@ -29,7 +29,7 @@ fn inflate_one(alloc: Global, stream: &Stream<'_>) -> Result<Option<ByteRun>, Ou
     }
 }
 
-/// The same of a section that is not compressed.
+/// The same for a section that is not compressed.
 #[tactic(auto, unfolding(crate::specs::FullImage::outcome_of))]
 fn nothing(alloc: Global) -> Option<ByteRun>
     ensures { result ≡ outcome_of None }
@@ -86,7 +86,7 @@ impl<'s, 'a> UnitJob for Inflater<'s, 'a> {
     }
 }
 
-/// The number of the section whose data gives most.
+/// The number of the section whose data inflates to the most bytes.
 fn longest(streams: &[Option<Stream<'_>>]) -> usize
     ensures { result ≤ length streams.now }
 {
@@ -103,7 +103,7 @@ fn longest(streams: &[Option<Stream<'_>>]) -> usize
     place.min(streams.len())
 }
 
-/// The data from a section on, and then that in front of it.
+/// The data from a section on, and then the data before it.
 fn turned<'a>(
     alloc: Global,
     streams: &[Option<Stream<'a>>],
@@ -119,7 +119,7 @@ fn turned<'a>(
     Ok(turned)
 }
 
-/// The same with the last ones in front.
+/// The outcomes from a place on, and then those before it.
 fn turned_back(
     mut outs: Vec<Option<ByteRun>>,
     place: usize,

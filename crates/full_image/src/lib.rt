@@ -1,12 +1,12 @@
-//! The image of an ELF file whose sections of debugging information may be compressed (System V gABI, "Section Compression", and GNU's
-//! older form by the name `.zdebug_..`).
+//! The image of an ELF file whose sections of debugging information may be compressed (System V gABI, "Section Compression", and GNU's older form
+//! with names `.zdebug_..`).
 //!
 //! [`read_packed`] reads a file up to the data of its compressed sections, [`inflate_sections`] inflates them by several workers, and
-//! [`PackedImage::unpack`] makes the image, whose parts are slices of the file and of what was inflated. Together they answer the image of
-//! `specs/FullImage.antt`, or its first fault. Where a caller does not ask for compressed sections, they answer what `read_image` answers.
+//! [`PackedImage::unpack`] makes the image, whose parts are slices of the file and of the inflated data. Together they return the image of
+//! `specs/FullImage.antt`, or its first fault. If the caller does not ask for compressed sections, they return what `read_image` returns.
 //!
-//! [`read_packed_sup`], [`inflate_supplement`] and [`PackedSup::unpack`] do the same for a supplementary file (DWARF 5, 7.3.6), which has
-//! neither segments nor code; its image is that of `specs/SupImage.antt`.
+//! [`read_packed_sup`], [`inflate_supplement`] and [`PackedSup::unpack`] do the same for a supplementary file (DWARF 5, 7.3.6), which has neither
+//! segments nor code; its image is that of `specs/SupImage.antt`.
 //!
 //! To read: `names`, `stream`, `tables`, `packed`, `supplement`, and last `inflations`.
 #![tactic(auto)]

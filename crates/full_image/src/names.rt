@@ -73,7 +73,7 @@ fn is_older(table: &[u8], section: &SectionHeader, which: Sect) -> bool
     begins(table, section.name, ended_older(which))
 }
 
-/// Whether the section has that name, in either spelling.
+/// Whether the section has this name, in either spelling.
 #[tactic(auto, unfolding(crate::specs::Compressed::is_called, elf_sections::specs::Sections::is_named))]
 pub fn is_called(table: &[u8], section: &SectionHeader, which: Sect) -> bool
     ensures { result ≡ is_called table.now which section.now }
@@ -95,7 +95,7 @@ fn is_spelled_older(table: &[u8], section: &SectionHeader) -> bool
     DEBUG.iter().any(|which| is_older(table, section, *which))
 }
 
-/// Whether the section is read, for its type or its name.
+/// Whether the section is read, because of its type or its name.
 #[tactic(auto, unfolding(crate::specs::Compressed::is_read_full))]
 pub fn is_read(table: &[u8], section: &SectionHeader) -> bool
     ensures { result ≡ is_read_full table.now section.now }
@@ -110,7 +110,7 @@ pub fn is_flagged(section: &SectionHeader) -> bool
     section.flags & SHF_COMPRESSED != 0
 }
 
-/// Whether it is one of debugging information whose bytes are compressed.
+/// Whether it is a section of debugging information whose bytes are compressed.
 #[tactic(auto, unfolding(crate::specs::Compressed::is_packed))]
 pub fn is_packed(table: &[u8], section: &SectionHeader) -> bool
     ensures { result ≡ is_packed table.now section.now }

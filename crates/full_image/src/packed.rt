@@ -1,4 +1,4 @@
-//! A file before its compressed sections are inflated, and the image that it gives then.
+//! A file before its compressed sections are inflated, and its image after that.
 ghost use Rattle.std.specs.Prelude.{◌≡◌, ◌^◌, ◌<◌, true, Some, None, Ok, Err, map, length, position, is_none, MatchResult};
 ghost use Rattle.std.specs.Option.{option_map, option_or};
 ghost use Rattle.elf_sections.specs.FileHeader.{header_fault};
@@ -171,7 +171,7 @@ fn pack_tables<'a>(
     })
 }
 
-/// Reads a file up to the data of its compressed sections, or says its first fault. They are refused where they are not asked for.
+/// Reads a file up to the data of its compressed sections, or returns its first fault. If `full` is false, compressed sections are refused.
 pub fn read_packed<'a>(
     alloc: Global,
     bytes: &'a [u8],
@@ -195,7 +195,7 @@ impl<'a> PackedImage<'a> {
         self.streams.as_slice()
     }
 
-    /// The image, whose parts are slices of the file and of what its sections were inflated to; or the first of these whose data is bad.
+    /// The image, whose parts are slices of the file and of the inflated sections; or the fault of the first section whose data is bad.
     #[tactic(auto, using(crate::proofs::FrontLemmas::plain_image, crate::proofs::FrontLemmas::few_outcomes))]
     pub fn unpack(self, inflated: &'a Inflations) -> Result<Image<'a>, ElfFault>
         requires { inflated.now ≡ outcomes_of self }

@@ -15,7 +15,7 @@ const COMPRESSION_HEADER: usize = 24;
 /// `ELFCOMPRESS_ZLIB`
 const ELFCOMPRESS_ZLIB: u32 = 1;
 
-/// Data that zlib compressed, and how many bytes it is said to give.
+/// Data that zlib compressed, and the size to which it should inflate.
 #[derive(Clone, Copy, Debug)]
 pub struct Stream<'a> {
     pub bytes: &'a [u8],
@@ -31,7 +31,7 @@ fn front_u32(bytes: &[u8]) -> u32
     u32::from_le_bytes([bytes[0], bytes[1], bytes[2], bytes[3]])
 }
 
-/// The number in the eight bytes behind the first eight.
+/// The number in the eight bytes after the first eight.
 #[tactic(auto, unfolding(elf_sections::specs::Numbers::u64_at, leb_cursor::specs::Readings::fixed_sum))]
 fn second_u64(bytes: &[u8]) -> u64
     requires { 16 ≤ length bytes.now }
@@ -43,7 +43,7 @@ fn second_u64(bytes: &[u8]) -> u64
     ])
 }
 
-/// The number in the first eight bytes, the highest first.
+/// The number in the first eight bytes, with the highest byte first.
 fn front_high_u64(bytes: &[u8]) -> u64
     requires { 8 ≤ length bytes.now }
     ensures { result ≡ from_be_bytes w64 bytes.now }
@@ -53,7 +53,7 @@ fn front_high_u64(bytes: &[u8]) -> u64
     ])
 }
 
-/// The data behind a compression header.
+/// The data after a compression header.
 #[tactic(auto, unfolding(crate::specs::Compressed::behind_header))]
 fn behind_header(content: &[u8]) -> Option<Stream<'_>>
     ensures { option_map stream_view result ≡ behind_header content.now }
@@ -67,7 +67,7 @@ fn behind_header(content: &[u8]) -> Option<Stream<'_>>
     })
 }
 
-/// The data behind `ZLIB` and its size.
+/// The data after `ZLIB` and its size.
 #[tactic(auto, unfolding(crate::specs::Compressed::behind_magic))]
 fn behind_magic(content: &[u8]) -> Option<Stream<'_>>
     ensures { option_map stream_view result ≡ behind_magic content.now }
@@ -81,7 +81,7 @@ fn behind_magic(content: &[u8]) -> Option<Stream<'_>>
     })
 }
 
-/// The data of a section by its form, where it is there.
+/// The data of a section by its form, if it is there.
 #[tactic(auto, unfolding(crate::specs::Compressed::stream_in, elf_sections::specs::Sections::bytes_of))]
 pub fn stream_in<'a>(file: &'a [u8], section: &SectionHeader) -> Option<Stream<'a>>
     ensures { option_map stream_view result ≡ stream_in file.now section.now }
@@ -94,7 +94,7 @@ pub fn stream_in<'a>(file: &'a [u8], section: &SectionHeader) -> Option<Stream<'
     }
 }
 
-/// The data of a section, where it is compressed.
+/// The data of a section, if it is compressed.
 #[tactic(auto, unfolding(crate::specs::Compressed::stream_of))]
 pub fn stream_of<'a>(file: &'a [u8], table: &[u8], section: &SectionHeader) -> Option<Stream<'a>>
     ensures { option_map stream_view result ≡ stream_of file.now table.now section.now }

@@ -1,4 +1,4 @@
-//! A supplementary file before its compressed sections are inflated, and the image that it gives then.
+//! A supplementary file before its compressed sections are inflated, and its image after that.
 ghost use Rattle.std.specs.Prelude.{◌≡◌, ◌^◌, ◌<◌, true, None, Ok, Err, map, length, MatchResult};
 ghost use Rattle.std.specs.Option.{option_map, option_or};
 ghost use Rattle.sym_edges.specs.Outside.{MatchStop};
@@ -59,7 +59,7 @@ fn pack_tables<'a>(alloc: Global, tables: Tables<'a>) -> Result<PackedSup<'a>, S
     })
 }
 
-/// Reads a supplementary file up to the data of its compressed sections, or says its first fault.
+/// Reads a supplementary file up to the data of its compressed sections, or returns its first fault.
 pub fn read_packed_sup<'a>(alloc: Global, bytes: &'a [u8]) -> Result<PackedSup<'a>, Stop<ElfFault>>
     ensures exact { MatchStop result (λ p. p ≡ bytes.now) (λ fault. sup_image bytes.now ≡ Err fault) (Unit {0}) }
 {
@@ -78,7 +78,7 @@ impl<'a> PackedSup<'a> {
         self.streams.as_slice()
     }
 
-    /// The image, whose parts are slices of the file and of what its sections were inflated to; or the first of these whose data is bad.
+    /// The image, whose parts are slices of the file and of the inflated sections; or the fault of the first section whose data is bad.
     #[tactic(auto, using(crate::proofs::FrontLemmas::few_outcomes))]
     pub fn unpack(self, inflated: &'a Inflations) -> Result<Image<'a>, ElfFault>
         requires { inflated.now ≡ outcomes_of (record { full = true; file = self }) }

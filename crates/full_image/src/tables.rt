@@ -46,7 +46,7 @@ fn first_refused(file: &[u8], table: &[u8], sections: &[SectionHeader]) -> Optio
         .position(|section| is_refused(file, table, section))
 }
 
-/// The lowest section that is read and leaves the file, else the lowest that is compressed and not inflated.
+/// The first section that is read and extends past the end of the file, else the first that is compressed and not inflated.
 #[tactic(auto, unfolding(crate::specs::FullImage::sections_fault))]
 pub fn find_section_fault(tables: &Tables<'_>) -> Option<ElfFault>
     ensures { result ≡ sections_fault tables.now }
@@ -67,7 +67,7 @@ pub fn find_section_fault(tables: &Tables<'_>) -> Option<ElfFault>
     }
 }
 
-/// The first fault of the sections, where compressed ones are inflated or refused.
+/// The first fault of the sections. If `full`, compressed ones are inflated, else they are refused.
 pub fn find_fault(tables: &Tables<'_>, full: bool) -> Option<ElfFault>
     ensures { result ≡ tables_fault full tables.now }
 {
@@ -105,7 +105,7 @@ pub fn find_streams<'a>(
     collect_streams(alloc, tables.file(), tables.names(), tables.sections())
 }
 
-/// The same where compressed sections are inflated, else nothing.
+/// The same if compressed sections are inflated, else nothing.
 pub fn streams_by<'a>(
     alloc: Global,
     tables: &Tables<'a>,
@@ -121,7 +121,7 @@ pub fn streams_by<'a>(
     }
 }
 
-/// Whether the data gives more bytes than a file may have.
+/// Whether all data inflates to more bytes than a file may have.
 #[tactic(auto, using(crate::proofs::SizeLemmas::size_more, crate::proofs::SizeLemmas::size_past, crate::proofs::SizeLemmas::size_within))]
 pub fn are_too_long(streams: &[Option<Stream<'_>>]) -> bool
     ensures { result ≡ are_too_long (map (option_map stream_view) streams.now) }

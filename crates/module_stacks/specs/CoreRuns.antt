@@ -1,4 +1,4 @@
--- The memory of a core file as runs of bytes, of which the last that holds an address counts.
+-- The memory of a core file as runs of bytes. If several runs contain an address, the last of them counts.
 use Rattle.std.specs.Prelude.{ℕ, ◌==◌, List, [], ◌∷◌, ◌++◌, take, drop, if◌then◌else◌}
 use Rattle.elf_sections.specs.ElfNumbers.{pt_load}
 use Rattle.cfi_eval.specs.declared.memory.MemRun.{MemRun}
@@ -9,15 +9,15 @@ use Rattle.core_file.specs.Memory.{Memory, present}
 unfoldable pub run_of : List ℕ → Segment → MemRun
 run_of file s = record { start = s.address; bytes = take (present file s) (drop s.offset file) }
 
--- the run of a segment, where it is loaded
+-- the run of a segment, if it is loaded
 abbrev pub loaded_run : List ℕ → Segment → List MemRun
 loaded_run file s = if s.kind == pt_load then run_of file s ∷ [] else []
 
--- those of segments, the first segment's last: of segments that give an address a byte the first counts
+-- the runs of segments, in reverse order: if several segments give an address a byte, the first of them counts
 unfoldable pub runs_of : List ℕ → List Segment → List MemRun
 runs_of file [] = []
 runs_of file (s ∷ segments) = runs_of file segments ++ loaded_run file s
 
--- those of the memory of a core file
+-- the runs of the memory of a core file
 abbrev pub core_runs : Memory → List MemRun
 core_runs memory = runs_of memory.file memory.segments

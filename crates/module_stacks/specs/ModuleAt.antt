@@ -1,20 +1,22 @@
--- Which module of a process counts at an address. Modules may lie within one another, as where a loader's file is mapped into a larger one's gap.
+-- Which module of a process counts at an address. One module may lie within another, for example if the file of a loader is mapped into a gap of a
+-- larger file.
 use Rattle.std.specs.Prelude.{ℕ, ◌+◌, List, [], ◌∷◌, Option, None, Some, nat_lt, if◌then◌else◌}
 use Rattle.std.specs.Option.{option_map}
 use Rattle.core_file.specs.Modules.{lies_in}
 use Rattle.core_file.specs.declared.modules.Module.{Module}
 
--- a module that holds an address: its place among the modules, and where it begins
+-- a module that contains an address: its place among the modules, and its start
 pub record Holder : Type 0 where
   pub place : ℕ
   pub start : ℕ
 
--- of a module and one behind it in the list the one with the greater start, of equal starts the one behind
+-- the module with the greater start, of a module and a later one in the list; if their starts are equal, the later one
 abbrev pub greater : Holder → Option Holder → Option Holder
 greater own None = Some own
 greater own (Some later) = if nat_lt later.start own.start then Some own else Some later
 
--- of the modules that hold an address the one with the greatest start, of equal starts the last one; their places are counted from `place` on
+-- among the modules that contain an address, the one with the greatest start; if several have that start, the last of them. Places count from `place`
+-- on
 unfoldable pub holder_from : ℕ → List Module → ℕ → Option Holder
 holder_from place [] a = None
 holder_from place (m ∷ modules) a =

@@ -1,4 +1,4 @@
--- The stacks of a core file's threads, by the symbol files in a folder.
+-- The stacks of a core file's threads, given the symbol files in a folder.
 use Rattle.std.specs.Prelude.{ℕ, ◌^◌, true, List, [], ◌∷◌, Some}
 use Rattle.sym_edges.specs.Outside.{Files}
 use Rattle.cfi_eval.specs.declared.registers.Regs.{Regs}
@@ -21,7 +21,7 @@ regs_of r = record {
   rip = Some r.rip;
 }
 
--- a process, by its core file and what stands under each path
+-- a process, given its core file and what was found under each path
 unfoldable pub process_by : (List ℕ → Found) → List ℕ → CoreParts → Process
 process_by found folder core = record {
   memory = core_runs core.memory;
@@ -29,7 +29,7 @@ process_by found folder core = record {
   signals = true;
 }
 
--- by the files
+-- a process, given the files
 abbrev pub process_of : Files → List ℕ → CoreParts → Process
 process_of got folder core = process_by (λ path. found_in (got path)) folder core
 

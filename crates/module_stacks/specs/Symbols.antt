@@ -1,4 +1,4 @@
--- The records of a module: those of the symbol file that a folder has under its name and its build id.
+-- The records of a module: those of the symbol file that a folder has for the module's name and build id.
 use Rattle.std.specs.Prelude.{ℕ, Bool, false, List, ◌∷◌, Option, None, Some, Result, Ok, Err, if◌then◌else◌, slice_get}
 use Rattle.std.specs.Option.{option_map, option_and_then}
 use Rattle.std.specs.Str.{bytes_eq, is_utf8}
@@ -17,7 +17,7 @@ use Rattle.module_stacks.specs.declared.names.SymbolName.{SymbolName}
 use Rattle.module_stacks.specs.declared.lack.Lack.{Lack}
 use Rattle.module_stacks.specs.declared.lack.Lack.TheVariants.{NoBuildId, Missing, Refused, OtherModule}
 
--- the path of the symbol file of a module with a build id, where the module's name is UTF-8, and the id in that file's MODULE
+-- for a module with a build id, the path of its symbol file if the module's name is UTF-8, and the id in that file's MODULE
 abbrev pub path_by : List ℕ → List ℕ → List ℕ → Option (List ℕ)
 path_by folder name identity = if is_utf8 name then Some (symbol_path folder name identity) else None
 
@@ -27,12 +27,12 @@ name_by folder name build_id = record { path = path_by folder name (front16 buil
 unfoldable pub name_of : List ℕ → Module → Option SymbolName
 name_of folder m = option_map (name_by folder m.name) m.build_id
 
--- the first of the records is a MODULE of this id
+-- the first record is a MODULE with this id
 abbrev pub is_of : List ℕ → List SymLine → Bool
 is_of id (line.Module binary ∷ lines) = bytes_eq binary.id id
 is_of id _ = false
 
--- the records by what stands under the path, or why there are none
+-- the records, given what was found under the path, or why there are none
 abbrev pub by_found : List ℕ → Found → Result (List SymLine) Lack
 by_found id None = Err Missing
 by_found id (Some (Err why)) = Err (Refused why)
@@ -46,16 +46,16 @@ abbrev pub by_name : (List ℕ → Found) → Option SymbolName → Result (List
 by_name found None = Err NoBuildId
 by_name found (Some name) = by_path found name.id name.path
 
--- the symbols of a module, by what stands under each path
+-- the symbols of a module, given what was found under each path
 unfoldable pub symbols_of : (List ℕ → Found) → List ℕ → Module → Result (List SymLine) Lack
 symbols_of found folder m = by_name found (name_of folder m)
 
--- the records of a module, at its base
+-- the records of a module, with its base
 abbrev pub records_by : ℕ → Result (List SymLine) Lack → Result ModuleRecords WalkEnd
 records_by base (Err lack) = Err NoSymbols
 records_by base (Ok lines) = Ok (record { base = base; lines = lines })
 
--- those at an address of the process
+-- the records at an address of the process
 abbrev pub records_in : (List ℕ → Found) → List ℕ → Option Module → Result ModuleRecords WalkEnd
 records_in found folder None = Err NoModule
 records_in found folder (Some m) = records_by m.base (symbols_of found folder m)

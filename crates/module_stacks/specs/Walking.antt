@@ -1,4 +1,4 @@
--- A process and its folder of symbol files, with what was found of those that were asked for.
+-- A process, its folder of symbol files, and what was found of the symbol files that were asked for.
 use Rattle.std.specs.Prelude.{◌≡◌, ℕ, true, is_some, slice_get, List, Option, None, Some}
 use Rattle.std.specs.List.{AllByRecursion}
 use Rattle.std.specs.Option.{option_and_then}
@@ -14,7 +14,7 @@ pub record Walking : Type 0 where
   -- each name that was asked for, with what was found under it
   pub known : List (List ℕ × Found)
 
--- what was found under a path; nothing under one that was not asked for
+-- what was found under a path; nothing if the path was not asked for
 abbrev pub known_found : List (List ℕ × Found) → List ℕ → Found
 known_found known path = option_and_then (λ (found : Found). found) (seen_in known path)
 
@@ -26,15 +26,15 @@ abbrev pub IsNameSeen : List (List ℕ × Found) → Option SymbolName → Type 
 IsNameSeen known None = Unit {0}
 IsNameSeen known (Some name) = IsPathSeen known name.path
 
--- the symbol file of the module that holds an address was asked for, where it has a path
+-- the symbol file of the module that counts at an address was asked for, if it has a path
 abbrev pub IsAsked : Walking → ℕ → Type 0
 IsAsked w a = IsNameSeen w.known (option_and_then (name_of w.folder) (holder_of w.core.modules a))
 
--- that of each step's address
+-- the same for the address of each step
 abbrev pub AreAsked : Walking → List WalkStep → Type 0
 AreAsked w steps = AllByRecursion (λ step. IsAsked w step.at) steps
 
--- a name is the path of the symbol file of one of the modules
+-- the name is the path of the symbol file of one of the modules
 abbrev pub path_of : Option SymbolName → Option (List ℕ)
 path_of None = None
 path_of (Some name) = name.path

@@ -1,3 +1,3 @@
--- What serves the functions and loops of the crate alone: no public clause cites it.
+-- What only the functions and loops of the crate need: no public clause cites it.
 pub mod FileTable
 pub mod ModuleStretches

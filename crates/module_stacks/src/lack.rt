@@ -4,7 +4,7 @@ use sym_grammar::SymRefusal;
 /// Why a module has no records.
 #[derive(Clone, Copy, Debug, PartialEq, Eq)]
 pub enum Lack {
-    /// It has no build id, under which a symbol file could be looked for.
+    /// It has no build id, and without one no symbol file can be looked for.
     NoBuildId,
     /// The store has no such file, or it cannot be read.
     Missing,

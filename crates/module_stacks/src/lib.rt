@@ -1,12 +1,12 @@
-//! The stacks of a process's threads, by its core file and the symbol files of its modules.
+//! The stacks of a process's threads, given its core file and the symbol files of its modules.
 //!
-//! A process is a core file and a folder with symbol files, each at `NAME/ID/NAME.sym` by the module's name and the ID of MODULE
-//! (`specs/Symbols.antt`, `specs/Stacks.antt`). [`StackWalker::walk`] gives the stack of a thread as `stack_walk` defines it: over the memory of
-//! the core, by the records of the module that holds an address, with frames of signals and calls to nowhere.
+//! A process is a core file and a folder with symbol files, each at `NAME/ID/NAME.sym`, with the module's name and the ID of MODULE
+//! (`specs/Symbols.antt`, `specs/Stacks.antt`). [`StackWalker::walk`] gives the stack of a thread as `stack_walk` defines it: with the memory of the
+//! core, with the records of the module that counts at an address, and with frames of signals and calls to nowhere.
 //!
-//! Symbol files are asked for one by one, when a step first lies in their module, and each name at most once. A contract says that what was
-//! found agrees with some files (`specs/SymbolFiles.antt`): with those that the store tells, without the names at which a call failed; and
-//! each walk is the one by every files that agree with what was found.
+//! Symbol files are asked for one by one, when a step first lies in their module, and each name at most once. A contract says that some files agree
+//! with what was found (`specs/SymbolFiles.antt`): if the files of the store are known, they are those files without the names at which a call
+//! failed. Each walk is the stack by `specs/Stacks.antt`, for all files that agree with what was found.
 //!
 //! To read: `specs/CoreRuns.antt`, `specs/ModuleAt.antt`, `specs/Symbols.antt` and `specs/Stacks.antt`; then `core_memory`, `module_map`, `names`,
 //! `symbol_files` and `walker`.

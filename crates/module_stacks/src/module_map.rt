@@ -1,4 +1,4 @@
-//! Which module of a process holds an address.
+//! Which module of a process counts at an address.
 ghost use Rattle.std.specs.Prelude.{◌≡◌, ◌<◌, ◌^◌, ◌++◌, IfOk, IfSome, OnOk, length};
 ghost use Rattle.std.specs.List.Sorted.{IsPermutation};
 ghost use Rattle.step_maps.specs.Covers.{AreStretches};
@@ -12,7 +12,7 @@ use std::marker::Model;
 use step_maps::{FirstItem, StepMap, Stretch, first_items};
 use sym_edges::OutOfMemory;
 
-/// The modules of a process, and at each address the place of the one that counts there.
+/// The modules of a process, and at each address the place of the module that counts there.
 #[derive(Drop)]
 pub struct ModuleMap<'m> {
     modules: &'m [Module],
@@ -56,7 +56,7 @@ fn stretches_of(alloc: Global, modules: &[Module]) -> Result<Vec<Stretch>, OutOf
     Ok(stretches)
 }
 
-/// Sorts the addresses of modules, so that those of a module that counts before another stand before the other's.
+/// Sorts the addresses of modules: if one module counts before another, its addresses come first.
 fn put_in_order(stretches: &mut Vec<Stretch>)
     ensures moved { IsPermutation stretches.old.items stretches.new.items }
     ensures order { Fall stretches.new.items }
@@ -65,7 +65,7 @@ fn put_in_order(stretches: &mut Vec<Stretch>)
 }
 
 impl<'m> ModuleMap<'m> {
-    /// A map of modules, in n log n turns for n modules. Modules that u32 cannot number count as want of memory; a core has 65,536 at most.
+    /// A map of modules, in n log n steps for n modules. If u32 cannot number them, the result is want of memory; a core has 65,536 at most.
     pub fn of(alloc: Global, modules: &'m [Module]) -> Result<ModuleMap<'m>, OutOfMemory>
         ensures { IfOk result (λ map. map ≡ modules.now) }
     {
@@ -84,7 +84,7 @@ impl<'m> ModuleMap<'m> {
         self.modules
     }
 
-    /// The place of the module that counts at an address: of those that hold it the one with the greatest start, of equal starts the last one.
+    /// The place of the module that counts at an address: of the modules that contain it, the one with the greatest start; of equal starts, the last.
     #[tactic(auto, using(crate::proofs::ModuleLemmas::at_within))]
     pub fn at(&self, a: u64) -> Option<usize>
         ensures exact { result ≡ module_at self.now a }

@@ -1,4 +1,4 @@
-//! Under which names a folder has the symbol files of modules.
+//! The names under which a folder has the symbol files of modules.
 ghost use Rattle.std.specs.Prelude.{◌≡◌, map, IfOk};
 ghost use Rattle.module_stacks.specs.Symbols.{path_by, name_by, name_of};
 
@@ -8,7 +8,7 @@ use std::alloc::Global;
 use std::str;
 use sym_edges::{ByteRun, NameText, OutOfMemory};
 
-/// The path of a module's symbol file, where the module's name is UTF-8, and the id in that file's MODULE.
+/// The path of a module's symbol file, if the module's name is UTF-8, and the id in that file's MODULE.
 #[derive(Debug, Drop)]
 pub struct SymbolName {
     pub path: Option<NameText>,

@@ -45,7 +45,7 @@ impl Table {
         Ok(Table { file, index })
     }
 
-    /// The records, from the address of the process at which their addresses begin.
+    /// The records, given the address of the process from which their addresses count.
     pub fn records(&self, base: u64) -> Records<'_>
         ensures { result ≡ record { base = base; lines = self.now } }
     {
@@ -59,7 +59,7 @@ impl Table {
     }
 }
 
-/// What stands under a name that was asked for: nothing that can be read, or a symbol file, or why that is refused.
+/// What is found under a name that was asked for: nothing that can be read, a symbol file, or why the symbol file is refused.
 pub type FoundFile = Option<Result<Table, SymRefusal>>;
 
 /// What was found under each name that was asked for.
@@ -78,7 +78,7 @@ impl Model for SymbolFiles {
     ghost view = { λ s. names_of s.files };
 }
 
-/// What stands under a name: the store is asked for it.
+/// What is found under a name, for which the store is asked.
 fn find_file<S: Store>(alloc: Global, store: &mut S, name: &str) -> Result<FoundFile, OutOfMemory>
     ensures asked { AsksNew result (S.asked store.old) name.now (S.asked store.new) }
     ensures files { S.files store.new ≡ S.files store.old }
@@ -103,7 +103,7 @@ impl SymbolFiles {
         }
     }
 
-    /// What stands under a name, where that was asked for.
+    /// What was found under a name, if it was asked for.
     #[tactic(auto, using(crate::proofs::FileLemmas::seen_is))]
     pub fn found(&self, name: &str) -> Option<&FoundFile>
         ensures { option_copied result ≡ seen_in self.now name.now }
@@ -111,7 +111,7 @@ impl SymbolFiles {
         self.files.get(name.as_bytes())
     }
 
-    /// Asks the store for a name, unless it was asked for.
+    /// Asks the store for a name, unless it was asked for before.
     pub fn ask<S: Store>(
         &mut self,
         alloc: Global,

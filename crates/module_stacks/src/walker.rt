@@ -25,10 +25,10 @@ use std::marker::Model;
 use sym_edges::{OutOfMemory, Store};
 use sym_records::{SymFile, SymLine};
 
-/// How many steps a stack has at most.
+/// The most steps of a stack.
 const MOST_STEPS: usize = 1 << 20;
 
-/// A process by its core file, the folder in which the symbol files of its modules lie, and what was found of those that were asked for.
+/// A process: its core file, the folder with the symbol files of its modules, and what was found of those that were asked for.
 #[derive(Drop)]
 pub struct StackWalker<'c> {
     core: &'c Core<'c>,
@@ -116,7 +116,7 @@ impl<'c> StackWalker<'c> {
         self.core
     }
 
-    /// The place of the module that holds an address.
+    /// The place of the module that counts at an address.
     pub fn module_at(&self, a: u64) -> Option<usize>
         ensures exact { result ≡ module_at self.now.core.modules a }
         ensures within { IfSome result (λ place. place < length self.now.core.modules) }
@@ -136,7 +136,7 @@ impl<'c> StackWalker<'c> {
         }
     }
 
-    /// The id that a module's symbol file has in MODULE, where the module has a build id.
+    /// The id that a module's symbol file has in MODULE, if the module has a build id.
     pub fn id_of(&self, place: usize) -> Option<&[u8]>
         requires { place < length self.now.core.modules }
         ensures { IfSome (slice_get self.now.core.modules place) (λ m. option_copied result ≡ option_map (λ name. name.id) (name_of self.now.folder m)) }
@@ -147,7 +147,7 @@ impl<'c> StackWalker<'c> {
         }
     }
 
-    /// Asks for the symbol file of the module that holds an address, unless it was asked for.
+    /// Asks for the symbol file of the module that counts at an address, unless it was asked for before.
     fn ask_at<S: Store>(&mut self, alloc: Global, store: &mut S, a: u64) -> Result<(), OutOfMemory>
         ensures same { (self.new.core ≡ self.old.core) × (self.new.folder ≡ self.old.folder) }
         ensures asks { AsksFresh (IsPathOf self.old) (seen_in self.old.known) (S.asked store.old) (S.asked store.new) }
@@ -168,7 +168,7 @@ impl<'c> StackWalker<'c> {
         self.files.ask(alloc, store, path.as_str())
     }
 
-    /// The records under a path, where they are of an id.
+    /// The records under a path, if they have this id.
     #[tactic(auto, using(crate::proofs::WalkerLemmas::known_is))]
     fn find(&self, id: &[u8], path: &str) -> Result<&Table, Lack>
         ensures { MatchResult result
@@ -187,7 +187,7 @@ impl<'c> StackWalker<'c> {
         }
     }
 
-    /// The symbols of a module, by what was found.
+    /// The symbols of a module, given what was found.
     #[tactic(auto, unfolding(crate::specs::Symbols::symbols_of))]
     pub fn symbols(&self, place: usize) -> Result<&Table, Lack>
         requires { place < length self.now.core.modules }
@@ -204,7 +204,7 @@ impl<'c> StackWalker<'c> {
         self.find(name.id.as_slice(), path.as_str())
     }
 
-    /// The records at an address of the process, by what was found.
+    /// The records at an address of the process, given what was found.
     #[tactic(auto, unfolding(crate::specs::Symbols::records_at))]
     pub fn records_at(&self, a: u64) -> Result<Records<'_>, WalkEnd>
         ensures { result ≡ records_at (known_found self.now.known) self.now.folder self.now.core.modules a }
@@ -218,7 +218,7 @@ impl<'c> StackWalker<'c> {
         }
     }
 
-    /// The step at a place, by what was found.
+    /// The step at a place, given what was found.
     #[tactic(auto, using(crate::proofs::WalkerLemmas::step_by_known))]
     fn step_at(&self, alloc: Global, here: &Place) -> Result<WalkStep, OutOfMemory>
         ensures { IfOk result (λ step. step ≡ step_at (process_by (known_found self.now.known) self.now.folder self.now.core) here.now) }
@@ -230,7 +230,7 @@ impl<'c> StackWalker<'c> {
         take_step(alloc, &known, &CoreMemory::of(self.core), true, here)
     }
 
-    /// At most so many steps, from one on.
+    /// At most this many steps, from a place on.
     fn walk_from<S: Store>(
         &mut self,
         alloc: Global,

@@ -1,4 +1,4 @@
--- The text of a frame: the CFA, the return address and the sixteen registers, a line each, or `none` where there are no rules.
+-- The text of a frame: the CFA, the return address and the sixteen registers, a line each; or `none` if there are no rules.
 use Rattle.std.specs.Prelude.{ℕ, ◌==◌, if◌then◌else◌, List, ◌∷◌, ◌++◌, drop, codes, Option, Some, None}
 use Rattle.std.specs.List.{flat_map, range_with_len, slice_index_or}
 use Rattle.sym_edges.specs.Abi.{register_name}
@@ -29,14 +29,14 @@ outcome_text (Value v) = hex v
 outcome_text Undefined = codes "undefined"
 outcome_text (Failed why) = codes "failed " ++ cause_text why
 
--- a name and what it evaluates to
+-- a line with a name and what its rule evaluates to
 abbrev pub outcome_line : List ℕ → Outcome → List ℕ
 outcome_line name outcome = name ++ 32 ∷ line (outcome_text outcome)
 
 abbrev pub register_line : Frame → ℕ → List ℕ
 register_line frame register = outcome_line (short_name register) (slice_index_or frame.regs register Undefined)
 
--- so many registers, by their DWARF numbers
+-- the lines of the first `count` registers, by their DWARF numbers
 unfoldable pub registers_text : Frame → ℕ → List ℕ
 registers_text frame count = flat_map (register_line frame) (range_with_len 0 count)
 

@@ -1,5 +1,5 @@
--- The text of the stacks of a process: the signal that ended it, its modules, and for each thread its steps, each with its number, its address and
--- its module, and then the lines of `lookup`; and last why the walk ends. A module whose records were needed and are not there is named once.
+-- The text of the stacks of a process: the signal that ended it, its modules, and for each thread its steps and why its walk ends. A step has a line
+-- with its number, its address and its module, and then the lines of `lookup`. A module whose records were needed and are missing is named once.
 use Rattle.std.specs.Prelude.{ℕ, ◌+◌, ◌-◌, ◌==◌, List, [], ◌∷◌, ◌++◌, length, take, drop, nat_lt, if◌then◌else◌, codes, decimal, Option, None, Some, Result, Ok, Err}
 use Rattle.std.specs.List.{flat_map}
 use Rattle.sym_edges.specs.Outside.{Files}
@@ -28,24 +28,24 @@ use Rattle.stack_text.specs.Lines.{line}
 use Rattle.stack_text.specs.Once.{once}
 use Rattle.stack_text.specs.WalkText.{end_line}
 
--- the signal of the first thread, which is the one that crashed, where it has one
+-- the signal of the first thread, which is the one that crashed, if it has one
 abbrev pub signal_text : List Thread → List ℕ
 signal_text [] = []
 signal_text (thread ∷ threads) = if thread.signal == 0 then [] else line (spaced (codes "signal") (decimal thread.signal ∷ []))
 
--- the id that the symbol file of a module has in MODULE, or `-` where the module has no build id
+-- the id that the symbol file of a module has in MODULE, or `-` if the module has no build id
 abbrev pub id_word : Option SymbolName → List ℕ
 id_word None = codes "-"
 id_word (Some name) = name.id
 
--- a module: its addresses from the first up to the end, its name and its id
+-- a module: its start, its end, its name and its id
 abbrev pub module_line : List ℕ → Module → List ℕ
 module_line folder m = line (spaced (codes "module") (hex m.start ∷ hex m.end ∷ m.name ∷ id_word (name_of folder m) ∷ []))
 
 unfoldable pub modules_text : List ℕ → List Module → List ℕ
 modules_text folder modules = flat_map (module_line folder) modules
 
--- a step: its number, its address, and the module that holds the address looked up; and then what names that
+-- a step: its number, its address, and the module of the address that is looked up; and then the lines of its answer
 abbrev pub step_words : ℕ → Option Module → List (List ℕ)
 step_words rip None = hex rip ∷ []
 step_words rip (Some m) = hex rip ∷ m.name ∷ []
@@ -58,12 +58,12 @@ abbrev pub stack_step_text : (List ℕ → Found) → List ℕ → List Module �
 stack_step_text found folder modules number step =
     line (spaced (decimal number) (step_words step.rip (holder_of modules step.at))) ++ names_text (records_at found folder modules step.at) step.answer
 
--- steps, the first of which has a number
+-- steps; the first of them has this number
 unfoldable pub stack_steps_text : (List ℕ → Found) → List ℕ → List Module → ℕ → List WalkStep → List ℕ
 stack_steps_text found folder modules number [] = []
 stack_steps_text found folder modules number (step ∷ steps) = stack_step_text found folder modules number step ++ stack_steps_text found folder modules (number + 1) steps
 
--- of more than 1,024 steps the first 512 and the last 512, and between them how many are not shown
+-- if there are more than 1,024 steps, the first 512 and the last 512, and between them how many are not shown
 abbrev pub skipped_line : ℕ → List ℕ
 skipped_line count = line (spaced (codes "skipped") (decimal count ∷ []))
 
@@ -81,7 +81,7 @@ thread_line number = line (spaced (codes "thread") (decimal number ∷ []))
 unfoldable pub thread_text : (List ℕ → Found) → List ℕ → List Module → ℕ → Walk → List ℕ
 thread_text found folder modules number walk = thread_line number ++ (shown_steps found folder modules walk.steps ++ end_line walk.end)
 
--- threads, by the symbol files
+-- threads, given the symbol files
 unfoldable pub threads_text : Files → List ℕ → CoreParts → List Thread → List ℕ
 threads_text got folder core [] = []
 threads_text got folder core (thread ∷ threads) =
@@ -102,7 +102,7 @@ lack_line folder m Missing = line (spaced (codes "missing") (m.name ∷ id_word 
 lack_line folder m (Refused why) = line (spaced (codes "refused") (m.name ∷ id_word (name_of folder m) ∷ refused_words why))
 lack_line folder m OtherModule = line (spaced (codes "refused") (m.name ∷ id_word (name_of folder m) ∷ codes "other-module" ∷ []))
 
--- the line of a module whose records are not there
+-- the line of a module whose records are missing
 abbrev pub lack_by : List ℕ → Module → Result (List SymLine) Lack → List (List ℕ)
 lack_by folder m (Ok lines) = []
 lack_by folder m (Err lack) = lack_line folder m lack ∷ []
@@ -111,11 +111,11 @@ abbrev pub lack_in : (List ℕ → Found) → List ℕ → Option Module → Lis
 lack_in found folder None = []
 lack_in found folder (Some m) = lack_by folder m (symbols_of found folder m)
 
--- those of the modules in which steps lie, in the order of the steps
+-- these lines for the modules in which steps lie, in the order of the steps
 unfoldable pub steps_lacks : (List ℕ → Found) → List ℕ → List Module → List WalkStep → List (List ℕ)
 steps_lacks found folder modules steps = flat_map (λ step. lack_in found folder (holder_of modules step.at)) steps
 
--- those of threads, by the symbol files
+-- these lines for threads, given the symbol files
 unfoldable pub threads_lacks : Files → List ℕ → CoreParts → List Thread → List (List ℕ)
 threads_lacks got folder core threads = flat_map (λ thread. steps_lacks (λ path. found_in (got path)) folder core.modules (stack_of got folder core thread).steps) threads
 

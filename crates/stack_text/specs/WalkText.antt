@@ -1,5 +1,4 @@
--- The text of a walk by the records of one symbol file: for each step its number and its address, and then the lines of `lookup`; and last why
--- the walk ends.
+-- The text of a walk by the records of one symbol file: for each step its number, its address, and the lines of `lookup`; and last why the walk ends.
 use Rattle.std.specs.Prelude.{ℕ, ◌+◌, List, [], ◌∷◌, ◌++◌, codes, decimal}
 use Rattle.sym_records.specs.Canon.{spaced}
 use Rattle.sym_records.specs.Fields.{hex}
@@ -12,19 +11,19 @@ use Rattle.stack_walk.specs.declared.steps.WalkEnd.TheVariants.{NoModule, NoSymb
 use Rattle.stack_text.specs.Lines.{line}
 use Rattle.stack_text.specs.FrameText.{cause_text}
 
--- a step: its number in decimal and its address in hexadecimal, and then what names the address that is looked up
+-- a step: its number in decimal and its address in hexadecimal, and then the lines of its answer
 abbrev pub step_head : ℕ → ℕ → List ℕ
 step_head number rip = line (spaced (decimal number) (hex rip ∷ []))
 
 abbrev pub step_text : List SymLine → ℕ → WalkStep → List ℕ
 step_text lines number step = step_head number step.rip ++ answer_text lines step.answer
 
--- steps, the first of which has a number
+-- steps; the first of them has this number
 unfoldable pub steps_text : List SymLine → ℕ → List WalkStep → List ℕ
 steps_text lines number [] = []
 steps_text lines number (step ∷ steps) = step_text lines number step ++ steps_text lines (number + 1) steps
 
--- why a walk ends; a cause is spelled as in `frame`, and a CFA that is low stands behind the one before
+-- why a walk ends; a cause is spelled as in `frame`, and a low CFA comes after the CFA of the step before
 abbrev pub end_text : WalkEnd → List ℕ
 end_text NoModule = codes "no-module"
 end_text NoSymbols = codes "no-symbols"

@@ -1,4 +1,4 @@
-//! The lines of modules whose records are not there.
+//! The lines of modules whose records are missing.
 ghost use Rattle.std.specs.Prelude.{◌≡◌, ◌<◌, ◌++◌, ◌∷◌, [], ℕ, List, map, length, slice_get, codes, decimal, IfSome, IfOk, OnOk};
 ghost use Rattle.sym_records.specs.Canon.{spaced};
 ghost use Rattle.stack_text.specs.Lines.{line};
@@ -35,7 +35,7 @@ fn name_of<'w>(walker: &'w StackWalker<'_>, place: usize) -> &'w [u8]
     walker.core().modules()[place].name.as_slice()
 }
 
-/// Adds the line of a symbol file that is refused: of these words, why, and what is said of that.
+/// Adds the line of a symbol file that is refused: these words, why it is refused, and the rest.
 fn add_refused(
     text: &mut Vec<u8>,
     words: &[&[u8]],
@@ -49,7 +49,7 @@ fn add_refused(
     add_line(text, why, rest)
 }
 
-/// The line of a module whose records are not there.
+/// The line of a module whose records are missing.
 fn lack_line(
     alloc: Global,
     walker: &StackWalker<'_>,
@@ -75,7 +75,7 @@ fn lack_line(
     Ok(text)
 }
 
-/// Says of the module of a step that its records are not there.
+/// Adds this line for the module of a step, if its records are missing.
 fn say_lack(
     alloc: Global,
     said: &mut SaidLines,
@@ -96,7 +96,7 @@ fn say_lack(
     }
 }
 
-/// Says it of the modules of all steps.
+/// Adds these lines for the modules of all steps.
 pub(crate) fn say_lacks(
     alloc: Global,
     said: &mut SaidLines,

@@ -1,8 +1,8 @@
 //! The texts of frames, of walks and of the stacks of a process.
 //!
-//! A frame is eighteen lines (`specs/FrameText.antt`), a walk by one symbol file the lines of `lookup` for each step (`specs/WalkText.antt`), and the
-//! stacks of a process its modules and the steps of each thread, with a second text of the modules whose records are not there
-//! (`specs/StacksText.antt`). [`spell_stacks`] walks through the threads as it spells them, so that one walk at a time is held.
+//! A frame is eighteen lines (`specs/FrameText.antt`). A walk by one symbol file has the lines of `lookup` for each step (`specs/WalkText.antt`). The
+//! stacks of a process are its modules and the steps of each thread, with a second text of the modules whose records are missing
+//! (`specs/StacksText.antt`). [`spell_stacks`] spells each thread after its walk, so only one walk at a time is in memory.
 #![tactic(auto)]
 
 mod frame_text;

@@ -7,7 +7,7 @@ ghost use Rattle.stack_text.specs.Lines.{line};
 use std::alloc::AllocError;
 use sym_records::HexText;
 
-/// Adds words with one space in front of each but the first.
+/// Adds words with one space before each but the first.
 pub(crate) fn add_words(text: &mut Vec<u8>, first: &[u8], words: &[&[u8]]) -> Result<(), AllocError>
     ensures { OnOk result (text.new.items ≡ text.old.items ++ spaced first.now (map (λ word. word.now) words.now)) }
 {

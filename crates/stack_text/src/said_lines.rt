@@ -1,4 +1,4 @@
-//! Lines that are said once each.
+//! Lines, each of which is written once.
 ghost use Rattle.std.specs.Prelude.{◌≡◌, ℕ, List, [], ◌∷◌, ◌++◌, OnOk};
 ghost use Rattle.std.specs.List.{flat_map};
 ghost use Rattle.stack_text.specs.Once.{once};
@@ -9,7 +9,7 @@ use std::collections::BTreeSet;
 use sym_edges::OutOfMemory;
 use sym_records::ByteText;
 
-/// Lines, each of which is written only where it first occurs.
+/// Lines, each of which is written only at its first occurrence.
 #[derive(Drop)]
 pub(crate) struct SaidLines {
     text: Vec<u8>,
@@ -26,7 +26,7 @@ impl SaidLines {
         }
     }
 
-    /// Says a line, unless it was said.
+    /// Adds a line, unless it was added before.
     #[tactic(auto, using(crate::proofs::SaidLemmas::said_before, crate::proofs::SaidLemmas::said_now))]
     pub(crate) fn say(&mut self, line: Vec<u8>) -> Result<(), OutOfMemory>
         ensures { OnOk result ((lines : List (List ℕ)) → HasSaid self.old lines → HasSaid self.new (lines ++ line.items ∷ [])) }

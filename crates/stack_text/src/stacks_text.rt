@@ -22,10 +22,10 @@ use std::alloc::{AllocError, Global};
 use sym_edges::{OutOfMemory, Store};
 use sym_records::{ByteText, HexText};
 
-/// How many steps of a thread are all shown at most.
+/// The most steps of a thread that are all shown.
 const SHOWN: usize = 1024;
 
-/// How many are shown at each end of a thread that has more.
+/// How many steps are shown at each end of a longer thread.
 const ENDS: usize = 512;
 
 /// The two texts of the stacks of a process.
@@ -33,7 +33,7 @@ const ENDS: usize = 512;
 pub struct StacksText {
     /// The signal, the modules and the threads.
     pub out: ByteText,
-    /// The modules whose records were needed and are not there.
+    /// The modules whose records were needed and are missing.
     pub err: ByteText,
 }
 
@@ -46,7 +46,7 @@ fn add_count(text: &mut Vec<u8>, word: &'static [u8], number: usize) -> Result<(
     add_line(text, word, &words)
 }
 
-/// Adds the signal of the first thread, where it has one.
+/// Adds the signal of the first thread, if it has one.
 fn add_signal(text: &mut Vec<u8>, threads: &[Thread]) -> Result<(), AllocError>
     ensures { OnOk result (text.new.items ≡ text.old.items ++ signal_text threads.now) }
 {
@@ -81,7 +81,7 @@ fn add_module(
     add_line(text, b"module", &words)
 }
 
-/// Adds those of all modules.
+/// Adds the lines of all modules.
 fn add_modules(text: &mut Vec<u8>, walker: &StackWalker<'_>) -> Result<(), AllocError>
     ensures { OnOk result (text.new.items ≡ text.old.items ++ modules_text walker.now.folder walker.now.core.modules) }
 {
@@ -152,7 +152,7 @@ fn add_step(
     add_names(alloc, text, walker, step)
 }
 
-/// Adds those of the steps from a first one up to an end.
+/// Adds the lines of the steps from `first` up to `end`.
 fn add_between(
     alloc: Global,
     text: &mut Vec<u8>,

@@ -55,7 +55,7 @@ fn add_step(
     add_names(alloc, text, file, index, step)
 }
 
-/// Adds those of all steps.
+/// Adds the lines of all steps.
 fn add_steps(
     alloc: Global,
     text: &mut Vec<u8>,

@@ -1,4 +1,4 @@
--- What the steps of a walk are to each other: each is the caller of the one before.
+-- How the steps of a walk are related: each step is the caller of the step before.
 use Rattle.std.specs.Prelude.{◌≡◌, ◌+◌, ℕ, Bool, true, false, if◌then◌else◌, List, [], ◌∷◌, Result, Ok, Err, IfSome}
 use Rattle.sym_records.specs.declared.line.SymLine.{SymLine}
 use Rattle.sym_rules.specs.declared.rules.RuleText.{RuleText}
@@ -10,28 +10,29 @@ use Rattle.stack_walk.specs.declared.steps.WalkStep.{WalkStep}
 use Rattle.stack_walk.specs.declared.steps.WalkEnd.{WalkEnd}
 use Rattle.stack_walk.specs.Walk.{Process, rules_at, signal_by, frame_by, answer_by, caller_regs, process_of}
 
--- the rules at the address of a step that is looked up
+-- the rules at the address that a step looks up
 abbrev pub rules_of : Process → WalkStep → Result (List RuleText) WalkEnd
 rules_of process step = rules_at process.signals (process.known_at step.at) step.rip step.at
 
--- a step has what these rules give over registers and the memory, and what names its address, or that of its signal
+-- a step has the values of these rules, given the registers and the memory, and the names of the address that it looks up, or of rip if it is a
+-- signal's frame
 pub record IsLookedUp (process : Process) (regs : Regs) (step : WalkStep) : Type 0 where
   pub signal : step.signal ≡ signal_by process.signals (rules_of process step)
   pub frame : step.frame ≡ frame_by regs process.memory (rules_of process step)
   pub answer : step.answer ≡ answer_by (process.known_at step.at).records (if step.signal then step.rip else step.at)
 
--- the first step is at the first address, which is looked up, over the first registers
+-- the first step is at the first address, looks up that address, and has the first registers
 pub record IsInnermost (process : Process) (regs : Regs) (first : ℕ) (step : WalkStep) : Type 0 where
   pub rip : step.rip ≡ first
   pub at : step.at ≡ step.rip
   pub found : IsLookedUp process regs step
 
--- behind a signal's frame the address itself is looked up, and behind every other the one below it, which is in the call
+-- after a signal's frame, the address itself is looked up; after any other frame, the address one below, which is in the call
 abbrev pub IsCallAddress : Bool → WalkStep → Type 0
 IsCallAddress true step = step.at ≡ step.rip
 IsCallAddress false step = step.at + 1 ≡ step.rip
 
--- the step after one with a frame is at the frame's return address, over the registers that have values in the frame
+-- the step after one with a frame is at the frame's return address, and its registers are those that have values in the frame
 pub record IsCallerOf (process : Process) (signal : Bool) (frame : Frame) (step : WalkStep) : Type 0 where
   pub rip : frame.ra ≡ Value step.rip
   pub at : IsCallAddress signal step
@@ -50,6 +51,6 @@ abbrev pub IsStack : Process → Regs → ℕ → List WalkStep → Type 0
 IsStack process regs rip [] = ⊥
 IsStack process regs rip (first ∷ steps) = IsInnermost process regs rip first × AreCallers process (first ∷ steps)
 
--- the stack of a state, by the records of one symbol file
+-- the stack of a state, given the records of one symbol file
 abbrev pub IsStackOf : List SymLine → State → List WalkStep → Type 0
 IsStackOf lines state steps = IfSome state.regs.rip (λ rip. IsStack (process_of lines state.memory) state.regs rip steps)

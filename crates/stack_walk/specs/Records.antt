@@ -1,4 +1,4 @@
--- The records of a module: those of its symbol file, whose addresses count from the module's base.
+-- The records of a module: those of its symbol file. Their addresses count from the module's base.
 use Rattle.std.specs.Prelude.{ℕ, ◌-◌, nat_le, if◌then◌else◌, List, Option, None}
 use Rattle.sym_records.specs.declared.line.SymLine.{SymLine}
 use Rattle.sym_rules.specs.declared.rules.RuleText.{RuleText}
@@ -15,6 +15,6 @@ pub record ModuleRecords : Type 0 where
 abbrev pub rules_in : ModuleRecords → ℕ → Option (List RuleText)
 rules_in records a = if nat_le records.base a then text_rules records.lines (a - records.base) else None
 
--- and what names the address
+-- which records name an address of the process
 abbrev pub answer_in : ModuleRecords → ℕ → Answer
 answer_in records a = if nat_le records.base a then answer_of records.lines (a - records.base) else Nothing

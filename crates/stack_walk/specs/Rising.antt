@@ -1,5 +1,5 @@
--- The frames of a stack lie above one another: the CFA of each step that another step follows is a value, above those of the steps before,
--- but at the frame of a signal, which may lie on another stack.
+-- The frames of a stack lie above one another: the CFA of each step but the last is a value, and it is above the CFA of the step before. Only the
+-- frame of a signal need not be above, since it may lie on another stack.
 use Rattle.std.specs.Prelude.{◌≡◌, ◌<◌, ℕ, Bool, true, false, List, [], ◌∷◌, Option, None, Some, Result, Ok, Err}
 use Rattle.cfi_eval.specs.declared.outcome.Frame.{Frame}
 use Rattle.cfi_eval.specs.declared.outcome.Outcome.{Outcome}
@@ -7,7 +7,7 @@ use Rattle.cfi_eval.specs.declared.outcome.Outcome.TheVariants.{Value}
 use Rattle.stack_walk.specs.declared.steps.WalkStep.{WalkStep}
 use Rattle.stack_walk.specs.declared.steps.WalkEnd.{WalkEnd}
 
--- what the CFA of a frame is, where rules stand there
+-- the CFA of a frame, if there are rules
 abbrev pub frame_cfa : Result Frame WalkEnd → Option Outcome
 frame_cfa (Err end) = None
 frame_cfa (Ok frame) = Some frame.cfa
@@ -17,12 +17,12 @@ IsAbove true before cfa = Unit {0}
 IsAbove false None cfa = Unit {0}
 IsAbove false (Some before) cfa = before < cfa
 
--- the step that another follows has a CFA, and it lies above the one before, or it is a signal's
+-- the step has the CFA `cfa`, and this is above `before` or the step is a signal's frame
 pub record RisesTo (before : Option ℕ) (step : WalkStep) (cfa : ℕ) : Type 0 where
   pub is : frame_cfa step.frame ≡ Some (Value cfa)
   pub above : IsAbove step.signal before cfa
 
--- some steps, where the CFA before them is that
+-- each step but the last rises in this way; `before` is the CFA before the first step
 abbrev pub CfasRise : Option ℕ → List WalkStep → Type 0
 CfasRise before [] = Unit {0}
 CfasRise before (last ∷ []) = Unit {0}

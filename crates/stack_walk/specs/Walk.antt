@@ -1,4 +1,4 @@
--- A walk down a stack by the records of symbol files (Breakpad's symbol_files.md, "STACK CFI"): from a first place through the callers, one
+-- A walk down a stack, given the records of symbol files (Breakpad's symbol_files.md, "STACK CFI"): from a first place through the callers, with one
 -- step for each. A step has the rules and the names of one address.
 use Rattle.std.specs.Prelude.{ℕ, zero, suc, ◌-◌, ◌==◌, ◌&&◌, Bool, true, false, not, pos, negsuc, nat_lt, if◌then◌else◌, List, [], ◌∷◌, map, Option, None, Some, ok_or, Result, Ok, Err}
 use Rattle.std.specs.List.{list_any}
@@ -29,30 +29,31 @@ use Rattle.stack_walk.specs.declared.steps.WalkEnd.{WalkEnd}
 use Rattle.stack_walk.specs.declared.steps.WalkEnd.TheVariants.{NoRules, CfaUndefined, CfaFailed, CfaLow, RaUndefined, RaFailed, RaZero, Limit}
 use Rattle.stack_walk.specs.declared.steps.Walk.{Walk}
 
--- what a walk goes through: the memory, which stays; the records of the module at an address, or why there are none, and whether the address
--- is code; and whether frames of signals and calls to nowhere count
+-- what a walk goes through: the memory, which does not change; for each address, the records of its module, or why there are none, and whether the
+-- address is code; and whether frames of signals and calls to nowhere count
 pub record Process : Type 0 where
   pub memory : List MemRun
   pub known_at : ℕ → Known
   pub signals : Bool
 
--- the rules where a call led to what is no code: the call left its return address on top of the stack, `.cfa: $rsp 8 + .ra: .cfa -8 + ^`
+-- the rules after a call to an address that is not code: the call put its return address on top of the stack, `.cfa: $rsp 8 + .ra: .cfa -8 + ^`
 abbrev pub nowhere_rules : List RuleText
 nowhere_rules =
     record { target = target.Cfa; tokens = token.Reg 7 ∷ token.Number (pos 8) ∷ token.Add ∷ [] }
     ∷ record { target = target.Ra; tokens = token.Cfa ∷ token.Number (negsuc 7) ∷ token.Add ∷ token.Fetch ∷ [] } ∷ []
 
--- a call led nowhere: the address itself is looked up, and it is no code
+-- a call led nowhere: the step looks up rip itself, and rip is not code
 abbrev pub is_nowhere : Known → ℕ → ℕ → Bool
 is_nowhere known rip at = at == rip && not known.is_code
 
--- the rules of a step at an address, of which `at` is looked up and is known so; or why the walk ends there
+-- the rules of a step that looks up the address `at`, given what is known of it; or why the walk ends there
 abbrev pub rules_at : Bool → Known → ℕ → ℕ → Result (List RuleText) WalkEnd
 rules_at signals known rip at =
     if signals && is_nowhere known rip at then Ok nowhere_rules
     else known.records >>= λ records. ok_or (rules_in records at) NoRules
 
--- the rules are those of a signal's frame: the system put the return address on the stack at a place that rsp alone tells
+-- the rules are those of a signal's frame: the rule of the return address uses rsp and not the CFA, since the system put that address at a place that
+-- depends on rsp alone
 abbrev pub is_rsp : Token → Bool
 is_rsp (token.Reg register) = register == 7
 is_rsp _ = false
@@ -72,17 +73,17 @@ abbrev pub signal_by : Bool → Result (List RuleText) WalkEnd → Bool
 signal_by signals (Err end) = false
 signal_by signals (Ok rules) = signals && is_signal rules
 
--- what the rules evaluate to
+-- what the rules evaluate to, or why there are none
 abbrev pub frame_by : Regs → List MemRun → Result (List RuleText) WalkEnd → Result Frame WalkEnd
 frame_by regs memory (Err end) = Err end
 frame_by regs memory (Ok rules) = Ok (frame_of regs memory rules)
 
--- what names an address, where there are records
+-- what names an address, if there are records
 abbrev pub answer_by : Result ModuleRecords WalkEnd → ℕ → Answer
 answer_by (Err end) a = Nothing
 answer_by (Ok records) a = answer_in records a
 
--- the step at a place with these rules: a signal's frame is named at its own address
+-- the step at a place with these rules; a signal's frame has the names of rip itself
 abbrev pub step_by : Known → List MemRun → Place → Bool → Result (List RuleText) WalkEnd → WalkStep
 step_by known memory here signal rules = record {
   rip = here.rip;
@@ -92,7 +93,7 @@ step_by known memory here signal rules = record {
   answer = answer_by known.records (if signal then here.rip else here.at);
 }
 
--- the step at a place, by what is known of the address that is looked up
+-- the step at a place, given what is known of the address that is looked up
 unfoldable pub step_known : Bool → Known → List MemRun → Place → WalkStep
 step_known signals known memory here =
     let rules = rules_at signals known here.rip here.at in
@@ -101,7 +102,7 @@ step_known signals known memory here =
 abbrev pub step_at : Process → Place → WalkStep
 step_at process here = step_known process.signals (process.known_at here.at) process.memory here
 
--- the caller's registers: the outcomes that are values; its rip is the return address
+-- the caller's registers: the outcomes that are values; the caller's rip is the return address
 abbrev pub value_of : Outcome → Option ℕ
 value_of (Value v) = Some v
 value_of Undefined = None
@@ -110,7 +111,7 @@ value_of (Failed why) = None
 abbrev pub caller_regs : Frame → Regs
 caller_regs frame = record { values = map value_of frame.regs; rip = value_of frame.ra }
 
--- the CFA has a value above the CFA of the step before, or the walk ends; a signal's frame may lie on another stack
+-- the CFA must have a value above the CFA of the step before, or the walk ends; a signal's frame need not be above, since it may lie on another stack
 abbrev pub cfa_from : Option ℕ → ℕ → Result ℕ WalkEnd
 cfa_from None cfa = Ok cfa
 cfa_from (Some before) cfa = if nat_lt before cfa then Ok cfa else Err (CfaLow before cfa)
@@ -123,21 +124,21 @@ cfa_of before (Value cfa) = cfa_from before cfa
 abbrev pub floor_of : Bool → Option ℕ → Option ℕ
 floor_of signal before = if signal then None else before
 
--- the return address has a value that is not 0, or the walk ends; a signal may have come at 0
+-- the return address must have a value other than 0, or the walk ends; in a signal's frame it may be 0
 abbrev pub return_address : Bool → Outcome → Result ℕ WalkEnd
 return_address signal Undefined = Err RaUndefined
 return_address signal (Failed why) = Err (RaFailed why)
 return_address signal (Value ra) = if not signal && ra == 0 then Err RaZero else Ok ra
 
--- the place of the caller: the return address, of which the address one below is looked up, since it is in the call; a signal came at the
--- address itself
+-- the place of the caller: it is at the return address, and the address one below is looked up, since that is in the call. If a signal came, the
+-- return address itself is looked up
 abbrev pub caller_of : Bool → Option ℕ → Frame → Result Place WalkEnd
 caller_of signal before frame = do
   cfa ← cfa_of (floor_of signal before) frame.cfa
   ra ← return_address signal frame.ra
   Ok (record { rip = ra; at = if signal then ra else ra - 1; regs = caller_regs frame; before = Some cfa })
 
--- the place after a step, or why the walk ends at it: the first cause that applies
+-- the place after a step, or the first cause that ends the walk at this step
 abbrev pub place_after : Option ℕ → WalkStep → Result Place WalkEnd
 place_after before step = step.frame >>= caller_of step.signal before
 
@@ -145,20 +146,20 @@ abbrev pub going_on : WalkStep → Result Place WalkEnd → (Place → Walk) →
 going_on step (Err end) go = record { steps = step ∷ []; end = end }
 going_on step (Ok next) go = record { steps = step ∷ (go next).steps; end = (go next).end }
 
--- at most so many steps from a place on; where one more would follow, the limit ends them
+-- at most this many steps from a place on; if one more would follow, the walk ends with `Limit`
 unfoldable pub walk_from : Process → ℕ → Place → Walk
 walk_from process zero here = record { steps = []; end = Limit }
 walk_from process (suc more) here = let step = step_at process here in going_on step (place_after here.before step) (walk_from process more)
 
--- the first step: its address is looked up as it is, and no step is before it
+-- the first place: its address itself is looked up, and no step is before it
 abbrev pub first_place : Regs → ℕ → Place
 first_place regs rip = record { rip = rip; at = rip; regs = regs; before = None }
 
--- one module at base 0 that holds every address, without frames of signals and calls to nowhere
+-- one module at base 0 that contains every address, without frames of signals and calls to nowhere
 abbrev pub process_of : List SymLine → List MemRun → Process
 process_of lines memory = record { memory = memory; known_at = λ a. record { records = Ok (record { base = 0; lines = lines }); is_code = true }; signals = false }
 
--- the walk from a state by the records of one symbol file, of at most so many steps; a state without rip has none
+-- the walk from a state, given the records of one symbol file, of at most `most` steps; a state without rip has no walk
 abbrev pub walk_upto : ℕ → List SymLine → State → Option Walk
 walk_upto most lines state = option_map (λ rip. walk_from (process_of lines state.memory) most (first_place state.regs rip)) state.regs.rip
 
@@ -168,6 +169,6 @@ MOST_STEPS = 1024
 unfoldable pub walk_of : List SymLine → State → Option Walk
 walk_of lines state = walk_upto MOST_STEPS lines state
 
--- a call ends with a fault of its own
+-- a call ends with a fault of its own: neither with a result nor for lack of memory
 abbrev pub IsFault : {A F : Type 0} → Result A (Stop F) → Type 0
 IsFault result = MatchStop result (λ _. ⊥) (λ _. Unit {0}) ⊥

@@ -5,7 +5,7 @@ ghost use Rattle.stack_walk.specs.Walk.{value_of, caller_regs, first_place, cfa_
 use crate::steps::{WalkEnd, WalkStep};
 use cfi_eval::{Frame, Outcome, Regs};
 
-/// Where a step stands, with the registers there and the CFA of the step before.
+/// Where a step is, with the registers there and the CFA of the step before.
 #[derive(Clone, Copy)]
 pub struct Place {
     pub rip: u64,
@@ -14,7 +14,7 @@ pub struct Place {
     pub before: Option<u64>,
 }
 
-/// The first step, by its address.
+/// The place of the first step, given its address.
 pub fn first_place(regs: &Regs, rip: u64) -> Place
     ensures { result ≡ first_place regs.now rip }
 {
@@ -56,7 +56,7 @@ fn caller_regs(frame: &Frame) -> Regs
     }
 }
 
-/// The CFA, where it lies above that of the step before.
+/// The CFA, if it is above that of the step before.
 fn cfa_from(before: Option<u64>, cfa: u64) -> Result<u64, WalkEnd>
     ensures { result ≡ cfa_from before cfa }
 {
@@ -98,7 +98,7 @@ fn return_address(signal: bool, ra: Outcome) -> Result<u64, WalkEnd>
     }
 }
 
-/// The step of the caller.
+/// The place of the caller.
 fn caller_of(signal: bool, before: Option<u64>, frame: &Frame) -> Result<Place, WalkEnd>
     ensures { result ≡ caller_of signal before frame.now }
 {
@@ -114,7 +114,7 @@ fn caller_of(signal: bool, before: Option<u64>, frame: &Frame) -> Result<Place, 
     })
 }
 
-/// The place after a step, where that is not the last: that of its caller.
+/// The place of the caller of a step, or why the walk ends at the step.
 pub fn place_after(here: &Place, step: &WalkStep) -> Result<Place, WalkEnd>
     ensures { result ≡ place_after here.now.before step.now }
 {

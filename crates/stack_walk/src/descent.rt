@@ -18,7 +18,7 @@ use sym_records::SymFile;
 /// The most steps of a walk.
 const MOST_STEPS: usize = 1024;
 
-/// What is known of every address, where all lie in one module.
+/// What is known of every address, if all lie in one module.
 fn one_module<'k>(file: &'k SymFile, index: &'k Index) -> Known<'k>
     requires { IsIndexOf file.now index.now }
     ensures { result ≡ record { records = Ok (record { base = 0; lines = file.now }); is_code = true } }
@@ -29,7 +29,7 @@ fn one_module<'k>(file: &'k SymFile, index: &'k Index) -> Known<'k>
     }
 }
 
-/// At most so many steps, from one on.
+/// At most this many steps, from a place on.
 fn walk_from(
     alloc: Global,
     file: &SymFile,
@@ -64,8 +64,8 @@ fn walk_from(
     })
 }
 
-/// The steps of a stack, the innermost first, by the index of the file: the state's rip is the first address. A step costs a search by halves for
-/// the records that name its address, and a pass over the rules of one INIT.
+/// The steps of a stack, the innermost first, given the index of the file: the state's rip is the first address. A step costs a binary search for the
+/// records that name its address, and a pass over the rules of one INIT.
 #[tactic(auto, using(crate::proofs::DescentLemmas::walked))]
 pub fn walk(
     alloc: Global,

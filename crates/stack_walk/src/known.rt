@@ -1,4 +1,4 @@
-//! A step, by what is known of its address.
+//! A step, given what is known of its address.
 ghost use Rattle.std.specs.Prelude.{◌≡◌, Ok, IfOk};
 ghost use Rattle.std.specs.List.{list_any};
 ghost use Rattle.cfi_eval.specs.TextRules.{rule_for};
@@ -22,7 +22,7 @@ pub struct Known<'k> {
     pub is_code: bool,
 }
 
-/// Whether a rule's word is `$rsp`.
+/// Whether a token of a rule is `$rsp`.
 fn is_rsp(token: &Token) -> bool
     ensures { result ≡ is_rsp token.now }
 {
@@ -32,7 +32,7 @@ fn is_rsp(token: &Token) -> bool
     }
 }
 
-/// Whether a rule's word is `.cfa`.
+/// Whether a token of a rule is `.cfa`.
 fn is_cfa(token: &Token) -> bool
     ensures { result ≡ is_cfa token.now }
 {
@@ -62,7 +62,7 @@ fn is_signal(rules: &RulesAt<'_>) -> bool
     }
 }
 
-/// The rules where a call led to what is no code.
+/// The rules after a call to an address that is not code.
 fn nowhere_rules() -> [RuleText; 2]
     ensures { result ≡ nowhere_rules }
 {
@@ -78,7 +78,7 @@ fn nowhere_rules() -> [RuleText; 2]
     ]
 }
 
-/// What the rules at a place evaluate to, and whether they are a signal's.
+/// What the rules at a place evaluate to, and whether they are those of a signal's frame.
 #[derive(Clone, Copy)]
 struct Evaluated {
     signal: bool,
@@ -102,7 +102,7 @@ fn evaluate<M: ByteMemory>(
     })
 }
 
-/// What the rules at a place evaluate to, by what is known of the address that is looked up.
+/// What the rules at a place evaluate to, given what is known of the address that is looked up.
 fn find_rules<M: ByteMemory>(
     alloc: Global,
     known: &Known<'_>,
@@ -136,7 +136,7 @@ fn find_rules<M: ByteMemory>(
     }
 }
 
-/// Which records name an address, where there are any.
+/// Which records name an address, if there are any.
 fn name_at(
     alloc: Global,
     records: &Result<Records<'_>, WalkEnd>,
@@ -150,8 +150,8 @@ fn name_at(
     }
 }
 
-/// The step at a place, by what is known of the address that is looked up. It costs a search by halves for the records that name the address, and
-/// a pass over the rules of one INIT. Where `signals`, frames of signals and calls to nowhere count.
+/// The step at a place, given what is known of the address that is looked up. It costs a binary search for the records that name the address, and a
+/// pass over the rules of one INIT. If `signals`, frames of signals and calls to nowhere count.
 #[tactic(auto, unfolding(crate::specs::Walk::step_known))]
 pub fn take_step<M: ByteMemory>(
     alloc: Global,

@@ -3,7 +3,7 @@ use cfi_eval::{Cause, Frame};
 use sym_edges::ListOf;
 use sym_lookup::Answer;
 
-/// The state has no rip, at which a walk begins.
+/// The state has no rip, so no walk can begin.
 #[derive(Clone, Copy, Debug, PartialEq, Eq)]
 pub struct NoRip;
 
@@ -12,13 +12,13 @@ pub struct NoRip;
 pub struct WalkStep {
     /// The state's rip, or the return address of the step before.
     pub rip: u64,
-    /// The address that is looked up: in the first step and behind a signal's frame rip, and else the one below it, which is in the call.
+    /// The address that is looked up: rip itself in the first step and after a signal's frame, else the address one below, which is in the call.
     pub at: u64,
     /// The rules are those of a signal's frame.
     pub signal: bool,
     /// What the rules evaluate to, or why there are none.
     pub frame: Result<Frame, WalkEnd>,
-    /// Which records name the address that is looked up, or in a signal's frame rip.
+    /// Which records name the address that is looked up, or rip in a signal's frame.
     pub answer: Answer,
 }
 

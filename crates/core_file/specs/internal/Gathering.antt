@@ -1,4 +1,4 @@
--- What is gathered over notes: the threads, `limit` at most, and the first note of mapped files.
+-- What is collected from notes: the threads, `limit` at most, and the first note of mapped files.
 use Rattle.std.specs.Prelude.{ℕ, List, ◌++◌, Option, take, map, filter, find}
 use Rattle.std.specs.Option.{option_map, option_or}
 use Rattle.elf_sections.specs.Notes.{NoteParts}
@@ -19,7 +19,7 @@ pub record Gathered : Type 0 where
   pub threads : List Thread
   pub files : Option (List ℕ)
 
--- with those of more notes
+-- the threads and the files after more notes
 unfoldable pub gathered : ℕ → Gathered → List NoteParts → Gathered
 gathered limit so_far notes = record {
   threads = take limit (so_far.threads ++ threads_of notes);

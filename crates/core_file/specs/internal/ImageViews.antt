@@ -1,4 +1,4 @@
--- Files that were loaded, as they are read.
+-- A loaded file, as the specs see it.
 use Rattle.core_file.specs.LoadedImages.{LoadedImage}
 use Rattle.core_file.specs.declared.images.Image.{Image}
 

@@ -1,4 +1,4 @@
--- The modules so far, and what was found of them.
+-- The modules so far, and what was found about them.
 use Rattle.std.specs.Prelude.{◌≡◌, ℕ, ◌<◌, ◌^◌}
 use Rattle.std.specs.List.{list_any}
 use Rattle.std.specs.Ordering.{nat_cmp}

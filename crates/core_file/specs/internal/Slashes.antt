@@ -1,4 +1,4 @@
--- What follows the last slash, by what is left of a text.
+-- What follows the last slash, given the rest of a text.
 use Rattle.std.specs.Prelude.{ℕ, ◌==◌, Bool, List, if◌then◌else◌}
 use Rattle.std.specs.List.{list_any}
 use Rattle.core_file.specs.Modules.{behind_slash}
@@ -6,6 +6,6 @@ use Rattle.core_file.specs.Modules.{behind_slash}
 abbrev pub has_slash : List ℕ → Bool
 has_slash text = list_any (λ c. c == 47) text
 
--- what follows the last slash of what is left, or `name` where there is none
+-- what follows the last slash of the rest, or `name` if the rest has no slash
 unfoldable pub behind_or : List ℕ → List ℕ → List ℕ
 behind_or left name = if has_slash left then behind_slash left else name

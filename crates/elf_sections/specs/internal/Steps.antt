@@ -1,4 +1,4 @@
--- What the code's own parts answer, below the public calls.
+-- What the functions below the public calls return.
 use Rattle.std.specs.Prelude.{◌≡◌, ℕ, ◌==◌, ◌&&◌, true, false, List, Option, Some, None, length, is_none, map}
 use Rattle.sym_edges.specs.Addresses.{Range}
 use Rattle.elf_sections.specs.Notes.{NoteParts}
@@ -10,22 +10,22 @@ use Rattle.elf_sections.specs.declared.symbols.Symbol.{Symbol}
 use Rattle.elf_sections.specs.declared.symbols.Found.{Found}
 use Rattle.elf_sections.specs.declared.symbols.Found.TheVariants.{Nameless, Other, Function}
 
--- a note as it is read
+-- a note, as the specs see it
 abbrev pub note_view : Note → NoteParts
 note_view n = record { name = n.name.now; kind = n.kind; descriptor = n.descriptor.now }
 
--- what an entry is found to be
+-- what each finding about an entry means
 abbrev pub Classifies : Found → List Range → List ℕ → SymbolEntry → Type 0
 Classifies Nameless ranges strings e = is_nameless ranges strings e ≡ true
 Classifies Other ranges strings e = (is_nameless ranges strings e ≡ false) × (function_of ranges strings e ≡ None)
 Classifies (Function s) ranges strings e = (is_nameless ranges strings e ≡ false) × (function_of ranges strings e ≡ Some (symbol_view s))
 
--- what a reading of symbols answers: none exactly where some function has no name
+-- the result of reading the symbols: `None` exactly if some function has no zero-ended name
 abbrev pub ReadsSymbols : Option (List Symbol) → List Range → List ℕ → List SymbolEntry → Type 0
 ReadsSymbols None ranges strings found = has_nameless ranges strings found ≡ true
 ReadsSymbols (Some list) ranges strings found = (has_nameless ranges strings found ≡ false) × (map symbol_view list ≡ functions ranges strings found)
 
--- what a reading of the identity answers: none exactly where there is none
+-- the result of reading the identity: `None` exactly if the file has none
 abbrev pub ReadsIdentity : Option (List ℕ) → List ℕ → Option (List ℕ) → Type 0
 ReadsIdentity None text id = (is_none id && (length text == 0)) ≡ true
 ReadsIdentity (Some identity) text id = ((is_none id && (length text == 0)) ≡ false) × (identity ≡ identity_of text id)

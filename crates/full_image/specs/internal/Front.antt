@@ -26,12 +26,12 @@ abbrev pub parts_by : Bool → List ℕ → ImageParts
 parts_by true file = with_sections (full_sections file) (parts_of file)
 parts_by false file = parts_of file
 
--- the bytes of a section by its number, where the compressed ones gave these outcomes
+-- the bytes of the section with this index, given what the compressed sections inflated to
 abbrev pub bytes_by : List (Option (List ℕ)) → List ℕ → ℕ → SectionHeader → List ℕ
 bytes_by outcomes file index s =
     if is_packed (names file) s then unwrap_or (unwrap_or (slice_get outcomes index) None) [] else bytes_of file s
 
--- what is held of a file that has no such fault
+-- what the code keeps of a file that has no such fault
 pub record IsFront (full : Bool) (file : List ℕ) (plain : ImageParts) (streams : List (Option Stream)) : Type 0 where
   pub plain_is : plain ≡ parts_of file
   pub streams_are : streams ≡ streams_by full file

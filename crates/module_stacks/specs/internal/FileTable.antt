@@ -1,4 +1,4 @@
--- A table of files by their names.
+-- A table of files with their names as keys.
 use Rattle.std.specs.Prelude.{ℕ, List, map}
 use Rattle.std.specs.BTreeMap.{BTreeMap}
 use Rattle.std.specs.Global.{Vec}

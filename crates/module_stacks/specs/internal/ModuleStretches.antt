@@ -12,21 +12,21 @@ use Rattle.module_stacks.specs.ModuleAt.{module_at}
 abbrev pub stretch_of : ℕ → Module → Stretch
 stretch_of place m = record { first = m.start; last = m.end - 1; index = place; class = 0 }
 
--- those of the modules that have any, their places counted from `place` on
+-- the stretches of the modules that have any addresses; their places count from `place` on
 unfoldable pub stretches_from : ℕ → List Module → List Stretch
 stretches_from place [] = []
 stretches_from place (m ∷ modules) =
     if nat_lt m.start m.end then stretch_of place m ∷ stretches_from (place + 1) modules else stretches_from (place + 1) modules
 
--- a stretch begins below another, or as the other does and does not stand behind it
+-- s starts below t, or at the same address and is not after t in the list of modules
 abbrev pub Upto : Stretch → Stretch → Type 0
 Upto s t = (s.first < t.first) ⊎ ((s.first ≡ t.first) × (s.index ≤ t.index))
 
--- each stretch counts before those behind it
+-- each stretch takes precedence over all after it
 abbrev pub Fall : List Stretch → Type 0
 Fall [] = Unit {0}
 Fall (s ∷ stretches) = AllByRecursion (λ t. Upto t s) stretches × Fall stretches
 
--- at each address the place of the module that counts
+-- the step map has at each address the place of the module that counts
 abbrev pub IsModuleMap : List Module → Stepping (Option FirstItem) → Type 0
 IsModuleMap modules tops = (a : ℕ) → a < 2 ^ 64 → option_map (λ (item : FirstItem). item.index) (value_at None tops a) ≡ module_at modules a

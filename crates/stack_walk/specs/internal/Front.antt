@@ -1,4 +1,4 @@
--- A walk behind steps that were made.
+-- A walk after steps that were made before.
 use Rattle.std.specs.Prelude.{List, ◌++◌}
 use Rattle.stack_walk.specs.declared.steps.WalkStep.{WalkStep}
 use Rattle.stack_walk.specs.declared.steps.Walk.{Walk}
