@@ -8,7 +8,7 @@ use Rattle.debug_units.specs.declared.unit_read.UnitRead.{UnitRead}
 use Rattle.func_flatten.specs.declared.piece.Piece.{Piece}
 use Rattle.func_records.specs.FuncRecords.{AreFuncRecords, EndBelow}
 
--- the text has the records of the pieces after what stood there, and they may stand after other records; the pieces end below 2^64
+-- the new text is the old text and then the records of the pieces, which may come after other records. The pieces end below 2^64
 pub record AddsFunctions (base : ℕ) (units : List UnitRead) (pieces : List Piece) (old new : List ℕ) : Type 0 where
   pub records : List SymLine
   pub are : AreFuncRecords base units pieces records

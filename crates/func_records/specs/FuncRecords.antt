@@ -28,11 +28,11 @@ pub record Part : Type 0 where
 abbrev pub pieces_of : List Part → List Piece
 pieces_of parts = map (λ (p : Part). p.piece) parts
 
--- the path of a number in a unit's line table
+-- the path with this number in a unit's line table
 abbrev pub path_in : List UnitRead → ℕ → ℕ → List ℕ
 path_in units unit path = unwrap_or (slice_get (unit_paths units unit) path) []
 
--- path and line of the call, by the number of the inlined copy in its unit
+-- the path and the line of a call, by the number of the inlined copy in its unit
 abbrev pub call_path : List UnitRead → ℕ → ℕ → List ℕ
 call_path units unit entry = option_map_or (λ (p : Placed). path_of_call units unit p.die) (entry_of units unit entry) no_path
 
@@ -44,7 +44,7 @@ unfoldable pub number_in : List (List ℕ) → List ℕ → ℕ
 number_in [] text = 0
 number_in (t ∷ texts) text = if bytes_eq t text then 0 else number_in texts text + 1
 
--- records that give numbers to some texts, from `k` on: FILE for paths, INLINE_ORIGIN for names
+-- the records that give numbers to texts, from `k` on: FILE for paths, INLINE_ORIGIN for names
 abbrev pub numbered_lines : (ℕ → List ℕ → SymLine) → ℕ → List (List ℕ) → List SymLine
 numbered_lines made k [] = []
 numbered_lines made k (text ∷ texts) = made k text ∷ numbered_lines made (k + 1) texts
@@ -55,7 +55,7 @@ file_lines k paths = numbered_lines File k paths
 abbrev pub origin_lines : ℕ → List (List ℕ) → List SymLine
 origin_lines k names = numbered_lines Origin k names
 
--- the record of a piece, those of its inlined copies, and those of its lines; the base is taken off all addresses
+-- the records of a piece, of its inlined copies and of its lines; the base is subtracted from all addresses
 abbrev pub func_record : ℕ → List UnitRead → Piece → SymLine
 func_record base units p = Func p.many (p.start - base) (p.end - p.start) 0 (entry_name units p.unit p.entry)
 
@@ -86,13 +86,13 @@ abbrev pub AreInlined : List UnitRead → List Part → Type 0
 AreInlined units [] = Prim.Unit {0}
 AreInlined units (p ∷ parts) = AreInlineRuns units p.piece p.copies × AreInlined units parts
 
--- whether a line record of the part names the path, or an INLINE does as that of its call
+-- a line record of the part names the path, or an INLINE record names it as the path of its call
 abbrev pub names_path : List UnitRead → List ℕ → Part → Bool
 names_path units path p =
     list_any (λ (r : LineRun). bytes_eq path (path_in units p.piece.unit r.path)) p.lines
     || list_any (λ (r : InlineParts). bytes_eq path (call_path units p.piece.unit r.entry)) p.copies
 
--- whether an INLINE of the part is of a function of that name
+-- an INLINE record of the part is of a function with this name
 abbrev pub names_origin : List UnitRead → List ℕ → Part → Bool
 names_origin units name p = list_any (λ (r : InlineParts). bytes_eq name (entry_name units p.piece.unit r.entry)) p.copies
 
@@ -101,7 +101,7 @@ pub record AreUsed (named : List ℕ → Part → Bool) (parts : List Part) (tex
   pub sorted : IsStrictlySortedBy (slice_cmp nat_cmp) texts
   pub same : (text : List ℕ) → list_any (bytes_eq text) texts ≡ list_any (named text) parts
 
--- the records: those of the paths and names in use, then each piece of a function with its inlined copies and its lines
+-- the records: first those of the paths and names in use, then those of each piece with its inlined copies and its lines
 pub record AreFuncRecords (base : ℕ) (units : List UnitRead) (pieces : List Piece) (records : List SymLine) : Type 0 where
   pub parts : List Part
   pub paths : List (List ℕ)

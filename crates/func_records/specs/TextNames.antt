@@ -11,17 +11,17 @@ use Rattle.debug_units.specs.CallPaths.{path_of_call}
 abbrev pub name_of : List UnitRead → Covering → List ℕ
 name_of units c = entry_name units c.unit c.entry
 
--- a path that is there, and a line
+-- a known path, and a line
 abbrev pub found_line : List ℕ × ℕ → Option (List ℕ) × ℕ
 found_line at = (Some at.0, at.1)
 
--- what is said of the call of an inlined copy: the name of the function that was called, path and line of the call
+-- the call of an inlined copy: the name of the called function, and the path and the line of the call
 abbrev pub call_in : List UnitRead → Covering → Call
 call_in units c = record { name = Some (entry_name units c.unit c.entry); path = Some (path_of_call units c.unit c.die); line = c.die.call_line }
 
--- at an address of the text the first FUNC that covers it has the name of the function that owns the address in the file, and none
--- covers it where none owns it; the INLINE records give the calls of the address's chain, by INLINE_ORIGIN and FILE records that are
--- there; the line record has the path and the line of the address, and there is none where it has none
+-- at an address of the text, the first FUNC that covers it has the name of the function that owns the address in the file. If no function owns it, no
+-- FUNC covers it. The INLINE records give the calls of the address's chain, by INLINE_ORIGIN and FILE records that are there. The line record has the
+-- path and the line of the address. If the address has no line, no line record covers it
 pub record Names (base : ℕ) (units : List UnitRead) (lines : List SymLine) (x : ℕ) : Type 0 where
   pub function : text_owner lines x ≡ option_map (name_of units) (owner units (x + base))
   pub chain : text_chain lines x ≡ map (call_in units) (chain units (x + base))

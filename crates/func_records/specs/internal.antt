@@ -1,4 +1,4 @@
--- What serves the functions and loops of this crate alone: no public clause names it.
+-- What only the functions and loops of this crate need: no public clause names it.
 pub mod Texts
 pub mod Calls
 pub mod Gathering

@@ -6,7 +6,7 @@ ghost use Rattle.func_records.specs.internal.Calls.{IsSite};
 use debug_units::Units;
 use line_program::LineTable;
 
-/// Where a call is: the number that its path has in the line table of its unit, where the table has its file, and its line.
+/// Where a call is: the number of its path in the line table of its unit, if the table has the call's file; and its line.
 #[derive(Clone, Copy, Debug, PartialEq, Eq)]
 pub struct CallSite {
     pub path: Option<u32>,
@@ -24,7 +24,7 @@ fn number_of_file(table: &LineTable, file: Option<u64>) -> Option<u32>
     }
 }
 
-/// Where the inlined copy of a number is called.
+/// Where the inlined copy `entry` is called.
 pub fn call_site(units: &Units<'_>, unit: u32, entry: u32) -> CallSite
     ensures { IsSite units.now unit entry result }
 {

@@ -1,4 +1,4 @@
-//! Inlined copies, their names and all paths, found share by share.
+//! Finds inlined copies, their names and all paths, share by share.
 ghost use Rattle.std.specs.Prelude.{◌≡◌, length, IfOk};
 ghost use Rattle.func_records.specs.internal.Gathering.{AreHeld};
 ghost use Rattle.unit_workers.specs.Shares.{share};
@@ -19,10 +19,10 @@ use std::thread::Threads;
 use sym_edges::OutOfMemory;
 use unit_workers::{Crew, NoGate, UnitJob, share_of};
 
-/// Room for the copies of a share, which are then not moved as they grow. What they do not take is given back.
+/// Room for the copies of a share, so that they are not moved as they grow. Unused room is given back.
 const ROOM: usize = 1 << 16;
 
-/// The inlined copies of some pieces, those of each in a list.
+/// The inlined copies of some pieces, with a list for each piece.
 fn find_copies(
     alloc: Global,
     trees: &InlineTrees<'_, '_>,
@@ -48,7 +48,7 @@ struct FinderScratch {
     levels: LevelLists,
 }
 
-/// Units and pieces of which the copies and what they name are found share by share.
+/// Units and pieces. The pieces' copies and what they name are found share by share.
 #[derive(Drop)]
 struct ShareFinder<'t, 'u, 'a> {
     trees: &'t InlineTrees<'u, 'a>,
@@ -83,7 +83,7 @@ impl<'t, 'u, 'a> ShareFinder<'t, 'u, 'a> {
         }
     }
 
-    /// What is found of some pieces.
+    /// What is found for some pieces.
     fn find(
         &self,
         alloc: Global,
@@ -130,7 +130,7 @@ impl<'t, 'u, 'a> UnitJob for ShareFinder<'t, 'u, 'a> {
     }
 }
 
-/// What is found of all pieces by a crew of workers.
+/// What is found for all pieces by a crew of workers.
 pub fn find_shares<R: Threads + Sync>(
     crew: &Crew<'_, R>,
     units: &Units<'_>,

@@ -24,8 +24,8 @@ use sym_edges::OutOfMemory;
 use sym_records::TextPieces;
 use unit_workers::Crew;
 
-/// Adds the records of the names that entries give, sorted and once each, and answers the number of each entry's name. The memory that the names
-/// take is given back before others are spelled.
+/// Adds the records of the names that entries give, sorted and once each, and returns the number of each entry's name. The memory of the names is
+/// given back before other records are spelled.
 fn add_names<R: Threads + Sync>(
     crew: &Crew<'_, R>,
     units: &Units<'_>,
@@ -48,12 +48,12 @@ fn add_names<R: Threads + Sync>(
     Ok(numbers)
 }
 
-/// Adds to a text, which is given back, the records of functions (Breakpad's symbol_files.md): a FILE record for each path that a line record or a call
-/// names, and an INLINE_ORIGIN record for each name of a function that was inlined, both sorted by bytes and numbered from 0; then for
-/// each piece its FUNC record, an INLINE record for each inlined copy on the chains of its addresses, and a line record for each run
-/// of its lines. The base is taken off all addresses. Inlined copies are held from the first pass to the second; line runs are made
-/// where they are spelled and not kept. Copies with what they name are found, paths numbered, and records spelled, by a crew of
-/// workers, whose number changes nothing.
+/// Adds the records of functions (Breakpad's symbol_files.md) to a text, and returns the text. First come a FILE record for each path that a line
+/// record or a call names, and an INLINE_ORIGIN record for each name of an inlined function. Both kinds are sorted by bytes and numbered from 0. Then
+/// each piece has its FUNC record, an INLINE record for each inlined copy on the chains of its addresses, and a line record for each run of its
+/// lines. The base is subtracted from all addresses. Inlined copies are kept from the first pass to the second. Line runs are made when they are
+/// spelled, and are not kept. A crew of workers finds the copies and what they name, numbers the paths, and spells the records; the number of workers
+/// changes nothing.
 pub fn add_functions<R: Threads + Sync>(
     crew: &Crew<'_, R>,
     base: u64,

@@ -1,4 +1,4 @@
-//! Where texts stand, or would stand, among sorted ones, as it was found before.
+//! Remembers where texts are, or would be, among sorted ones.
 ghost use Rattle.std.specs.Prelude.{◌≡◌, ◌<◌, ◌^◌, length, slice_get, IfSome};
 ghost use Rattle.std.specs.Option.{option_map};
 ghost use Rattle.std.specs.Ordering.{nat_cmp};
@@ -14,13 +14,13 @@ use std::alloc::Global;
 use std::cmp::Ordering;
 use sym_edges::OutOfMemory;
 
-/// How many slots there are.
+/// The number of slots.
 const SLOTS: usize = 32768;
 
-/// How many bytes at the end of a text tell it from most others.
+/// How many bytes at the end of a text distinguish it from most others.
 const TAIL: usize = 16;
 
-/// What tells a text from most others.
+/// A key that distinguishes a text from most others.
 fn key_of(text: &[u8]) -> u64 {
     let (_, tail) = text.split_at(text.len().saturating_sub(TAIL));
     let mut mix: u32 = 0;
@@ -30,7 +30,7 @@ fn key_of(text: &[u8]) -> u64 {
     u64::from(mix)
 }
 
-/// How the text at a place compares with this one.
+/// How the text at a place compares with `text`.
 fn compare_at(sorted: &[&[u8]], place: usize, text: &[u8]) -> Option<Ordering>
     ensures { result ≡ option_map (λ t. slice_cmp nat_cmp t.now text.now) (slice_get sorted.now place) }
 {
@@ -40,7 +40,7 @@ fn compare_at(sorted: &[&[u8]], place: usize, text: &[u8]) -> Option<Ordering>
     }
 }
 
-/// 0, where a text would stand before the one at a place, and so is none of them.
+/// 0 if a text would be directly before the one at a place: then it is none of the texts.
 #[tactic(auto, using(crate::proofs::GapLemmas::none_in_front, crate::proofs::GapLemmas::none_between))]
 fn zero_before(sorted: &[&[u8]], place: u32, text: &[u8]) -> Option<u32>
     requires sorted { IsStrictlySortedBy text_cmp sorted.now }
@@ -56,7 +56,7 @@ fn zero_before(sorted: &[&[u8]], place: u32, text: &[u8]) -> Option<u32>
     }
 }
 
-/// The number of a text, where it stands at a place or would stand there.
+/// The number of a text, if it is at a place or would be there.
 #[tactic(auto, using(crate::proofs::GapLemmas::number_equal))]
 fn number_near(sorted: &[&[u8]], place: u32, text: &[u8]) -> Option<u32>
     requires sorted { IsStrictlySortedBy text_cmp sorted.now }
@@ -70,7 +70,7 @@ fn number_near(sorted: &[&[u8]], place: u32, text: &[u8]) -> Option<u32>
     }
 }
 
-/// Where a text stands, or would stand.
+/// Where a text is, or would be.
 fn place_of(sorted: &[&[u8]], text: &[u8]) -> u32 {
     let place = match sorted.binary_search(&text) {
         Ok(place) => place,
@@ -82,12 +82,12 @@ fn place_of(sorted: &[&[u8]], text: &[u8]) -> u32 {
     place as u32
 }
 
-/// No places among texts yet.
+/// No places of texts yet.
 pub fn new_gaps(alloc: Global) -> Result<PlaceGuesses, OutOfMemory> {
     PlaceGuesses::new(alloc, SLOTS)
 }
 
-/// The number of a text that is in use, and 0 for others. `gaps` keeps where texts were found to stand, or not to stand.
+/// The number of a text in use, and 0 for other texts. `gaps` remembers where texts were found to be, or to be missing.
 pub fn number_by(gaps: &mut PlaceGuesses, sorted: &[&[u8]], text: &[u8]) -> u32
     requires sorted { IsStrictlySortedBy text_cmp sorted.now }
     requires few { length sorted.now < 2 ^ 32 }

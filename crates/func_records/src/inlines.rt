@@ -1,4 +1,4 @@
-//! The records of inlined copies, spelled.
+//! Spells the records of inlined copies.
 ghost use Rattle.std.specs.Prelude.{◌≡◌, ◌++◌, ◌<◌, ◌≤◌, true, length, map, unwrap_or, OnOk};
 ghost use Rattle.std.specs.List.{list_all, slice_get};
 ghost use Rattle.sym_records.specs.Canon.{canon, canon_text};
@@ -29,7 +29,7 @@ fn extent_of(base: u64, span: Span) -> Extent
     }
 }
 
-/// Puts spans, less the base, in the place of what was there.
+/// Sets `ranges` to the spans, less the base.
 fn fill_ranges(base: u64, spans: &[Span], ranges: &mut Vec<Extent>) -> Result<(), OutOfMemory>
     ensures filled { OnOk result (ranges.new.items ≡ map (extent base) spans.now) }
     ensures fit { OnOk result (list_all is_range ranges.new.items ≡ true) }
@@ -53,7 +53,7 @@ fn file_number(row: &[u32], omitted: u32, path: Option<u32>) -> u32
     }
 }
 
-/// Adds the record of an inlined copy. What `ranges` holds does not matter: it is used again for the sake of its memory.
+/// Adds the record of an inlined copy. The memory of `ranges` is reused; what it holds does not matter.
 fn add_copy(
     writer: &FuncWriter<'_, '_, '_>,
     unit: u32,

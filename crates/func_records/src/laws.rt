@@ -11,20 +11,20 @@ ghost use Rattle.func_flatten.specs.Pieces.{ArePieces};
 ghost use Rattle.func_records.specs.FuncRecords.{AreFuncRecords, BeginAbove, EndBelow};
 ghost use Rattle.func_records.specs.TextNames.{Names};
 
-/// In a text with the records of the units' functions a look-up names the owner, the inlined copies and the line of each address,
-/// and nothing where there is none.
+/// In a text with the records of the units' functions, a look-up names the owner, the inlined copies and the line of each address, and nothing if
+/// there is none.
 pub fn names_are_kept()
     ensures { (base : ℕ) (units : List UnitRead) (pieces : List Piece) (front records behind : List SymLine) → ArePieces units pieces → BeginAbove base pieces → AreFuncRecords base units pieces records → ArePlain front → HaveNoFile front → HaveNoOrigin front → ArePlain behind → (x : ℕ) → Names base units (front ++ (records ++ behind)) x }
 {}
 
-/// In a text with the records of the units' functions a checker finds nothing of files, functions, inlined copies and lines: each number
-/// is given once and each named one is there; no range is empty or ends above 2^64 - 1; functions are apart, and the lines of
-/// each; and lines and inlined copies lie in their function.
+/// In a text with the records of the units' functions, a checker finds nothing about files, functions, inlined copies and lines. Each number is given
+/// once, and each number that is named is there. No range is empty or ends above 2^64 - 1. Functions do not overlap, and neither do the lines of a
+/// function. Lines and inlined copies lie in their function.
 pub fn records_have_no_findings()
     ensures { (base : ℕ) (units : List UnitRead) (pieces : List Piece) (front records behind : List SymLine) → ArePieces units pieces → BeginAbove base pieces → EndBelow (2 ^ 64) pieces → AreFuncRecords base units pieces records → ArePlain front → HaveNoFile front → HaveNoOrigin front → list_all are_sized front ≡ true → ArePlain behind → HaveNoFile behind → HaveNoOrigin behind → list_all are_sized behind ≡ true → HasNoFuncFindings (front ++ (records ++ behind)) }
 {}
 
-/// Pieces begin at or above a base, where no function owns an address below it.
+/// Pieces begin at or above a base if no function owns an address below it.
 #[tactic(auto, using(crate::proofs::AboveLemmas::pieces_above))]
 pub fn pieces_begin_above()
     ensures { (base : ℕ) (units : List UnitRead) (pieces : List Piece) → ((a : ℕ) (c : Covering) → owner units a ≡ Some c → base ≤ a) → ArePieces units pieces → BeginAbove base pieces }

@@ -1,16 +1,14 @@
-//! The records of functions (Breakpad's symbol_files.md): FILE, INLINE_ORIGIN, FUNC, INLINE and line records, spelled at the end of
-//! a text.
+//! The records of functions (Breakpad's symbol_files.md): FILE, INLINE_ORIGIN, FUNC, INLINE and line records. They are spelled at the end of a text.
 //!
-//! [`add_functions`] goes over the pieces of functions twice, share by share. First it asks for the inlined copies of each piece and
-//! holds them, and gathers which entries name the functions that were inlined and which paths line records and calls will name; the
-//! names and the paths of all shares are sorted by their bytes and numbered, the paths unit by unit. Then it spells the records of each piece, with
-//! its line runs made on the spot. Nothing is held for a line record. `specs/FuncRecords.antt` says which records these are, and
-//! `specs/TextNames.antt` what a look-up in a text that has them names: at each address the function that owns it, the calls that are
-//! inlined there, and the line that it has in the file (`laws::names_are_kept`). A checker finds nothing in such a text
-//! (`laws::records_have_no_findings`).
+//! [`add_functions`] goes over the pieces of functions twice, share by share. First it finds the inlined copies of each piece and keeps them. It also
+//! gathers which entries name the inlined functions, and which paths line records and calls will name. The names and the paths of all shares are
+//! sorted by their bytes and numbered, the paths unit by unit. Then it spells the records of each piece, and makes the line runs of the piece on the
+//! spot. Nothing is kept for a line record. `specs/FuncRecords.antt` defines these records. `specs/TextNames.antt` defines what a look-up names in a
+//! text that has them: at each address the function that owns it, the calls that are inlined there, and its line in the file
+//! (`laws::names_are_kept`). A checker finds nothing in such a text (`laws::records_have_no_findings`).
 //!
-//! To read: `functions` first, then `shares`, `found` and `finder`; `origin_refs`, `made_names` and `names`; `calls`, `path_list`,
-//! `line_paths`, `call_paths` and `paths`; `text_ranks`, `gaps`, `numbers` and `path_rows`; `text_numbers`, `inlines` and `parts`; and `speller`.
+//! To read: `functions` first, then `shares`, `found` and `finder`; `origin_refs`, `made_names` and `names`; `calls`, `path_list`, `line_paths`,
+//! `call_paths` and `paths`; `text_ranks`, `gaps`, `numbers` and `path_rows`; `text_numbers`, `inlines` and `parts`; and `speller`.
 #![tactic(auto)]
 
 mod call_paths;

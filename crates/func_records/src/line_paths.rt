@@ -11,7 +11,7 @@ use func_flatten::Piece;
 use line_program::LineTable;
 use sym_edges::OutOfMemory;
 
-/// Adds the path of a line, where there is one.
+/// Adds the path of a line, if there is a line.
 fn note_line(unit: u32, line: Option<(u32, u32)>, paths: &mut PathList) -> Result<(), OutOfMemory>
     ensures { OnOk result ((units : List UnitRead) (path : List ℕ) → has_path units paths.new path ≡ (has_path units paths.old path || has_line units unit line path)) }
 {
@@ -22,7 +22,7 @@ fn note_line(unit: u32, line: Option<(u32, u32)>, paths: &mut PathList) -> Resul
     Ok(())
 }
 
-/// Whether there are two lines and they have one path.
+/// Whether there are two lines with the same path.
 #[tactic(auto, using(crate::proofs::LinePathLemmas::one_number))]
 fn share_path(line: Option<(u32, u32)>, next: Option<(u32, u32)>) -> bool
     ensures { result ≡ true → (units : List UnitRead) (unit : ℕ) (path : List ℕ) → has_line units unit line path ≡ has_line units unit next path }
@@ -36,7 +36,7 @@ fn share_path(line: Option<(u32, u32)>, next: Option<(u32, u32)>) -> bool
     }
 }
 
-/// Adds the path of a line. One that the next line has too is left to that line.
+/// Adds the path of a line, unless the next line has the same path: then it is left to that line.
 #[tactic(auto, using(crate::proofs::LinePathLemmas::left_to_next, crate::proofs::LinePathLemmas::noted_now))]
 fn note_before(
     unit: u32,
@@ -81,7 +81,7 @@ fn note_lines(
     Ok(())
 }
 
-/// No two numbers have one path.
+/// No two numbers have the same path.
 #[tactic(auto, using(crate::proofs::LinePathLemmas::none_alike))]
 fn tell_apart(table: &LineTable)
     ensures { AreDistinct table.now.paths }

@@ -1,4 +1,4 @@
-//! Names that were made, and the same once each.
+//! Names that were made, and the same names once each.
 ghost use Rattle.std.specs.Prelude.{◌≡◌, IfOk};
 ghost use Rattle.func_records.specs.internal.Gathering.{bytes_of};
 ghost use Rattle.func_records.specs.internal.Origins.{TextsSay};
@@ -24,7 +24,7 @@ impl<'a> Model for MadeName<'a> {
     ghost view = { λ m. m.text };
 }
 
-/// A number that few other texts have: eight bytes at a time are mixed in, and then each that is left.
+/// A key that few other texts have. Eight bytes at a time are mixed in, and then each byte that is left.
 fn key_of(text: &[u8]) -> u64 {
     let mut key = text.len() as u64;
     let mut rest = text;
@@ -39,7 +39,7 @@ fn key_of(text: &[u8]) -> u64 {
     key
 }
 
-/// A number with another mixed in.
+/// A key with a number mixed in.
 fn mixed(key: u64, word: u64) -> u64 {
     (key.rotate_left(5) ^ word).wrapping_mul(0x9e37_79b9_7f4a_7c15)
 }
@@ -59,14 +59,14 @@ impl<'a> MadeName<'a> {
     }
 }
 
-/// Names, mostly once each, and for each name that was given its place among them.
+/// Names, mostly once each, and for each given name its place among them.
 #[derive(Drop)]
 pub struct DistinctNames<'t> {
     pub texts: Vec<&'t [u8]>,
     pub places: Vec<u32>,
 }
 
-/// Names once each, but for those whose keys get into each other's way.
+/// Names once each, except perhaps for names whose keys collide.
 pub fn distinct_names<'t>(
     alloc: Global,
     names: &'t [MadeName<'_>],

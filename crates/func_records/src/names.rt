@@ -1,4 +1,4 @@
-//! The names of the functions that were inlined.
+//! The names of the inlined functions.
 ghost use Rattle.std.specs.Prelude.{◌≡◌, map, IfOk};
 ghost use Rattle.std.specs.List.{flat_map};
 ghost use Rattle.func_records.specs.internal.Origins.{made_name, all_refs};
@@ -15,7 +15,7 @@ use std::thread::Threads;
 use sym_edges::OutOfMemory;
 use unit_workers::{Crew, NoGate, UnitJob, share_of};
 
-/// How many entries all shares have.
+/// How many entries all shares have together.
 fn count_refs(shares: &[FoundShare]) -> usize {
     let mut count: usize = 0;
     for share in shares {
@@ -24,7 +24,7 @@ fn count_refs(shares: &[FoundShare]) -> usize {
     count
 }
 
-/// The entries that name the functions that were inlined, share after share.
+/// The entries that name the inlined functions, share after share.
 pub fn join_refs(alloc: Global, shares: &[FoundShare]) -> Result<Vec<NameRef>, OutOfMemory>
     ensures { IfOk result (λ refs. refs.items ≡ all_refs shares.now) }
 {
@@ -35,7 +35,7 @@ pub fn join_refs(alloc: Global, shares: &[FoundShare]) -> Result<Vec<NameRef>, O
     Ok(refs)
 }
 
-/// The names that entries give, cleaned.
+/// The cleaned names that entries give.
 fn make_names<'a>(
     alloc: Global,
     units: &Units<'a>,
@@ -97,7 +97,7 @@ impl<'t, 'a> UnitJob for NameMaker<'t, 'a> {
     }
 }
 
-/// The names of all shares after one another.
+/// The names of all shares, one share after another.
 fn join_names<'a>(
     alloc: Global,
     shares: Vec<Vec<MadeName<'a>>>,
@@ -114,7 +114,7 @@ fn join_names<'a>(
     Ok(texts)
 }
 
-/// The names that entries give, cleaned, made by a crew of workers.
+/// The cleaned names that entries give, made by a crew of workers.
 pub fn gather_names<'a, R: Threads + Sync>(
     crew: &Crew<'_, R>,
     units: &Units<'a>,

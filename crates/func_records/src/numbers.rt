@@ -1,4 +1,4 @@
-//! The numbers of paths and names among those in use.
+//! The numbers of the paths and names in use.
 ghost use Rattle.std.specs.Prelude.{◌≡◌, ℕ, ◌<◌, ◌^◌, false, map, length, Any, slice_get, IfSome, IfNone, IfOk, true, vec_len, unwrap_or};
 ghost use Rattle.std.specs.Str.{bytes_eq};
 ghost use Rattle.std.specs.List.Sorted.{IsStrictlySortedBy};
@@ -10,8 +10,8 @@ use crate::found::FoundShare;
 use std::alloc::Global;
 use sym_edges::{ListOf, OutOfMemory};
 
-/// The numbers in the text: of the paths of each unit's table, of the text for a path that is not known, and of the name that each of
-/// the entries of some shares gives.
+/// The numbers in the text: those of the paths in each unit's table, that of the text for an unknown path, and those of the names that the entries of
+/// some shares give.
 #[derive(Clone, Copy)]
 pub struct Numbers<'n> {
     pub rows: &'n [ListOf<u32>],
@@ -20,7 +20,7 @@ pub struct Numbers<'n> {
     pub numbers: &'n [u32],
 }
 
-/// The place of a text among sorted texts, by halves.
+/// The place of a text among sorted texts, by binary search.
 fn find_text(sorted: &[&[u8]], text: &[u8]) -> Option<usize>
     requires { IsStrictlySortedBy text_cmp sorted.now }
     ensures none { IfNone result (Any (λ t. bytes_eq text.now t.now ≡ true) sorted.now → ⊥) }
@@ -33,7 +33,7 @@ fn find_text(sorted: &[&[u8]], text: &[u8]) -> Option<usize>
     }
 }
 
-/// The number of a text that is in use, and 0 for others.
+/// The number of a text in use, and 0 for other texts.
 pub fn number_of(sorted: &[&[u8]], path: &[u8]) -> u32
     requires sorted { IsStrictlySortedBy text_cmp sorted.now }
     requires few { length sorted.now < 2 ^ 32 }
@@ -52,7 +52,7 @@ fn is_text(found: &[u8], text: &[u8]) -> bool
     found == text
 }
 
-/// The number of a text that is in use, and 0 for others; it is looked for at a place first.
+/// The number of a text in use, and 0 for other texts. The place `guess` is tried first.
 fn number_guessed(sorted: &[&[u8]], text: &[u8], guess: u32) -> u32
     requires sorted { IsStrictlySortedBy text_cmp sorted.now }
     requires few { length sorted.now < 2 ^ 32 }
@@ -69,7 +69,7 @@ fn number_guessed(sorted: &[&[u8]], text: &[u8], guess: u32) -> u32
     number_of(sorted, text)
 }
 
-/// The numbers of texts, each of which is looked for at its place first.
+/// The numbers of texts. For each text its place in `guesses` is tried first.
 pub fn numbers_of(
     alloc: Global,
     sorted: &[&[u8]],

@@ -1,4 +1,4 @@
-//! Which entries name the functions that were inlined.
+//! The entries that name the inlined functions.
 ghost use Rattle.std.specs.Prelude.{◌≡◌, [], ◌++◌, ◌∷◌, length, List, ℕ, IfOk, OnOk};
 ghost use Rattle.debug_units.specs.declared.unit_read.UnitRead.{UnitRead};
 ghost use Rattle.func_records.specs.internal.Origins.{made_name, entry_names, all_names, RefsSay};
@@ -13,10 +13,10 @@ use std::alloc::Global;
 use std::marker::Model;
 use sym_edges::OutOfMemory;
 
-/// How many slots there are for the entries of a share.
+/// The number of slots for the entries of a share.
 const SLOTS: usize = 8192;
 
-/// References to entries that name functions, mostly once each, and for each one that was added its place among them.
+/// References to entries that name functions, mostly once each, and for each added reference its place among them.
 #[derive(Drop)]
 pub struct OriginRefs {
     refs: Vec<NameRef>,
@@ -32,13 +32,13 @@ impl Model for OriginRefs {
     ghost view = { λ o. record { refs = o.refs.items; places = o.places.items } };
 }
 
-/// What tells an entry from most others.
+/// A key that distinguishes an entry from most others.
 fn key_of(name: NameRef) -> u64 {
     u64::from(name.unit) << 32 | u64::from(name.entry)
 }
 
 impl OriginRefs {
-    /// None yet, and so many slots.
+    /// No references yet, and this many slots.
     pub fn new(alloc: Global, slots: usize) -> Result<OriginRefs, OutOfMemory>
         ensures { IfOk result (λ origins. origins ≡ record { refs = []; places = [] }) }
     {
@@ -49,7 +49,7 @@ impl OriginRefs {
         })
     }
 
-    /// The references, and the places, in no more room than they take.
+    /// The references and the places, without spare room.
     pub fn into_parts(self) -> (Vec<NameRef>, Vec<u32>)
         ensures refs { result.0.items ≡ self.refs }
         ensures places { result.1.items ≡ self.places }
@@ -64,7 +64,7 @@ impl OriginRefs {
         (refs, places)
     }
 
-    /// Adds the place of a reference, which has a slot.
+    /// Adds the place of a reference, given its slot.
     fn add(&mut self, slot: usize, name: NameRef) -> Result<(), OutOfMemory>
         ensures { OnOk result ((units : List UnitRead) (names : List (List ℕ)) → RefsSay units self.old names → RefsSay units self.new (names ++ made_name units name ∷ [])) }
     {
@@ -93,7 +93,7 @@ impl OriginRefs {
     }
 }
 
-/// Which entries name the functions of some pieces' inlined copies.
+/// The entries that name the functions of some pieces' inlined copies.
 pub fn gather_refs(
     alloc: Global,
     units: &Units<'_>,

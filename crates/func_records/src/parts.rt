@@ -1,4 +1,4 @@
-//! The records of functions, their inlined copies and their lines, spelled.
+//! Spells the records of functions, their inlined copies and their lines.
 ghost use Rattle.std.specs.Prelude.{◌≡◌, ◌++◌, ◌<◌, ◌^◌, None, true, length, map, unwrap_or, OnOk};
 ghost use Rattle.std.specs.List.{list_all, slice_get};
 ghost use Rattle.std.specs.Option.{option_copied};
@@ -73,7 +73,7 @@ fn add_owner(
     add_func(text, piece.many, address, size, 0, made.as_slice())
 }
 
-/// Lists that each piece fills anew. They are kept for the sake of their memory: what they hold does not matter.
+/// Lists that are filled anew for each piece. They are kept to reuse their memory; what they hold does not matter.
 #[derive(Drop)]
 struct PartLists {
     ranges: Vec<Extent>,
@@ -104,7 +104,7 @@ fn add_part(
     Ok(())
 }
 
-/// Adds the records of pieces, their inlined copies, each with the number of its name, and their lines.
+/// Adds the records of pieces, their inlined copies and their lines. `origins` has the number of each copy's name.
 pub fn add_parts(
     alloc: Global,
     writer: &FuncWriter<'_, '_, '_>,

@@ -14,7 +14,7 @@ use std::alloc::Global;
 use std::marker::Model;
 use sym_edges::OutOfMemory;
 
-/// The path of a number in the line table of a unit; without a number it is one that is not known.
+/// A path, by its number in the line table of a unit. Without a number it is an unknown path.
 #[derive(Clone, Copy, Debug, PartialEq, Eq)]
 pub struct PathRef {
     pub unit: u32,
@@ -37,7 +37,7 @@ impl Model for PathList {
     ghost view = { λ l. l.refs.items };
 }
 
-/// What stands in the place of a path that is not known.
+/// The text for an unknown path.
 #[tactic(auto, unfolding(debug_units::specs::CallPaths::no_path))]
 pub fn no_path() -> &'static [u8]
     ensures { result.now ≡ no_path }
@@ -45,7 +45,7 @@ pub fn no_path() -> &'static [u8]
     name_omitted()
 }
 
-/// The path of a number in a unit's line table.
+/// The path with this number in a unit's line table.
 #[tactic(auto, unfolding(func_flatten::specs::LineRuns::unit_paths))]
 fn path_in<'u>(units: &'u Units<'_>, unit: u32, path: u32) -> &'u [u8]
     ensures { result.now ≡ path_in units.now unit path }
@@ -70,7 +70,7 @@ pub fn path_text<'u>(units: &'u Units<'_>, at: PathRef) -> &'u [u8]
     }
 }
 
-/// What tells a path from most others.
+/// A key that distinguishes a path from most others.
 fn key_of(at: PathRef) -> u64 {
     match at.path {
         Some(path) => u64::from(at.unit) << 32 | u64::from(path),
@@ -78,7 +78,7 @@ fn key_of(at: PathRef) -> u64 {
     }
 }
 
-/// The slot of a path, where `starts` says how many paths the units before have, and one more; the first is for paths that are not known.
+/// The slot of a path. `starts` has for each unit the number of paths in the units before it, plus 1. Slot 0 is for unknown paths.
 fn own_slot(starts: &[usize], at: PathRef) -> usize {
     let Some(path) = at.path else {
         return 0;
@@ -90,7 +90,7 @@ fn own_slot(starts: &[usize], at: PathRef) -> usize {
 }
 
 impl PathList {
-    /// None yet, and so many slots.
+    /// No paths yet, and this many slots.
     pub fn new(alloc: Global, slots: usize) -> Result<PathList, OutOfMemory>
         ensures { IfOk result (λ list. list ≡ []) }
     {
@@ -100,7 +100,7 @@ impl PathList {
         })
     }
 
-    /// The paths, in no more room than they take.
+    /// The paths, without spare room.
     pub fn into_refs(self) -> Vec<PathRef>
         ensures { result.items ≡ self }
     {
@@ -112,7 +112,7 @@ impl PathList {
         refs
     }
 
-    /// Adds a path, which has a slot, unless it is known to be there.
+    /// Adds a path, given its slot, unless it is known to be there.
     #[tactic(auto, using(crate::proofs::PathLemmas::path_known, crate::proofs::PathLemmas::path_added))]
     fn put(&mut self, slot: usize, at: PathRef) -> Result<(), OutOfMemory>
         ensures { OnOk result ((units : List UnitRead) (path : List ℕ) → has_path units self.new path ≡ (has_path units self.old path || bytes_eq path (path_at units at))) }
@@ -129,7 +129,7 @@ impl PathList {
         self.put(slot, at)
     }
 
-    /// Adds paths. Each has a slot of its own, where `starts` says how many paths the units before have, and one more.
+    /// Adds paths, each with a slot of its own, which `own_slot` finds by `starts`.
     pub fn add_all(&mut self, starts: &[usize], refs: &[PathRef]) -> Result<(), OutOfMemory>
         ensures { OnOk result ((units : List UnitRead) (path : List ℕ) → has_path units self.new path ≡ (has_path units self.old path || has_path units refs.now path)) }
     {

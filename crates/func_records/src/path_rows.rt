@@ -76,7 +76,7 @@ impl<'s, 'a> UnitJob for RowMaker<'s, 'a> {
         new_gaps(alloc)
     }
 
-    /// A number after the last unit, which no worker draws, has no result.
+    /// A number after the last unit has no result; no worker draws it.
     #[tactic(auto, using(crate::proofs::RowLemmas::row_there))]
     fn run(
         &self,

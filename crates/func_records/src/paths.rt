@@ -14,7 +14,7 @@ use inline_chain::InlineRun;
 use std::alloc::Global;
 use sym_edges::OutOfMemory;
 
-/// How many slots there are for the paths of a share.
+/// The number of slots for the paths of a share.
 const SLOTS: usize = 4096;
 
 /// Adds the paths of a piece.
@@ -64,7 +64,7 @@ fn texts_of<'u>(
     Ok(texts)
 }
 
-/// How many paths the units before each have, and how many all have; and one more.
+/// For each unit the number of paths in the units before it, plus 1; and the number of all paths, plus 1.
 fn path_starts(alloc: Global, units: &Units<'_>) -> Result<(Vec<usize>, usize), OutOfMemory> {
     let parts = units.as_slice();
     let mut starts = Vec::with_capacity(alloc, parts.len())?;

@@ -3,10 +3,10 @@ ghost use Rattle.std.specs.Prelude.{◌*◌, ◌≤◌, ◌^◌, IfOk};
 
 use sym_edges::OutOfMemory;
 
-/// How many pieces are one job.
+/// The number of pieces in one job.
 pub const SHARE: usize = 512;
 
-/// How many shares this number of pieces makes.
+/// The number of shares for this number of pieces.
 pub fn share_count(pieces: usize) -> Result<usize, OutOfMemory>
     ensures all { IfOk result (λ count. pieces ≤ 512 * count) }
     ensures few { IfOk result (λ count. count ≤ 2 ^ 32) }

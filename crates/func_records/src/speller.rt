@@ -1,4 +1,4 @@
-//! The records of functions, spelled share by share.
+//! Spells the records of functions, share by share.
 ghost use Rattle.std.specs.Prelude.{◌≡◌, ◌++◌, [], map, length, IfOk};
 ghost use Rattle.std.specs.List.{flat_map};
 ghost use Rattle.sym_records.specs.Spelled.{text_bytes};
@@ -20,7 +20,7 @@ use sym_edges::OutOfMemory;
 use sym_records::TextPieces;
 use unit_workers::{Crew, NoGate, UnitJob, share_of};
 
-/// Room for the text of a share, which is then not copied as it grows. What it does not take is given back.
+/// Room for the text of a share, so that it is not copied as it grows. Unused room is given back.
 const ROOM: usize = 1 << 20;
 
 /// The numbers of the names that the entries of each share give.
@@ -43,7 +43,7 @@ fn split_numbers<'n>(
     Ok(split)
 }
 
-/// What is spelled share by share: the pieces, what was found of them, and the numbers of the names that the entries there give.
+/// What is spelled share by share: the pieces, what was found for them, and the numbers of the names that the entries found there give.
 #[derive(Drop)]
 struct Speller<'s, 'u, 'a, 'n> {
     writer: &'s FuncWriter<'u, 'a, 'n>,
@@ -92,7 +92,7 @@ impl<'s, 'u, 'a, 'n> UnitJob for Speller<'s, 'u, 'a, 'n> {
         Ok(())
     }
 
-    /// A number after the last share, which no worker draws, has no result.
+    /// A number after the last share has no result; no worker draws it.
     fn run(&self, alloc: Global, k: usize, _scratch: &mut ()) -> Result<TextPieces, OutOfMemory> {
         if k >= self.shares.len() {
             return Err(OutOfMemory);
@@ -116,7 +116,7 @@ impl<'s, 'u, 'a, 'n> UnitJob for Speller<'s, 'u, 'a, 'n> {
     }
 }
 
-/// A text, and those of all shares after it.
+/// A text, followed by the texts of all shares.
 fn join_shares(front: TextPieces, shares: Vec<TextPieces>) -> Result<TextPieces, OutOfMemory>
     ensures { IfOk result (λ text. text_bytes text ≡ text_bytes front ++ flat_map text_bytes shares.items) }
 {
@@ -129,7 +129,7 @@ fn join_shares(front: TextPieces, shares: Vec<TextPieces>) -> Result<TextPieces,
     Ok(text)
 }
 
-/// Pieces, what was found of them share by share, and the numbers of the names that the entries of all shares give.
+/// Pieces, what was found for them share by share, and the numbers of the names that the entries of all shares give.
 #[derive(Clone, Copy)]
 pub struct FoundPieces<'s> {
     pub pieces: &'s [Piece],

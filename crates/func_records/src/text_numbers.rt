@@ -1,4 +1,4 @@
-//! The records of the paths and the names in use, spelled.
+//! Spells the records of the paths and the names in use.
 ghost use Rattle.std.specs.Prelude.{◌≡◌, ◌++◌, ◌<◌, ◌^◌, None, true, length, OnOk};
 ghost use Rattle.sym_records.specs.Canon.{canon, canon_text};
 ghost use Rattle.clean_names.specs.Cleaning.{cleaned};
@@ -15,12 +15,12 @@ use sym_edges::OutOfMemory;
 use sym_records::laws::{cleaned_bytes_are_names, records_of_functions_fit};
 use sym_records::{TextPieces, add_file, add_origin};
 
-/// What gives numbers to texts.
+/// Which records give numbers to texts.
 #[derive(Clone, Copy)]
 pub enum Numbering {
-    /// FILE records, to paths.
+    /// FILE records, for paths.
     Files,
-    /// INLINE_ORIGIN records, to names.
+    /// INLINE_ORIGIN records, for names.
     Origins,
 }
 

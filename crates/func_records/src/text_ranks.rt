@@ -1,4 +1,4 @@
-//! Texts, and the same in the order of their bytes.
+//! Texts, and the same texts in the order of their bytes.
 ghost use Rattle.std.specs.Prelude.{◌≡◌, ◌<◌, ◌^◌, map, length, IfOk};
 ghost use Rattle.std.specs.List.Sorted.{IsStrictlySortedBy};
 ghost use Rattle.func_records.specs.internal.Texts.{text_cmp, SameTexts};
@@ -6,10 +6,10 @@ ghost use Rattle.func_records.specs.internal.Texts.{text_cmp, SameTexts};
 use std::alloc::Global;
 use sym_edges::OutOfMemory;
 
-/// A text, and its place among those that were given.
+/// A text, and its place among the given texts.
 type PlacedText<'t> = (&'t [u8], u32);
 
-/// Texts in the order of their bytes, once each; and for each text that was given the place that it should have among them.
+/// Texts in the order of their bytes, once each; and for each given text the place that it should have among them.
 #[derive(Drop)]
 pub struct RankedTexts<'t> {
     pub sorted: Vec<&'t [u8]>,
@@ -40,7 +40,7 @@ fn bare_texts<'t>(alloc: Global, placed: &[PlacedText<'t>]) -> Result<Vec<&'t [u
     Ok(texts)
 }
 
-/// The place of each text among sorted ones that stand once: it is only where they are looked for first.
+/// The place of each text among the sorted texts, each of which is there once. It only says where a text is looked for first.
 fn guess_places(alloc: Global, placed: &[PlacedText<'_>]) -> Result<Vec<u32>, OutOfMemory> {
     let mut guesses = vec![in alloc; 0; placed.len()]?;
     let mut last = match placed.first() {

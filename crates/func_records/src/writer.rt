@@ -2,7 +2,7 @@
 use crate::numbers::Numbers;
 use debug_units::Units;
 
-/// The base, which is taken off all addresses; the units; and the numbers of paths and names in the text.
+/// The base, which is subtracted from all addresses; the units; and the numbers of paths and names in the text.
 #[derive(Clone, Copy)]
 pub struct FuncWriter<'u, 'a, 'n> {
     pub base: u64,

@@ -16,16 +16,16 @@ pub record InlineParts : Type 0 where
   pub entry : ℕ
   pub spans : List Range
 
--- at an address of the piece the entry stands on the chain at that level
+-- at this address of the piece, the entry is on the chain at that level
 unfoldable pub is_on_chain : List UnitRead → Piece → ℕ → ℕ → ℕ → Bool
 is_on_chain units piece level entry a =
     is_inside a piece && option_map_or (λ c. c.entry == entry) (slice_get (entry_chain units piece.unit piece.entry a) level) false
 
--- whether it is of that entry, at that level
+-- whether a copy is of that entry, at that level
 abbrev pub is_of : ℕ → ℕ → InlineParts → Bool
 is_of level entry r = (r.level == level) && (r.entry == entry)
 
--- the addresses of those of one entry at one level, in their order
+-- the addresses of the copies of one entry at one level, in their order
 abbrev pub spans_of : ℕ → ℕ → List InlineParts → List (List Range)
 spans_of level entry runs = map (λ (r : InlineParts). r.spans) (filter (is_of level entry) runs)
 
@@ -33,13 +33,13 @@ unfoldable pub joined : List (List Range) → List Range
 joined [] = []
 joined (spans ∷ parts) = spans ++ joined parts
 
--- parts of 16,384 ranges, of which the last may have fewer
+-- parts of 16,384 ranges; the last part may have fewer
 abbrev pub AreParts : List (List Range) → Type 0
 AreParts [] = Unit {0}
 AreParts (spans ∷ []) = (0 < length spans) × (length spans ≤ 16384)
 AreParts (spans ∷ more ∷ parts) = (length spans ≡ 16384) × AreParts (more ∷ parts)
 
--- those of one entry at one level have all addresses at which it stands there, in maximal ranges, in as few parts as there may be
+-- the copies of one entry at one level have all addresses at which the entry is on the chain there, in maximal ranges and in as few parts as possible
 pub record IsCopy (units : List UnitRead) (piece : Piece) (runs : List InlineParts) (level entry : ℕ) : Type 0 where
   pub parts : AreParts (spans_of level entry runs)
   pub canonical : IsCanonical (joined (spans_of level entry runs))
@@ -49,7 +49,7 @@ abbrev pub first_address : List Range → ℕ
 first_address [] = 0
 first_address (range ∷ ranges) = range.start
 
--- by level, and in one level by the first address
+-- the order: by level, and in one level by the first address
 abbrev pub is_before : InlineParts → InlineParts → Bool
 is_before r s = nat_lt r.level s.level || ((r.level == s.level) && nat_le (first_address r.spans) (first_address s.spans))
 

@@ -11,12 +11,12 @@ use Rattle.debug_units.specs.declared.unit_read.UnitRead.{UnitRead}
 use Rattle.die_walk.specs.EntryKinds.{is_inlined}
 use Rattle.debug_units.specs.Owners.{inside_of}
 
--- it is that number
+-- the option is this number
 abbrev pub is_number : ℕ → Option ℕ → Bool
 is_number n None = false
 is_number n (Some m) = m == n
 
--- the first inlined copy directly in an entry that has the address, among entries that are numbered from `number`
+-- the first inlined copy directly in an entry that has the address, among entries numbered from `number`
 abbrev pub first_child : List DieFields → ℕ → ℕ → ℕ → List DieFields → List (List Range) → Option ℕ
 first_child all a entry number (die ∷ dies) (spans ∷ sets) =
     if is_inlined die && (holds_any spans a && is_number entry (inside_of all number die.parent))
@@ -24,7 +24,7 @@ first_child all a entry number (die ∷ dies) (spans ∷ sets) =
     else first_child all a entry (number + 1) dies sets
 first_child all a entry number _ _ = None
 
--- the same among all entries of the unit
+-- the first such copy among all entries of the unit
 unfoldable pub child_at : UnitRead → ℕ → ℕ → Option ℕ
 child_at part entry a = first_child part.die.dies a entry 0 part.die.dies part.spans
 
@@ -32,7 +32,7 @@ child_at part entry a = first_child part.die.dies a entry 0 part.die.dies part.s
 unfoldable pub list_of : List (List Cover) → ℕ → List Cover
 list_of lists x = unwrap_or (slice_get lists x) []
 
--- at each address of 64 bits the covers of an entry tell the first inlined copy directly in it
+-- at each address of 64 bits the covers of an entry give the first inlined copy directly in it
 abbrev pub IsTree : UnitRead → List (List Cover) → Type 0
 IsTree part lists = (x : ℕ) → IsRuns (between 0 18446744073709551616 (child_at part x)) (map cover_run (list_of lists x))
 

@@ -1,4 +1,4 @@
-//! The addresses of inlined copies, each with the entry that it stands in.
+//! The addresses of inlined copies, each with the entry that the copy is in.
 ghost use Rattle.std.specs.Prelude.{◌≡◌, ◌<◌, ◌^◌, true, length, OnOk};
 ghost use Rattle.range_set.specs.Canonical.{IsCanonical};
 ghost use Rattle.die_walk.specs.EntryKinds.{is_inlined};
@@ -13,7 +13,7 @@ use std::alloc::AllocError;
 use step_maps::{Stretch, push_spans};
 use sym_edges::Span;
 
-/// The addresses of the entry of a number.
+/// The addresses of the entry with this number.
 fn spans_in<'u>(part: &'u UnitRead<'_>, entry: usize) -> &'u [Span]
     ensures spans { result.now ≡ set_in part.now.spans entry }
     ensures canonical { IsCanonical result.now }
@@ -24,7 +24,7 @@ fn spans_in<'u>(part: &'u UnitRead<'_>, entry: usize) -> &'u [Span]
     }
 }
 
-/// Adds the stretches of an entry, where it is an inlined copy that stands in another entry, unless an earlier copy there has its set.
+/// Adds the stretches of an entry if it is an inlined copy in another entry, unless an earlier copy in the same entry has the same set of addresses.
 #[tactic(auto, using(crate::proofs::CollectLemmas::adds_other, crate::proofs::CollectLemmas::adds_nowhere, crate::proofs::CollectLemmas::adds_earlier, crate::proofs::CollectLemmas::adds_spans))]
 fn push_copy(
     met: &mut MetCopies,
@@ -54,10 +54,9 @@ fn push_copy(
     Ok(())
 }
 
-/// Puts in the place of what was there the stretches of the inlined copies of a unit, in the order of their entries; the class of each
-/// is the number of the entry that it stands in. Of copies directly in one entry that have one set, only the first is collected: the
-/// others are the first nowhere. `row` and `met` are used again for the sake of their memory. It stands alone, so that its loop has the
-/// registers for itself.
+/// Sets `stretches` to the stretches of a unit's inlined copies, in the order of their entries. The class of a stretch is the number of the entry
+/// that the copy is in. If copies directly in one entry have the same set of addresses, only the first is collected: the others are nowhere the first
+/// copy. The memory of `row` and `met` is reused. The function is never inlined, so that its loop has the registers for itself.
 #[inline(never)]
 pub fn collect_copies(
     part: &UnitRead<'_>,

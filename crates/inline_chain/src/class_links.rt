@@ -1,4 +1,4 @@
-//! Links that lead through the stretches of each class.
+//! Linked lists of the stretches of each class.
 ghost use Rattle.std.specs.Prelude.{◌≡◌, ◌<◌, length, OnOk};
 ghost use Rattle.inline_chain.specs.internal.Copies.{HaveClasses, of_class};
 ghost use Rattle.inline_chain.specs.internal.Links.{AreLinked};
@@ -7,8 +7,8 @@ use std::alloc::Global;
 use step_maps::Stretch;
 use sym_edges::OutOfMemory;
 
-/// Where the first stretch of each class stands, and after each stretch the next one of its class. Places are counted from the end of
-/// the stretches, from 1 on; 0 is none. The links of the stretches stand from the last one to the first.
+/// The place of the first stretch of each class, and for each stretch the place of the next one of its class. Places are counted from the end of the
+/// stretches, from 1 on; 0 means none. `nexts` goes from the last stretch to the first.
 #[derive(Drop)]
 pub struct ClassLinks {
     pub firsts: Vec<u32>,
@@ -16,7 +16,7 @@ pub struct ClassLinks {
 }
 
 impl ClassLinks {
-    /// No links yet. Takes no memory.
+    /// No links yet. Allocates no memory.
     pub fn new(alloc: Global) -> ClassLinks {
         ClassLinks {
             firsts: Vec::new(alloc),
@@ -25,7 +25,7 @@ impl ClassLinks {
     }
 }
 
-/// A number above all classes; 0 where there are none.
+/// A number above all classes, or 0 if there are no stretches.
 fn class_end(items: &[Stretch]) -> usize
     ensures { HaveClasses result items.now }
 {
@@ -38,7 +38,7 @@ fn class_end(items: &[Stretch]) -> usize
     end
 }
 
-/// Puts the links of some stretches in the place of what was there.
+/// Sets `links` to the links of these stretches.
 pub fn fill_links(items: &[Stretch], links: &mut ClassLinks) -> Result<(), OutOfMemory>
     ensures { OnOk result (AreLinked items.now links.new.firsts.items links.new.nexts.items) }
 {
@@ -59,7 +59,7 @@ pub fn fill_links(items: &[Stretch], links: &mut ClassLinks) -> Result<(), OutOf
     Ok(())
 }
 
-/// Puts in the place of what was there the stretches of a class, in their order.
+/// Sets `group` to the stretches of a class, in their order.
 pub fn fill_class(
     items: &[Stretch],
     links: &ClassLinks,

@@ -10,7 +10,7 @@ use std::alloc::{AllocError, Global};
 use step_maps::{Cover, Stretch, covers};
 use sym_edges::OutOfMemory;
 
-/// Whether a stretch begins above the last address of another, and does not go on with its index.
+/// Whether a stretch begins above the last address of another, and does not continue it with the same index.
 #[inline]
 fn follows(last: Stretch, next: Stretch) -> bool
     ensures { result ≡ follows last next }
@@ -18,7 +18,7 @@ fn follows(last: Stretch, next: Stretch) -> bool
     last.last < next.first && (next.first - last.last > 1 || last.index != next.index)
 }
 
-/// Whether each stretch follows the one before.
+/// Whether each stretch follows the one before it.
 fn is_apart(items: &[Stretch]) -> bool
     ensures { result ≡ apart items.now }
 {
@@ -37,7 +37,7 @@ fn is_apart(items: &[Stretch]) -> bool
     true
 }
 
-/// Puts the stretches as covers in the place of what was there.
+/// Sets `covers` to the stretches, as covers.
 fn fill_own(items: &[Stretch], covers: &mut Vec<Cover>) -> Result<(), AllocError>
     ensures { OnOk result (covers.new.items ≡ map own_cover items.now) }
 {
@@ -55,7 +55,7 @@ fn fill_own(items: &[Stretch], covers: &mut Vec<Cover>) -> Result<(), AllocError
     Ok(())
 }
 
-/// Puts in the place of what was there the stretches by their first addresses.
+/// Sets `sorted` to the stretches, sorted by their first addresses.
 fn fill_sorted(items: &[Stretch], sorted: &mut Vec<Stretch>) -> Result<(), AllocError>
     ensures { OnOk result (IsPermutation items.now sorted.new.items) }
 {
@@ -65,8 +65,8 @@ fn fill_sorted(items: &[Stretch], sorted: &mut Vec<Stretch>) -> Result<(), Alloc
     Ok(())
 }
 
-/// Puts the covers of stretches in the place of what was there. Stretches that follow one another, as nearly all do once they are sorted,
-/// are their own covers. `sorted` is used again for the sake of its memory.
+/// Sets `own` to the covers of stretches. Stretches that follow one another are their own covers; nearly all do once they are sorted. The memory of
+/// `sorted` is reused.
 #[tactic(auto, using(crate::proofs::ApartLemmas::apart_runs, crate::proofs::ApartLemmas::sorted_runs, crate::proofs::ApartLemmas::covers_run, crate::proofs::ClassLemmas::fit_some))]
 pub fn fill_covers(
     alloc: Global,

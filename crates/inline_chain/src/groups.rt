@@ -1,4 +1,4 @@
-//! The records of a level: the addresses of each entry together.
+//! The records of a level. The addresses of each entry are together.
 ghost use Rattle.std.specs.Prelude.{◌≡◌, ℕ, ◌<◌, ◌++◌, [], ◌∷◌, length, IfOk, OnOk};
 ghost use Rattle.std.specs.List.{list_any};
 ghost use Rattle.range_set.specs.Members.{holds_any};
@@ -18,7 +18,7 @@ use sym_edges::{OutOfMemory, Span};
 /// The most ranges that a record has.
 const RANGES: usize = 16384;
 
-/// Puts in the place of what was there the stretches as spans.
+/// Sets `spans` to the stretches, as spans.
 fn fill_spans(group: &[Stretch], spans: &mut Vec<Span>) -> Result<(), AllocError>
     requires { AreFit group.now }
     ensures { OnOk result ((a : ℕ) → holds_any spans.new.items a ≡ list_any (λ s. reaches s a) group.now) }
@@ -32,7 +32,7 @@ fn fill_spans(group: &[Stretch], spans: &mut Vec<Span>) -> Result<(), AllocError
     Ok(())
 }
 
-/// The set of ranges that are sorted and disjoint.
+/// The set of sorted and disjoint ranges.
 #[tactic(auto, using(range_set::proofs::OneList::one_list))]
 fn set_of(alloc: Global, spans: &[Span]) -> Result<RangeSet, OutOfMemory>
     requires { IsCanonical spans.now }
@@ -43,7 +43,7 @@ fn set_of(alloc: Global, spans: &[Span]) -> Result<RangeSet, OutOfMemory>
     Ok(set)
 }
 
-/// Adds the records of an entry with many ranges: each has as many as a record may have, and the last those that are left.
+/// Adds the records of an entry with many ranges. Each record has as many as it may have, and the last has the rest.
 fn push_parts(
     alloc: Global,
     made: &mut Vec<InlineRun>,
@@ -75,7 +75,7 @@ fn push_parts(
     Ok(())
 }
 
-/// Adds the records of an entry's ranges, which mostly are one record.
+/// Adds the records of an entry's ranges, mostly a single record.
 #[tactic(auto, using(crate::proofs::PartLemmas::parts_one))]
 fn push_set(
     alloc: Global,
@@ -97,7 +97,7 @@ fn push_set(
     Ok(())
 }
 
-/// Adds the record of one stretch. Takes no memory for it.
+/// Adds the record of one stretch. Its set of addresses needs no memory.
 #[tactic(auto, using(crate::proofs::PartLemmas::group_one))]
 fn push_one(
     made: &mut Vec<InlineRun>,
@@ -116,7 +116,7 @@ fn push_one(
     Ok(())
 }
 
-/// Adds the records of the stretches of one entry. `spans` is used again for the sake of its memory.
+/// Adds the records of the stretches of one entry. The memory of `spans` is reused.
 fn push_group(
     alloc: Global,
     made: &mut Vec<InlineRun>,
@@ -133,12 +133,12 @@ fn push_group(
     }
     fill_spans(group, spans)?;
     let set = of_ranges(alloc, spans.as_slice())?;
-    // That the set is the one list of its addresses is said by this call.
+    // The contract of this call says that the set is the one list of its addresses.
     let _held = set.spans();
     push_set(alloc, made, level, entry, set)
 }
 
-/// Sorts stretches by class; those of one class stay in their order.
+/// Sorts stretches by class. Stretches of one class stay in their order.
 fn sort_by_class(items: &mut Vec<Stretch>) -> Result<(), AllocError>
     ensures same { OnOk result ((x : ℕ) → of_class x items.new.items ≡ of_class x items.old.items) }
     ensures sorted { OnOk result (SortedFrom 0 items.new.items) }
@@ -148,7 +148,7 @@ fn sort_by_class(items: &mut Vec<Stretch>) -> Result<(), AllocError>
     Ok(())
 }
 
-/// How many stretches at the front are of a class.
+/// How many stretches at the beginning are of a class.
 fn front_count(items: &[Stretch], class: u32) -> usize
     ensures { result ≡ front_count class items.now }
 {
@@ -164,7 +164,7 @@ fn front_count(items: &[Stretch], class: u32) -> usize
     count
 }
 
-/// Puts in the place of what was there the records of sorted stretches, entry by entry.
+/// Sets `made` to the records of sorted stretches, entry by entry.
 fn fill_groups(
     alloc: Global,
     level: u32,
@@ -208,8 +208,7 @@ fn sort_by_address(made: &mut Vec<InlineRun>, level: u32) -> Result<(), AllocErr
     Ok(())
 }
 
-/// Adds the records of a level, which is sorted for that. What `made` and `spans` hold does not matter: they are used again for the sake
-/// of their memory.
+/// Sorts a level by class and adds its records. The memory of `made` and `spans` is reused; what they hold does not matter.
 pub fn push_level(
     alloc: Global,
     runs: &mut Vec<InlineRun>,

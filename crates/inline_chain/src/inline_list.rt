@@ -17,7 +17,7 @@ use std::mem::swap;
 use step_maps::{Cover, Stretch};
 use sym_edges::{ListOf, OutOfMemory, Span};
 
-/// Lists that each piece fills anew. They are kept for the sake of their memory: what they hold does not matter.
+/// Lists that are filled anew for each piece. They are kept to reuse their memory; what they hold does not matter.
 #[derive(Drop)]
 pub struct LevelLists {
     level: Vec<Stretch>,
@@ -39,7 +39,7 @@ impl LevelLists {
     }
 }
 
-/// The inlined copies on the chains of a piece's addresses, by level and first address: for each entry on a chain, at its level, the
+/// The inlined copies on the chains of a piece's addresses, by level and first address. For each entry on a chain, at its level, they have the
 /// maximal ranges of its addresses in the piece, in records of at most 16,384 ranges.
 pub fn inlines(
     alloc: Global,
@@ -65,7 +65,7 @@ pub fn inlines(
     Ok(ListOf::of(runs))
 }
 
-/// Moves records to a list without room for more.
+/// Moves records to a list without spare room.
 fn in_exact_room(alloc: Global, runs: &mut Vec<InlineRun>) -> Result<Vec<InlineRun>, OutOfMemory>
     ensures { IfOk result (λ exact. exact.items ≡ runs.old.items) }
 {
@@ -74,7 +74,7 @@ fn in_exact_room(alloc: Global, runs: &mut Vec<InlineRun>) -> Result<Vec<InlineR
     Ok(exact)
 }
 
-/// The records of what stands in an owner, level by level.
+/// The records of the copies in an owner, level by level.
 fn runs_under(
     alloc: Global,
     lists: &FlatLists<Cover>,

@@ -3,8 +3,8 @@ use range_set::RangeSet;
 use std::marker::Model;
 use sym_edges::ListOf;
 
-/// An inlined copy on the chains of a piece's addresses: its level, the number of its entry in the unit, and those addresses of the
-/// piece at which it stands at that level, in at most 16,384 spans.
+/// An inlined copy on the chains of a piece's addresses: its level, the number of its entry in the unit, and the addresses of the piece at which it
+/// is on the chain at that level, in at most 16,384 spans.
 #[derive(Debug, Drop)]
 pub struct InlineRun {
     pub level: u32,

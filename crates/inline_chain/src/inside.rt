@@ -1,4 +1,4 @@
-//! What an entry stands in.
+//! The function or inlined copy around an entry.
 ghost use Rattle.std.specs.Prelude.{◌≡◌, ◌==◌, ◌||◌, length};
 ghost use Rattle.die_walk.specs.EntryKinds.{is_inlined};
 ghost use Rattle.debug_units.specs.Owners.{inside_of};
@@ -15,7 +15,7 @@ fn is_around(die: &Die<'_, '_>) -> bool
     die.tag() == DW_TAG_subprogram || die.is_inlined()
 }
 
-/// The nearest function or inlined copy around an entry, where that of each entry before it is known.
+/// The nearest function or inlined copy around an entry. `row` has the one around each entry before it.
 #[tactic(auto, using(crate::proofs::InsideLemmas::inside_none, crate::proofs::InsideLemmas::inside_past, crate::proofs::InsideLemmas::inside_lost, crate::proofs::InsideLemmas::inside_own, crate::proofs::InsideLemmas::inside_row))]
 pub fn inside_of(part: &UnitRead<'_>, row: &[Option<u32>], die: &Die<'_, '_>) -> Option<u32>
     requires { SaysInside part.now.die.dies row.now (length row.now) }

@@ -19,7 +19,7 @@ fn count_below(covers: &[Cover], first: u64) -> usize
     covers.partition_point(|cover| cover.last < first)
 }
 
-/// The part of a cover inside of a stretch, with which it has an address in common.
+/// The part of a cover inside a stretch. Both have an address in common.
 fn cut(cover: &Cover, around: Stretch) -> Stretch
     ensures { result ≡ cut cover.now around }
 {
@@ -31,7 +31,7 @@ fn cut(cover: &Cover, around: Stretch) -> Stretch
     }
 }
 
-/// Adds what stands directly in an entry at the addresses of one of its stretches.
+/// Adds the copies directly in an entry, at the addresses of one of the entry's stretches.
 fn push_under(next: &mut Vec<Stretch>, covers: &[Cover], around: Stretch) -> Result<(), AllocError>
     requires runs { AreRuns (map cover_run covers.now) }
     requires fit { AreFit next.old.items }
@@ -62,7 +62,7 @@ fn covers_in(lists: &FlatLists<Cover>, entry: usize) -> &[Cover]
     }
 }
 
-/// Puts in the place of what was there what stands directly in the entries of a level, at the addresses at which these stand.
+/// Sets `next` to the copies directly in the entries of a level, at the addresses of these entries.
 pub fn level_under(
     lists: &FlatLists<Cover>,
     level: &[Stretch],

@@ -1,4 +1,4 @@
-//! Inlined copies that have the set of addresses of an earlier one in the same entry: these own nothing.
+//! Inlined copies with the same set of addresses as an earlier copy in the same entry. They own no address.
 ghost use Rattle.std.specs.Prelude.{◌≡◌, true, Some, IfOk};
 ghost use Rattle.std.specs.List.{slice_get};
 ghost use Rattle.inline_chain.specs.internal.Copies.{HasEarlier};
@@ -7,15 +7,15 @@ use debug_units::UnitRead;
 use std::alloc::{AllocError, Global};
 use std::collections::BTreeMap;
 
-/// The copies that were met: by the number of its set the first one that has it, and by the set and the entry that it stands in the
-/// first one of each other such entry. What is found here is looked at before it counts.
+/// The copies that were met. `firsts` has, by the number of a set, the first copy with the set. `others` has, by a set and an entry, the first copy
+/// in that entry, if that is not the one in `firsts`. What is found here is checked before it is used.
 #[derive(Drop)]
 pub struct MetCopies {
     firsts: Vec<u32>,
     others: BTreeMap<(usize, u32), u32>,
 }
 
-/// Whether an entry was passed and stands in that one.
+/// Whether `entry`, which was passed, is in the entry `class`.
 fn stands_in(row: &[Option<u32>], entry: usize, class: u32) -> bool
     ensures { result ≡ true → slice_get row.now entry ≡ Some (Some class) }
 {
@@ -28,7 +28,7 @@ fn stands_in(row: &[Option<u32>], entry: usize, class: u32) -> bool
     }
 }
 
-/// Whether an entry that was passed is an inlined copy in that entry, with the set of the one of a number.
+/// Whether `entry`, which was passed, is an inlined copy in the entry `class` with the same set as `number`.
 #[tactic(auto, using(crate::proofs::CollectLemmas::earlier_is))]
 fn is_earlier(part: &UnitRead<'_>, row: &[Option<u32>], entry: u32, number: u32, class: u32) -> bool
     ensures { result ≡ true → HasEarlier part.now.die.dies part.now.spans row.now number (Some class) }
@@ -45,7 +45,7 @@ fn is_earlier(part: &UnitRead<'_>, row: &[Option<u32>], entry: u32, number: u32,
     part.spans.are_same(entry as usize, number as usize)
 }
 
-/// The first copy that has the set of a number, where one is noted.
+/// The first copy with the set of this number, if it is noted.
 fn first_of(firsts: &[u32], set: usize) -> Option<u32> {
     match firsts.get(set) {
         Some(first) => Some(*first),
@@ -54,7 +54,7 @@ fn first_of(firsts: &[u32], set: usize) -> Option<u32> {
 }
 
 impl MetCopies {
-    /// None yet. Takes no memory.
+    /// No copies yet. Allocates no memory.
     pub fn new(alloc: Global) -> MetCopies {
         MetCopies {
             firsts: Vec::new(alloc),
@@ -62,13 +62,13 @@ impl MetCopies {
         }
     }
 
-    /// Forgets what was met, and keeps the list's memory.
+    /// Forgets the copies, and keeps the list's memory.
     pub fn clear(&mut self) {
         self.firsts.clear();
         self.others.clear();
     }
 
-    /// Notes the first copy that has a set. Numbers of sets rise, so that this fills the list up to there.
+    /// Notes the first copy that has a set. The numbers of sets rise, so the list is filled up to this one.
     fn note_first(&mut self, set: usize, number: u32) -> Result<(), AllocError> {
         if set >= self.firsts.len() {
             self.firsts.resize(set.saturating_add(1), number)?;
@@ -79,7 +79,7 @@ impl MetCopies {
         Ok(())
     }
 
-    /// Whether a copy that stands in another entry than the first one of its set has an earlier one there; where not, it is noted.
+    /// Whether the entry `class` has an earlier copy with this set, whose first copy is in another entry. If there is none, the copy is noted.
     fn meet_other(
         &mut self,
         part: &UnitRead<'_>,
@@ -99,7 +99,7 @@ impl MetCopies {
         Ok(false)
     }
 
-    /// Whether the copy of a number has an earlier one with the same set in the entry that it stands in; where not, it is noted.
+    /// Whether an earlier copy in the entry `class` has the same set as the copy `number`. If there is none, the copy is noted.
     pub fn meet(
         &mut self,
         part: &UnitRead<'_>,
@@ -117,7 +117,7 @@ impl MetCopies {
             self.note_first(set, number)?;
             return Ok(false);
         };
-        // The list is filled up with copies of later sets.
+        // The list may be filled up here with the copy of a later set.
         if !part.spans.are_same(first as usize, number as usize) {
             self.note_first(set, number)?;
             return Ok(false);

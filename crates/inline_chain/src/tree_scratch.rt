@@ -1,11 +1,11 @@
-//! What a worker keeps from the tree of one unit to that of the next.
+//! What a worker reuses from one unit's tree to the next one's.
 use crate::class_links::ClassLinks;
 use crate::met_copies::MetCopies;
 use flat_lists::FlatLists;
 use std::alloc::Global;
 use step_maps::{Cover, Stretch};
 
-/// Lists that each unit fills anew. They are kept for the sake of their memory: what they hold when a unit is begun does not matter.
+/// Lists that are filled anew for each unit. They are kept to reuse their memory; what they hold at the start of a unit does not matter.
 #[derive(Drop)]
 pub struct TreeScratch {
     pub row: Vec<Option<u32>>,
@@ -16,7 +16,7 @@ pub struct TreeScratch {
     pub lists: FlatLists<Cover>,
 }
 
-/// Lists that each class of a unit fills anew.
+/// Lists that are filled anew for each class of a unit.
 #[derive(Drop)]
 pub struct ClassScratch {
     pub group: Vec<Stretch>,
@@ -25,7 +25,7 @@ pub struct ClassScratch {
 }
 
 impl TreeScratch {
-    /// Empty lists. Takes no memory.
+    /// Empty lists. Allocates no memory.
     pub fn new(alloc: Global) -> TreeScratch {
         TreeScratch {
             row: Vec::new(alloc),

@@ -1,4 +1,4 @@
-//! Which inlined copies stand directly in each entry.
+//! The inlined copies directly in each entry.
 ghost use Rattle.std.specs.Prelude.{◌≡◌, ℕ, ◌<◌, ◌^◌, length, Some, IfOk, OnOk};
 ghost use Rattle.step_maps.specs.SpanStretches.{AreFit};
 ghost use Rattle.std.specs.List.{slice_get};
@@ -21,7 +21,7 @@ use step_maps::{Cover, Stretch};
 use sym_edges::OutOfMemory;
 use unit_workers::{Crew, NoGate, UnitJob};
 
-/// The units of a file, and which inlined copies stand directly in each of their entries, by address.
+/// The units of a file, and the inlined copies directly in each of their entries, by address.
 #[derive(Drop)]
 pub struct InlineTrees<'u, 'a> {
     units: &'u Units<'a>,
@@ -41,7 +41,7 @@ impl<'u, 'a> Model for InlineTrees<'u, 'a> {
 }
 
 impl<'u, 'a> InlineTrees<'u, 'a> {
-    /// Finds which inlined copies stand directly in each entry, once for all pieces, by a crew of workers.
+    /// Finds the inlined copies directly in each entry, once for all pieces, by a crew of workers.
     pub fn of<R: Threads + Sync>(
         crew: &Crew<'_, R>,
         units: &'u Units<'a>,
@@ -66,7 +66,7 @@ fn tree_in(trees: &[FlatLists<Cover>], unit: usize) -> Option<&FlatLists<Cover>>
     trees.get(unit)
 }
 
-/// Units whose trees are made by their numbers.
+/// The units, for which workers make the trees by number.
 #[derive(Drop)]
 struct TreeMaker<'u, 'a> {
     units: &'u Units<'a>,
@@ -106,7 +106,7 @@ impl<'u, 'a> UnitJob for TreeMaker<'u, 'a> {
         Ok(TreeScratch::new(alloc))
     }
 
-    /// A number after the last unit, which no worker draws, has no result.
+    /// A number after the last unit has no result; no worker draws it.
     fn run(
         &self,
         alloc: Global,
@@ -161,7 +161,7 @@ fn tree_of(
     Ok(lists)
 }
 
-/// Adds the covers of stretches. `sorted` and `own` are used again for the sake of their memory.
+/// Adds the covers of stretches. The memory of `sorted` and `own` is reused.
 fn push_covers(
     alloc: Global,
     lists: &mut FlatLists<Cover>,
@@ -176,7 +176,7 @@ fn push_covers(
     lists.push(own.as_slice())
 }
 
-/// Puts in the place of what was there the covers of each class, as far as there are any. It stands alone, as `collect_copies` does.
+/// Sets `lists` to the covers of each class, or to none for a class without stretches. It is never inlined, like `collect_copies`.
 #[inline(never)]
 fn fill_lists(
     alloc: Global,

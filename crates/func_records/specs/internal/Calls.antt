@@ -17,21 +17,21 @@ file_number_in file (Some part) = numbered_file part.lines file
 abbrev pub number_by : List UnitRead → ℕ → Placed → Option ℕ
 number_by units unit p = option_and_then (λ file. file_number_in file (slice_get units unit)) p.die.call_file
 
--- the number that the path of a call has in the table of its unit
+-- the number of a call's path in the table of its unit
 unfoldable pub call_number : List UnitRead → ℕ → ℕ → Option ℕ
 call_number units unit entry = option_and_then (number_by units unit) (entry_of units unit entry)
 
--- the path of a number, where there is one
+-- the path with a number, or the text for an unknown path
 abbrev pub path_or : List UnitRead → ℕ → Option ℕ → List ℕ
 path_or units unit None = no_path
 path_or units unit (Some path) = path_in units unit path
 
--- the number is one of the table's
+-- the number, if there is one, is in the table
 abbrev pub IsPathed : List UnitRead → ℕ → Option ℕ → Type 0
 IsPathed units unit None = Unit {0}
 IsPathed units unit (Some path) = path < length (unit_paths units unit)
 
--- the path of a call is that of its number
+-- the path of a call is the path with its number
 pub record IsKnown (units : List UnitRead) (unit entry : ℕ) : Type 0 where
   pub pathed : IsPathed units unit (call_number units unit entry)
   pub path : call_path units unit entry ≡ path_or units unit (call_number units unit entry)

@@ -16,7 +16,7 @@ use Rattle.func_records.specs.internal.Calls.{path_or, AreKnown, AreAllKnown}
 abbrev pub bytes_of : List (Bor (List ℕ)) → List (List ℕ)
 bytes_of texts = map (λ t. t.now) texts
 
--- a text is among others
+-- one of the texts is the path
 abbrev pub has_text : List (Bor (List ℕ)) → List ℕ → Bool
 has_text texts path = list_any (λ t. bytes_eq path t.now) texts
 
@@ -24,11 +24,11 @@ has_text texts path = list_any (λ t. bytes_eq path t.now) texts
 abbrev pub any_run : List UnitRead → ℕ → List LineRun → List ℕ → Bool
 any_run units unit runs path = list_any (λ (r : LineRun). bytes_eq path (path_in units unit r.path)) runs
 
--- some copy's call has the path
+-- the call of some copy has the path
 abbrev pub any_call : List UnitRead → ℕ → List InlineParts → List ℕ → Bool
 any_call units unit copies path = list_any (λ (r : InlineParts). bytes_eq path (call_path units unit r.entry)) copies
 
--- each run's path is one of the table's
+-- the path of each run is in the table
 abbrev pub ArePathed : List UnitRead → ℕ → List LineRun → Type 0
 ArePathed units unit [] = Prim.Unit {0}
 ArePathed units unit (r ∷ runs) = (r.path < length (unit_paths units unit)) × ArePathed units unit runs
@@ -50,7 +50,7 @@ AreHeld units [] [] = Unit {0}
 AreHeld units (piece ∷ pieces) (copies ∷ held) = AreInlineRuns units piece copies × AreHeld units pieces held
 AreHeld units _ _ = ⊥
 
--- the paths that were there, and those of a piece's runs and copies
+-- the new paths are the old ones and those of a piece's runs and copies
 pub record AddsPiece (units : List UnitRead) (piece : Piece) (copies : List InlineParts) (old new : List PathRef) : Type 0 where
   pub lines : List LineRun
   pub runs : AreLineRuns units piece lines

@@ -1,4 +1,4 @@
--- The paths of the lines of a piece, as they are noted from one stop of a line table to the next.
+-- The paths of a piece's lines, as they are noted from one stop of a line table to the next.
 use Rattle.std.specs.Prelude.{◌≡◌, ℕ, Bool, false, ◌||◌, List, length, map, Option, None, Some}
 use Rattle.std.specs.Str.{bytes_eq}
 use Rattle.step_maps.specs.Runs.{IsRuns, between}
@@ -12,26 +12,26 @@ use Rattle.func_records.specs.FuncRecords.{path_in}
 use Rattle.func_records.specs.declared.path_list.PathRef.{PathRef}
 use Rattle.func_records.specs.internal.Gathering.{has_path, any_run}
 
--- the line is there and has the path
+-- there is a line and it has the path
 abbrev pub has_line : List UnitRead → ℕ → Option (ℕ × ℕ) → List ℕ → Bool
 has_line units unit None path = false
 has_line units unit (Some m) path = bytes_eq path (path_in units unit m.0)
 
--- the paths that were there, and those of the runs up to an address; that of the line from there on may be there too
+-- the new paths are the old ones and those of the runs up to an address. The path of the line from that address on may be there, too
 pub record Noting (table : LineMap) (unit start end : ℕ) (now : Option (ℕ × ℕ)) (rest : List ℕ) (old new : List PathRef) : Type 0 where
   pub reached : ℕ
   pub lines : List LineRun
   pub walks : Walks (numbered_line table) (length table.paths) start end reached now rest lines
   pub same : (units : List UnitRead) (path : List ℕ) → (has_path units new path || has_line units unit now path) ≡ ((has_path units old path || any_run units unit lines path) || has_line units unit now path)
 
--- the paths that were there, and those of the runs of a line table between two addresses
+-- the new paths are the old ones and those of a line table's runs between two addresses
 pub record Noted (table : LineMap) (unit start end : ℕ) (old new : List PathRef) : Type 0 where
   pub lines : List LineRun
   pub runs : IsRuns (between start end (numbered_line table)) (map number_run lines)
   pub known : AreKnown (length table.paths) lines
   pub same : (units : List UnitRead) (path : List ℕ) → has_path units new path ≡ (has_path units old path || any_run units unit lines path)
 
--- the paths that were there, and those of a piece's runs
+-- the new paths are the old ones and those of a piece's runs
 pub record AddsLines (units : List UnitRead) (piece : Piece) (old new : List PathRef) : Type 0 where
   pub lines : List LineRun
   pub runs : AreLineRuns units piece lines

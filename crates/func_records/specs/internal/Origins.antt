@@ -1,4 +1,4 @@
--- The names of the functions that were inlined, as they are gathered and numbered.
+-- The names of the inlined functions, as they are gathered and numbered.
 use Rattle.std.specs.Prelude.{◌≡◌, ◌⊎◌, ℕ, if◌then◌else◌, List, [], ◌∷◌, ◌++◌, map, length, Some, None}
 use Rattle.std.specs.List.{slice_get, list_any, flat_map}
 use Rattle.std.specs.List.Sorted.{IsStrictlySortedBy}
@@ -37,26 +37,26 @@ pub record RefParts : Type 0 where
   pub refs : List NameRef
   pub places : List ℕ
 
--- the text at each place is the one beside it
+-- the text at each place is the name that goes with the place
 abbrev pub AreAt : List (List ℕ) → List ℕ → List (List ℕ) → Type 0
 AreAt texts [] [] = Unit {0}
 AreAt texts (k ∷ places) (name ∷ names) = (slice_get texts k ≡ Some name) × AreAt texts places names
 AreAt texts _ _ = ⊥
 
--- texts, mostly once each, are the names and no others, and the places lead from each name to its text
+-- the texts, mostly once each, are exactly the names, and the places lead from each name to its text
 pub record TextsSay (texts : List (List ℕ)) (places : List ℕ) (names : List (List ℕ)) : Type 0 where
   pub at : AreAt texts places names
   pub same : (name : List ℕ) → list_any (bytes_eq name) texts ≡ list_any (bytes_eq name) names
 
--- the references give the names that were asked for and no others, and the places lead to them
+-- the references give exactly these names, and the places lead from each name to its reference
 abbrev pub RefsSay : List UnitRead → RefParts → List (List ℕ) → Type 0
 RefsSay units parts names = TextsSay (map (made_name units) parts.refs) parts.places names
 
--- a member stood at a place, or was added there
+-- a member was at a place already, or was added there
 abbrev pub IsPlaced : {A : Type 0} → List A → List A → A → ℕ → Type 0
 IsPlaced old new one place = ((new ≡ old) × (slice_get old place ≡ Some one)) ⊎ ((new ≡ old ++ one ∷ []) × (place ≡ length old))
 
--- the number beside the first text that is this one, and 0 for others
+-- the number that goes with the first text equal to `name`, or 0 if there is none
 abbrev pub beside : List (List ℕ) → List ℕ → List ℕ → ℕ
 beside (text ∷ texts) (n ∷ numbers) name = if bytes_eq name text then n else beside texts numbers name
 beside _ _ name = 0
@@ -65,11 +65,11 @@ beside _ _ name = 0
 abbrev pub all_refs : List FoundShare → List NameRef
 all_refs shares = flat_map (λ (f : FoundShare). f.refs.items) shares
 
--- the number of a name, by the entries that give names, and the number of the name of each
+-- the number of a name, found by the entries that give names and the number of each entry's name
 abbrev pub name_number : Numbers → List UnitRead → List ℕ → ℕ
 name_number numbers units name = beside (map (made_name units) (all_refs numbers.entries.now)) numbers.numbers.now name
 
--- the numbers of the names of a piece's inlined copies, and of those of all pieces
+-- the numbers of the names of a piece's inlined copies, and of all pieces' copies
 abbrev pub copy_numbers : Numbers → List UnitRead → ℕ → List InlineParts → List ℕ
 copy_numbers numbers units unit copies = map (name_number numbers units) (entry_names units unit copies)
 
@@ -80,7 +80,7 @@ all_numbers numbers units pieces held = map (name_number numbers units) (all_nam
 abbrev pub ref_numbers : Numbers → List UnitRead → List NameRef → List ℕ
 ref_numbers numbers units refs = map (name_number numbers units) (map (made_name units) refs)
 
--- the records of the names that entries give, sorted and once each, are added to a text, and these are the numbers of the entries' names
+-- the records of the names that entries give, sorted and once each, are added to a text; `numbers` has the number of each entry's name
 pub record AddsNames (units : List UnitRead) (refs : List NameRef) (numbers : List ℕ) (old new : List ℕ) : Type 0 where
   pub names : List (List ℕ)
   pub sorted : IsStrictlySortedBy (slice_cmp nat_cmp) names

@@ -1,4 +1,4 @@
--- The records of pieces, as they are spelled by the numbers of paths and names.
+-- The records of pieces, as they are spelled with the numbers of paths and names.
 use Rattle.std.specs.Prelude.{◌≡◌, ℕ, ◌<◌, ◌≤◌, ◌^◌, length, List, [], ◌∷◌, ◌++◌, map, Option, None, Some, unwrap_or}
 use Rattle.std.specs.List.{slice_get}
 use Rattle.sym_records.specs.Canon.{canon_text}
@@ -19,7 +19,7 @@ use Rattle.func_records.specs.internal.Gathering.{copies_of}
 use Rattle.func_records.specs.internal.Origins.{name_number}
 use Rattle.func_records.specs.internal.Spelling.{line_by, row_of}
 
--- the number of a call's path, by that of each path of the table
+-- the FILE number of a call's path, given that of each path in the table
 abbrev pub file_by : List ℕ → ℕ → Option ℕ → ℕ
 file_by row omitted None = omitted
 file_by row omitted (Some path) = unwrap_or (slice_get row path) 0
@@ -28,7 +28,7 @@ abbrev pub inline_by : ℕ → Numbers → List UnitRead → ℕ → InlineParts
 inline_by base numbers units unit r =
     Inline r.level (call_line units unit r.entry) (file_by (row_of numbers.rows.now unit) numbers.omitted (call_number units unit r.entry)) (name_number numbers units (entry_name units unit r.entry)) (map (extent base) r.spans)
 
--- each copy has some ranges, and no more than a record bears
+-- each copy has at least one range, and at most as many as a record may have
 abbrev pub AreShort : List InlineParts → Type 0
 AreShort [] = Unit {0}
 AreShort (r ∷ copies) = ((0 < length r.spans) × (length r.spans ≤ 16384)) × AreShort copies
@@ -37,7 +37,7 @@ abbrev pub AreAllShort : List (List InlineParts) → Type 0
 AreAllShort [] = Unit {0}
 AreAllShort (copies ∷ held) = AreShort copies × AreAllShort held
 
--- the records under that of a piece
+-- the records under the FUNC of a piece
 abbrev pub under_by : ℕ → Numbers → List UnitRead → Part → List SymLine
 under_by base numbers units p = map (inline_by base numbers units p.piece.unit) p.copies ++ map (line_by base (row_of numbers.rows.now p.piece.unit)) p.lines
 
@@ -56,7 +56,7 @@ pub record AddsPart (base : ℕ) (numbers : Numbers) (units : List UnitRead) (pi
   pub fit : first_bad_from 0 Inside (part_by base numbers units (record { piece = piece; copies = copies; lines = lines })) ≡ None
   pub below : piece.end < 2 ^ 64
 
--- the records of some pieces
+-- the records of some pieces are added to a text
 pub record AddsParts (base : ℕ) (numbers : Numbers) (units : List UnitRead) (pieces : List Piece) (held : List (List InlineParts)) (old new : List ℕ) : Type 0 where
   pub parts : List Part
   pub pieces_are : pieces_of parts ≡ pieces

@@ -14,31 +14,31 @@ use Rattle.func_records.specs.internal.Gathering.{AreHeld, has_path, Gathered}
 use Rattle.func_records.specs.internal.Origins.{all_names, ref_numbers, RefsSay}
 use Rattle.func_records.specs.internal.Parts.{AddsParts}
 
--- the units, and the pieces of which the copies and what they name are found share by share
+-- the units and pieces; the pieces' copies and what they name are found share by share
 pub record FinderParts : Type 0 where
   pub units : List UnitRead
   pub pieces : List Piece
 
--- what was found of some pieces is theirs
+-- what was found for some pieces is what they have
 pub record IsFound (units : List UnitRead) (pieces : List Piece) (found : FoundShare) : Type 0 where
   pub held : AreHeld units pieces found.held
   pub names : RefsSay units (record { refs = found.refs.items; places = found.places.items }) (all_names units pieces found.held)
   pub paths : Gathered units pieces found.held (has_path units found.paths.items)
 
--- what the shares have, one after another
+-- what all shares have, one share after another
 abbrev pub all_held : List FoundShare → List (List InlineParts)
 all_held shares = flat_map (λ (f : FoundShare). f.held) shares
 
 abbrev pub all_paths : List FoundShare → List PathRef
 all_paths shares = flat_map (λ (f : FoundShare). f.paths.items) shares
 
--- what was found share by share is that of all pieces
+-- what was found share by share is what all pieces have
 pub record AreFound (units : List UnitRead) (pieces : List Piece) (shares : List FoundShare) : Type 0 where
   pub enough : length pieces ≤ 512 * length shares
   pub few : length shares ≤ 2 ^ 32
   pub each : (k : ℕ) (d : FoundShare) → k < length shares → IsFound units (share 512 k pieces) (slice_index_or shares k d)
 
--- what is spelled share by share: pieces, what was found of them, and for each share the numbers of its entries' names
+-- what is spelled share by share: pieces, what was found for them, and for each share the numbers of its entries' names
 pub record SpellerParts : Type 0 where
   pub base : ℕ
   pub units : List UnitRead
@@ -62,6 +62,6 @@ pub record CanSpell (s : SpellerParts) : Type 0 where
   pub found : AreFound s.units s.pieces s.shares
   pub numbered : AreSplit s.numbers s.units s.shares s.split
 
--- the records of a share are the text
+-- the text has the records of a share
 abbrev pub AddsShare : SpellerParts → ℕ → List ℕ → Type 0
 AddsShare s k text = (d : FoundShare) → k < length s.shares → AddsParts s.base s.numbers s.units (share 512 k s.pieces) (slice_index_or s.shares k d).held [] text

@@ -11,7 +11,7 @@ use Rattle.func_flatten.specs.declared.line_run.LineRun.{LineRun}
 use Rattle.func_records.specs.FuncRecords.{number_in}
 use Rattle.func_records.specs.internal.Texts.{text_cmp}
 
--- the number of a path that is in use, and 0 for others
+-- the number of a path in use, and 0 for other paths
 abbrev pub number_or_0 : List (List ℕ) → List ℕ → ℕ
 number_or_0 paths path = if list_any (bytes_eq path) paths then number_in paths path else 0
 
@@ -24,12 +24,12 @@ pub record RowParts : Type 0 where
   pub units : List UnitRead
   pub sorted : List (Bor (List ℕ))
 
--- texts in their order, once each, whose numbers have 32 bits
+-- texts in their order, once each, whose numbers fit into 32 bits
 pub record CanNumber (texts : List (Bor (List ℕ))) : Type 0 where
   pub sorted : IsStrictlySortedBy text_cmp texts
   pub few : length texts < 2 ^ 32
 
--- a line record, where the numbers of the unit's paths are these
+-- a line record, given the numbers of the unit's paths
 abbrev pub line_by : ℕ → List ℕ → LineRun → SymLine
 line_by base row r = Line (r.start - base) (r.end - r.start) r.line (unwrap_or (slice_get row r.path) 0)
 

@@ -3,7 +3,7 @@ use Rattle.std.specs.Prelude.{◌-◌, ◌==◌, ◌&&◌, ◌||◌, not, nat_lt
 use Rattle.step_maps.specs.declared.stretch.Stretch.{Stretch}
 use Rattle.step_maps.specs.declared.stretch.Cover.{Cover}
 
--- a stretch begins above the last address of another, and does not go on with its index
+-- a stretch begins above the last address of another, and does not continue it with the same index
 abbrev pub follows : Stretch → Stretch → Bool
 follows s t = nat_lt s.last t.first && (nat_lt 1 (t.first - s.last) || not (s.index == t.index))
 

@@ -13,19 +13,19 @@ use Rattle.debug_units.specs.declared.unit_read.UnitRead.{UnitRead}
 use Rattle.inline_chain.specs.InlineRuns.{InlineParts, is_of, spans_of, joined, AreParts, first_address, IsOrdered}
 use Rattle.inline_chain.specs.Trees.{is_number, child_at, list_of}
 
--- some stretch of that class has the address
+-- some stretch of this class has the address
 abbrev pub has_at : List Stretch → ℕ → ℕ → Bool
 has_at items x a = list_any (λ (s : Stretch). (s.class == x) && reaches s a) items
 
--- some stretch is of that class
+-- some stretch is of this class
 abbrev pub has_class : ℕ → List Stretch → Bool
 has_class x items = list_any (λ (s : Stretch). s.class == x) items
 
--- the first cover that has the address is of that entry
+-- the first cover that has the address is of the entry `y`
 abbrev pub covers_at : List Cover → ℕ → ℕ → Bool
 covers_at covers y a = is_number y (value_in (map cover_run covers) a)
 
--- a stretch has the address, and under its entry the first cover that does is of that one
+-- a stretch has the address, and the first cover in its entry that has it is of the entry `y`
 abbrev pub reaches_under : List (List Cover) → ℕ → ℕ → Stretch → Bool
 reaches_under lists y a s = reaches s a && covers_at (list_of lists s.class) y a
 
@@ -33,12 +33,12 @@ abbrev pub child_under : UnitRead → Option ℕ → ℕ → Option ℕ
 child_under part None a = None
 child_under part (Some entry) a = child_at part entry a
 
--- the entry at a depth: the owner, and in each the first inlined copy directly in it
+-- the entry at a depth: the owner at depth 0, and then the first inlined copy directly in the entry before
 unfoldable pub depth_at : UnitRead → ℕ → ℕ → ℕ → Option ℕ
 depth_at part owner zero a = Some owner
 depth_at part owner (suc depth) a = child_under part (depth_at part owner depth a) a
 
--- the stretches are those of the entries at a depth, where the owner has this stretch
+-- the stretches are those of the entries at a depth, for an owner with this stretch
 abbrev pub IsLevel : UnitRead → Stretch → ℕ → List Stretch → Type 0
 IsLevel part owner depth items = (x a : ℕ) → has_at items x a ≡ (reaches owner a && is_number x (depth_at part owner.class depth a))
 
@@ -53,7 +53,7 @@ abbrev pub entry_runs : ℕ → ℕ → List (List Range) → List InlineParts
 entry_runs level entry [] = []
 entry_runs level entry (spans ∷ parts) = record { level = level; entry = entry; spans = spans } ∷ entry_runs level entry parts
 
--- records of these ranges are added
+-- records with these ranges are added
 pub record AddsParts (level entry : ℕ) (spans : List Range) (old new : List InlineParts) : Type 0 where
   pub parts : List (List Range)
   pub whole : new ≡ old ++ entry_runs level entry parts
@@ -73,12 +73,12 @@ abbrev pub AreOfLevel : ℕ → List InlineParts → Type 0
 AreOfLevel level [] = Prim.Unit {0}
 AreOfLevel level (r ∷ runs) = (r.level ≡ level) × AreOfLevel level runs
 
--- all records are of levels below this one
+-- all records have smaller levels than this one
 abbrev pub AreAbove : ℕ → List InlineParts → Type 0
 AreAbove level [] = Prim.Unit {0}
 AreAbove level (r ∷ runs) = (r.level < level) × AreAbove level runs
 
--- the groups so far are done, the others not begun
+-- the groups so far are done, and the others are not begun
 pub record Groups (level : ℕ) (all rest : List Stretch) (made : List InlineParts) : Type 0 where
   pub level_is : AreOfLevel level made
   pub ended : (x : ℕ) → has_class x rest ≡ false → AreClassParts all x (spans_of level x made)
@@ -96,17 +96,17 @@ pub record AddsLevel (level : ℕ) (items : List Stretch) (old new : List Inline
   pub is_made : IsMade level items made
   pub ordered : IsOrdered made
 
--- the records of one entry at the level stand by their first addresses
+-- the records of one entry at the level are in the order of their first addresses
 abbrev pub Rising : ℕ → List InlineParts → Type 0
 Rising level made = (x : ℕ) → IsNonDecreasingBy (λ (r : InlineParts). first_address r.spans) (filter (is_of level x) made)
 
--- the records of one entry at one level have the addresses at which it is at that depth
+-- the records of one entry at one level have the addresses at which the entry is at that depth
 pub record IsEntry (part : UnitRead) (owner : Stretch) (runs : List InlineParts) (level entry : ℕ) : Type 0 where
   pub parts : AreParts (spans_of level entry runs)
   pub canonical : IsCanonical (joined (spans_of level entry runs))
   pub members : (a : ℕ) → holds_any (joined (spans_of level entry runs)) a ≡ (reaches owner a && is_number entry (depth_at part owner.class (level + 1) a))
 
--- the records of the levels above one
+-- the records of all smaller levels
 pub record RunsTo (part : UnitRead) (owner : Stretch) (level : ℕ) (runs : List InlineParts) : Type 0 where
   pub ordered : IsOrdered runs
   pub above : AreAbove level runs
@@ -121,16 +121,16 @@ pub record AllRuns (part : UnitRead) (owner : Stretch) (runs : List InlineParts)
 abbrev pub HaveRuns : List (List Cover) → Type 0
 HaveRuns lists = (x : ℕ) → AreRuns (map cover_run (list_of lists x))
 
--- the part of a cover inside of a stretch
+-- the part of a cover inside a stretch
 abbrev pub cut : Cover → Stretch → Stretch
 cut c s = record { first = max c.first s.first; last = min c.last s.last; index = c.index; class = c.index }
 
--- all covers reach up to an address
+-- all covers end at the address or above it
 abbrev pub ReachTo : ℕ → List Cover → Type 0
 ReachTo first [] = Unit {0}
 ReachTo first (c ∷ covers) = (first ≤ c.last) × ReachTo first covers
 
--- the covers after so many have the addresses from a first one on
+-- the covers after the first `count` give the same from the address `first` on
 pub record StartsCovers (covers : List Cover) (first count : ℕ) : Type 0 where
   pub inside : count ≤ length covers
   pub same : (a : ℕ) → first ≤ a → value_in (map cover_run (drop count covers)) a ≡ value_in (map cover_run covers) a

@@ -1,14 +1,14 @@
--- Links that lead through the stretches of each class. Places are counted from the end, from 1 on; 0 is none.
+-- Linked lists of the stretches of each class. Places are counted from the end, from 1 on; 0 means none.
 use Rattle.std.specs.Prelude.{◌≡◌, ℕ, suc, ◌<◌, ◌==◌, if◌then◌else◌, List, [], ◌∷◌, ◌++◌, length, get_or}
 use Rattle.step_maps.specs.declared.stretch.Stretch.{Stretch}
 use Rattle.inline_chain.specs.internal.Copies.{of_class, HaveClasses}
 
--- where the first of a class stands
+-- the place of the first stretch of a class
 unfoldable pub first_place : ℕ → List Stretch → ℕ
 first_place x [] = 0
 first_place x (s ∷ items) = if s.class == x then suc (length items) else first_place x items
 
--- where the next one of the same class stands, from the last stretch to the first
+-- the place of the next stretch of the same class, from the last stretch to the first
 abbrev pub nexts_of : List Stretch → List ℕ
 nexts_of [] = []
 nexts_of (s ∷ items) = nexts_of items ++ first_place s.class items ∷ []
@@ -18,14 +18,14 @@ pub record AreLinked (items : List Stretch) (firsts nexts : List ℕ) : Type 0 w
   pub nexts_are : nexts ≡ nexts_of items
   pub below : HaveClasses (length firsts) items
 
--- the last stretches are linked, and the ones before them are left
+-- the last stretches are linked, and those before them are not yet
 pub record Linking (items rest : List Stretch) (firsts nexts : List ℕ) : Type 0 where
   pub done : List Stretch
   pub all : rest ++ done ≡ items
   pub linked : AreLinked done firsts nexts
   pub left : HaveClasses (length firsts) rest
 
--- those of a class that were met, and where the next one stands
+-- the stretches of a class that were met, and the place of the next one
 pub record Walks (x : ℕ) (items group : List Stretch) (place : ℕ) : Type 0 where
   pub before : List Stretch
   pub rest : List Stretch
