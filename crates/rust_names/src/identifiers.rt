@@ -43,6 +43,7 @@ fn are_many_identifier_bytes(bytes: &[u8]) -> bool
 }
 
 /// Whether bytes are letters, digits and `_`.
+#[inline(always)]
 fn are_identifier_bytes(bytes: &[u8]) -> bool
     ensures { result ≡ list_all v0.is_identifier_byte bytes.now }
 {

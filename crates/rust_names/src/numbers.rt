@@ -97,6 +97,18 @@ fn are_zeros(bytes: &[u8]) -> bool
     zeros
 }
 
+/// The digits without many zeros in front.
+#[inline(always)]
+fn without_zeros(bytes: &[u8]) -> &[u8]
+    ensures same { base_62_from 0 result.now ≡ base_62_from 0 bytes.now }
+    ensures within { length result.now ≤ length bytes.now }
+{
+    if bytes.starts_with(b"00") {
+        return after_zeros(bytes);
+    }
+    bytes
+}
+
 /// The digits without whole blocks of zeros in front.
 fn after_zeros(bytes: &[u8]) -> &[u8]
     ensures same { base_62_from 0 result.now ≡ base_62_from 0 bytes.now }
@@ -143,12 +155,7 @@ pub(crate) fn base_62(bytes: &[u8]) -> Option<(u64, &[u8])>
 {
     match eat(b'_', bytes) {
         Some(after) => Some((0, after)),
-        None => {
-            if bytes.starts_with(b"00") {
-                return base_62_from(after_zeros(bytes));
-            }
-            base_62_from(bytes)
-        }
+        None => base_62_from(without_zeros(bytes)),
     }
 }
 
