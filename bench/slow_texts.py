@@ -150,6 +150,25 @@ def long_zeros(size):
     return b"PUBLIC 0 0 _RINvC1a1fKj" + b"0" * (size // 2) + b"1_" + b"KB8_" * (size // 8) + b"E\n"
 
 
+def disambiguator_zeros(size):
+    """A name of the current mangling: half of its bytes are a disambiguator with zeros in front, and the others lead back to the crate that has it."""
+    return b"PUBLIC 0 0 _RINvC1a1fCs" + b"0" * (size // 2) + b"1_1b" + b"B7_" * (size // 6) + b"E\n"
+
+
+def identifiers_in_one(size):
+    """A name of the current mangling: half of its bytes are an identifier, and the others lead to types in it, whose crates that are not shown have the
+    rest of it as a name."""
+    inside, starts = [b"h"], []
+    length = 0
+    while length < size // 2:
+        inside.append(b"MC%d" % length if length > 0 else b"a")
+        length += len(inside[-1])
+        starts.append(length)
+    inside = b"".join(reversed(inside))
+    front = b"INvC1a1fC%d_" % len(inside)
+    return b"PUBLIC 0 0 _R" + front + inside + b"".join(b"B" + base_62(len(front) + length - start) for start in reversed(starts[1:])) + b"E\n"
+
+
 def lists_in_one_identifier(size):
     """A name of the current mangling: half of its bytes are an identifier, and the others lead to types in it, whose paths have the rest of it as a list."""
     inside = b"C4MIC0" * (size // 12) + b"Eh"
@@ -195,6 +214,8 @@ CASES = (
     ("200 names of 60,000 bytes whose path that is not shown is met 10,000 times", NAMES, lambda n: many(hidden_path(n * 30_000), 200)),
     ("20 names of 44,000 bytes whose constant with many zeros is met 5,500 times", NAMES, lambda n: many(long_zeros(n * 22_000), 20)),
     ("20 names of 40,000 bytes with lists that are not shown at 3,600 places of one identifier", NAMES, lambda n: many(lists_in_one_identifier(n * 22_000), 20)),
+    ("20 names of 44,000 bytes whose disambiguator with many zeros is met 7,300 times", NAMES, lambda n: many(disambiguator_zeros(n * 22_000), 20)),
+    ("20 names of 44,000 bytes whose names that are not shown begin at 3,000 places of one identifier", NAMES, lambda n: many(identifiers_in_one(n * 22_000), 20)),
     ("a million INIT records in no order", CHECK, lambda n: scattered(b"STACK CFI INIT %x 1 a: 1\n", n * M)),
     ("a million INIT records that overlap, falling", WALK, lambda n: with_reach(b"STACK CFI INIT %x %x a: 1\n", n * M)),
     ("a million changes of one INIT, falling", CHECK, lambda n: under(INIT, falling(b"STACK CFI %x a: 1\n", n * M))),
