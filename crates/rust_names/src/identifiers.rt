@@ -28,6 +28,7 @@ fn is_identifier_byte(b: u8) -> bool
 }
 
 /// Whether many bytes are letters, digits and `_`. All are looked at, since a loop without a way out takes many at once.
+#[inline(never)]
 fn are_many_identifier_bytes(bytes: &[u8]) -> bool
     ensures { result ≡ list_all v0.is_identifier_byte bytes.now }
 {
@@ -78,6 +79,7 @@ fn split_at_mark(bytes: &[u8]) -> (&[u8], &[u8])
 
 /// Whether bytes may be an identifier.
 #[tactic(auto, unfolding(crate::specs::V0Identifiers::is_identifier))]
+#[inline(always)]
 fn is_identifier(marked: bool, bytes: &[u8]) -> bool
     ensures { result ≡ v0.is_identifier marked bytes.now }
 {

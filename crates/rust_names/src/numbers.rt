@@ -110,6 +110,7 @@ fn without_zeros(bytes: &[u8]) -> &[u8]
 }
 
 /// The digits without whole blocks of zeros in front.
+#[inline(never)]
 fn after_zeros(bytes: &[u8]) -> &[u8]
     ensures same { base_62_from 0 result.now ≡ base_62_from 0 bytes.now }
     ensures within { length result.now ≤ length bytes.now }
@@ -126,6 +127,7 @@ fn after_zeros(bytes: &[u8]) -> &[u8]
 }
 
 /// The value of digits up to `_`, and what stands after it.
+#[inline(always)]
 fn base_62_from(bytes: &[u8]) -> Option<(u64, &[u8])>
     ensures number { option_map (λ x. (x.0, x.1.now)) result ≡ base_62_from 0 bytes.now }
     ensures within { IfSome result (λ x. length x.1.now ≤ length bytes.now) }
@@ -149,6 +151,7 @@ fn base_62_from(bytes: &[u8]) -> Option<(u64, &[u8])>
 
 /// A number in base 62, and what stands after it.
 #[tactic(auto, unfolding(crate::specs::V0Numbers::base_62))]
+#[inline(always)]
 pub(crate) fn base_62(bytes: &[u8]) -> Option<(u64, &[u8])>
     ensures number { option_map (λ x. (x.0, x.1.now)) result ≡ base_62 bytes.now }
     ensures within { IfSome result (λ x. length x.1.now ≤ length bytes.now) }
@@ -161,6 +164,7 @@ pub(crate) fn base_62(bytes: &[u8]) -> Option<(u64, &[u8])>
 
 /// One more than the number after a letter, or 0 where the letter is missing.
 #[tactic(auto, unfolding(crate::specs::V0Numbers::after_letter))]
+#[inline(always)]
 pub(crate) fn after_letter(letter: u8, bytes: &[u8]) -> Option<(u64, &[u8])>
     ensures number { option_map (λ x. (x.0, x.1.now)) result ≡ after_letter letter bytes.now }
     ensures within { IfSome result (λ x. length x.1.now ≤ length bytes.now) }

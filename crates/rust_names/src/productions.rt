@@ -35,6 +35,7 @@ pub(crate) fn list_of(item: Item) -> Part
 }
 
 /// Puts a frame of a part onto a stack.
+#[inline(always)]
 pub(crate) fn push(stack: &mut Vec<Frame>, nest: &Nest, part: Part) -> Result<(), OutOfMemory>
     ensures { OnOk result (stack.new.items ≡ stack.old.items ++ inside nest.now.scope nest.now.levels nest.now.width part ∷ []) }
 {
