@@ -80,6 +80,16 @@ pub ended : (name : List ℕ) (old new : List Frame) (s : State) (stops : Bool) 
 ended name old new s stops text opened stop is none =
     is.same ∙ ap (λ fs. run name (reverse fs) (at stop.rest.now text opened)) (all_by stops new stop.hidden is.hidden none) ∙ run_none name (at stop.rest.now text opened)
 
+-- one frame alone
+
+all_of : (name : List ℕ) (o : Option State) → option_and_then (run name []) o ≡ o
+all_of name None = refl
+all_of name (Some s) = run_none name s
+
+pub alone : (name : List ℕ) (f : Frame) (cleared pushed new : List Frame) (s : State) (text : List ℕ) (opened : Bool) (stop : Stop) → cleared ≡ [] → pushed ≡ cleared ++ f ∷ [] → Stopped name pushed s false new text opened stop → read_frame name f s ≡ Some (at stop.rest.now text opened)
+alone name f cleared pushed new s text opened stop none pushes is =
+    sym (ap (λ fs. run name (reverse fs) s) (pushes ∙ ap (λ fs. fs ++ f ∷ []) none) ∙ plain_run name f [] s (read_frame name f s) refl ∙ all_of name (read_frame name f s)) ∙ ended name pushed new s false text opened stop is (none_hidden name pushed new s text opened stop is)
+
 -- and else what follows is read behind the path
 pub passed : (name : List ℕ) (old new : List Frame) (s : State) (stops : Bool) (text : List ℕ) (opened : Bool) (stop : Stop) (f : Frame) (o : Option State) → Stopped name old s stops new text opened stop → stop.hidden ≡ Some f → read_frame name f (at stop.rest.now text opened) ≡ o → run name (reverse old) s ≡ option_and_then (run name (reverse new)) o
 passed name old new s stops text opened stop f o is some reads =

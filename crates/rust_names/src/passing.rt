@@ -14,7 +14,7 @@ ghost use Rattle.rust_names.specs.internal.Running.{is_made};
 
 use crate::frames::expand;
 use crate::grammar::{Count, Frame, Item, Kind, Part, Phrase, Scope};
-use crate::turns::{Room, from_place, is_made, read_plain};
+use crate::turns::{Room, from_place, is_made, read_frames};
 use std::alloc::Global;
 use std::collections::BTreeMap;
 use sym_edges::OutOfMemory;
@@ -282,9 +282,11 @@ fn read_one(
         levels: 0,
         width: 1,
     };
-    match read_plain(alloc, room, name, frame, from_place(name, now.place))? {
-        Some(after) => Ok(Some(Reached {
-            place: name.len().saturating_sub(after.len()),
+    room.stack.clear();
+    room.stack.push(frame)?;
+    match read_frames(alloc, room, name, from_place(name, now.place), false)? {
+        Some(stop) => Ok(Some(Reached {
+            place: name.len().saturating_sub(stop.rest.len()),
             opened: room.opened,
             levels: 0,
             width: 1,

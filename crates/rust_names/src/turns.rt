@@ -110,7 +110,7 @@ fn read_known_leaf<'a>(
 /// Reads a part by itself, and adds what it shows.
 #[tactic(auto, unfolding(crate::specs::internal::Running::read_frame), using(crate::proofs::PathLemmas::no_named, crate::proofs::PathLemmas::named_frame))]
 #[inline(always)]
-pub(crate) fn read_plain<'a>(
+fn read_plain<'a>(
     alloc: Global,
     room: &mut Room,
     name: &'a [u8],
@@ -184,7 +184,7 @@ pub(crate) fn read_frames<'a>(
 ) -> Result<Option<Stop<'a>>, OutOfMemory>
     requires ends { IsEnd name.now begin.now }
     requires constants { AreConstants name.now room.old.constants }
-    ensures constants { IfOk result (λ next. IfSome next (λ stop. AreConstants name.now room.new.constants)) }
+    ensures constants { IfOk result (λ next. AreConstants name.now room.new.constants) }
     ensures read { IfOk result (λ next. MatchOption next (run name.now (reverse room.old.stack.items) (at begin.now room.old.text.items room.old.opened) ≡ None) (Stopped name.now room.old.stack.items (at begin.now room.old.text.items room.old.opened) stops room.new.stack.items room.new.text.items room.new.opened)) }
 {
     let mut rest = begin;

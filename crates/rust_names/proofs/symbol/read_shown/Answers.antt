@@ -17,7 +17,7 @@ paths-preserved c = record {
       c.paths.invariant.same
       ∙ passed c.args.name.now c.paths.rooms.shown.stack.items c.read_frames.new.room.stack.items _ _ c.read_frames.new.room.text.items c.read_frames.new.room.opened c.in-Some.stop c.in-Some-hidden.frame (Some (at c.in-Some-2.next.rest.now c.read_frames.new.room.text.items c.in-Some-2.next.opened)) (rw c.in-Some.is at c.in_ok-stop.ensures.read) c.in-Some-hidden.is (rw c.in-Some-2.is at c.in_ok-next.ensures.read c.read_frames.new.room.text.items);
   ends = rw c.in-Some-2.is at c.in_ok-next.ensures.ends;
-  constants = rw c.in-Some.is at c.in_ok-stop.ensures.constants;
+  constants = c.in_ok-stop.ensures.constants;
   known = c.in_ok-next.ensures.known;
 }
 
