@@ -1,4 +1,4 @@
--- What one decision adds, for the law that ties the list of omissions to the reasons of entries.
+-- What the decision about one entry adds to the omissions and to the written entries, for the law about both.
 use Rattle.std.specs.Prelude.{List, [], ◌∷◌, Option, Some, None}
 use Rattle.sym_edges.specs.declared.reason.Reason.{Reason}
 use Rattle.frame_entries.specs.declared.description.Body.{Body}
@@ -7,17 +7,17 @@ use Rattle.frame_entries.specs.declared.description.Entry.{Entry}
 use Rattle.frame_entries.specs.FdeFields.{FdeFields}
 use Rattle.rule_postfix.specs.declared.omission.Omission.{Omission}
 
--- the omission of an entry that has a reason; an entry without one has none
+-- an entry with a reason adds one omission; an entry without a reason adds none
 abbrev pub omission_for : Entry → Option Reason → List Omission
 omission_for entry None = []
 omission_for entry (Some why) = record { section = entry.section; at = entry.at; reason = why } ∷ []
 
--- the fields of an entry that can be read
+-- the fields of an entry, if they can be read
 abbrev pub fields_of : Body → List FdeFields
 fields_of (Good e) = e ∷ []
 fields_of (Bad why) = []
 
--- the fields of an entry that has no reason; an entry with one is not written
+-- an entry without a reason is written and adds its fields; an entry with a reason adds none
 abbrev pub fields_for : Entry → Option Reason → List FdeFields
 fields_for entry None = fields_of entry.body
 fields_for entry (Some why) = []

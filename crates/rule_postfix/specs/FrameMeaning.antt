@@ -1,4 +1,4 @@
--- When the frame records of a symbol file mean what DWARF's rows mean: evaluating them gives what the rows give.
+-- When the frame records of a symbol file mean what DWARF's rows mean: evaluating the records gives what the rows give.
 use Rattle.std.specs.Prelude.{◌≡◌, ℕ, ◌+◌, ◌-◌, ◌<◌, ◌&&◌, not, Bool, true, false, List, Option, None, Some}
 use Rattle.std.specs.List.{slice_index_or, AllByRecursion}
 use Rattle.frame_entries.specs.FdeFields.{FdeFields}
@@ -25,13 +25,13 @@ is_undefined (rule.ValOffset n) = false
 is_undefined (rule.Register register) = false
 is_undefined (rule.Expr fetch place) = false
 
--- the one exception: the row says that rbx, rbp, rsp or one of r12 to r15 is undefined. The text has no rule for it, and so it has the
--- value that these have without a rule
+-- the one exception: the row says that rbx, rbp, rsp or one of r12 to r15 is undefined. The text cannot say this, so there the register has the value
+-- that it has without a rule
 unfoldable pub is_lost : Row → ℕ → Bool
 is_lost row register = is_undefined (rule_at row register) && not (is_unspecified register)
 
--- the frame that a text gives is that of a row: the CFA, the return address and each of the sixteen registers, values, failures and their
--- causes alike
+-- the text's frame `said` is the row's frame `meant`: the CFA, the return address and each of the sixteen registers, except lost ones, are the same
+-- value, or both undefined, or the same failure with the same cause
 pub record IsFrameOf (row : Row) (meant said : Frame) : Type 0 where
   pub cfa : said.cfa ≡ meant.cfa
   pub ra : said.ra ≡ meant.ra
@@ -46,7 +46,7 @@ pub record KeepsRows (base : ℕ) (lines : List SymLine) (e : FdeFields) : Type 
   pub at : (a : ℕ) (regs : Regs) (memory : List MemRun) → holds_address a e ≡ true →
       SaysFrame (row_at e a) (row_frame e (row_at e a) regs memory) (text_frame lines (a - base) regs memory)
 
--- so at each address of each of these entries, and no rule stands at any other address
+-- this holds for each of the entries, and at any other address the text gives no frame
 pub record KeepsFrames (base : ℕ) (entries : List FdeFields) (lines : List SymLine) : Type 0 where
   pub rows : AllByRecursion (KeepsRows base lines) entries
   pub nothing_else : (x : ℕ) (regs : Regs) (memory : List MemRun) → entries_at entries (x + base) ≡ 0 → text_frame lines x regs memory ≡ None

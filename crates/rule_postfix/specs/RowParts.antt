@@ -1,5 +1,5 @@
--- What a row says of each target, in the one form by which lines are written: rules that mean the same are one part
--- (DWARF 5, section 6.4.1; System V ABI for AMD64, section 3.2.1).
+-- What a row says about each target, as a part from which records are written: rules that mean the same are one part (DWARF 5, section 6.4.1; System
+-- V ABI for AMD64, section 3.2.1).
 use Rattle.std.specs.Prelude.{ℕ, ◌==◌, ◌&&◌, not, Bool, true, false, if◌then◌else◌, Option, Some, None}
 use Rattle.sym_edges.specs.Abi.{Default, KeepsValue, IsCfa, Unspecified, default_of, is_kept, return_address}
 use Rattle.std.specs.List.{slice_index_or}
@@ -15,7 +15,7 @@ use Rattle.sym_rules.specs.declared.rules.Target.TheVariants.{Cfa, Ra, Reg, Othe
 use Rattle.rule_postfix.specs.declared.parts.RowPart.{RowPart}
 use Rattle.rule_postfix.specs.declared.parts.RowPart.TheVariants.{Unruled, Base, Column}
 
--- the register's own value is what it still has
+-- a register rule that names the column itself is the same-value rule
 abbrev pub own_as_same : ℕ → Rule → Rule
 own_as_same column rule.Rest = rule.Rest
 own_as_same column rule.Undefined = rule.Undefined
@@ -25,7 +25,7 @@ own_as_same column (rule.ValOffset n) = rule.ValOffset n
 own_as_same column (rule.Expr fetch place) = rule.Expr fetch place
 own_as_same column (rule.Register register) = if register == column then rule.Same else rule.Register register
 
--- a column without a rule is unruled, and so is one that is undefined; a kept register that still has its value is too
+-- a column is unruled if it has no rule, is undefined, or has the same-value rule and is preserved by calls
 abbrev pub by_group : Bool → Rule → RowPart
 by_group kept rule.Rest = Unruled
 by_group kept rule.Undefined = Unruled
@@ -61,7 +61,7 @@ abbrev pub same_bool : Bool → Bool → Bool
 same_bool true b = b
 same_bool false b = not b
 
--- the same part: expressions are the same where they stand at the same place, whatever their bytes are
+-- two parts are the same. Two expressions are the same if they are at the same place, whatever their bytes are
 abbrev pub same_place : Place → Place → Bool
 same_place a b = same_bool a.own b.own && (a.start == b.start && a.len == b.len)
 
@@ -86,8 +86,8 @@ same_part (Base a) (Base b) = same_cfa a b
 same_part (Column a) (Column b) = same_rule a b
 same_part _ _ = false
 
--- nothing is specified of the column where no rule is given: the return address, and the registers that a call may change. Of these no
--- line can say that they are unruled again
+-- nothing is specified about a column without a rule if it is the return address or a register that a call may change. No rule can say that such a
+-- column is unruled again
 abbrev pub leaves_unspecified : Default → Bool
 leaves_unspecified KeepsValue = false
 leaves_unspecified IsCfa = false
@@ -96,7 +96,7 @@ leaves_unspecified Unspecified = true
 unfoldable pub is_unspecified : ℕ → Bool
 is_unspecified column = leaves_unspecified (default_of column)
 
--- at the second of two rows such a column is unruled, and at the first it is not
+-- such a column becomes unspecified: it is unruled at the second of two rows, and not at the first
 unfoldable pub becomes_unspecified : Row → Row → ℕ → Bool
 becomes_unspecified before after column =
     is_unspecified column && (is_unruled (column_part column (rule_at after column)) && not (is_unruled (column_part column (rule_at before column))))

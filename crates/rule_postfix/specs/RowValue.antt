@@ -1,5 +1,5 @@
--- What a row says of the caller's registers, over registers and memory (DWARF 5, sections 6.4.1 and 6.4.4): by the kind of each rule. Sums are
--- modulo 2^64. Without a rule a register is what the ABI says (System V ABI for AMD64, section 3.2.1).
+-- The values that a row gives the caller's registers, given registers and memory (DWARF 5, sections 6.4.1 and 6.4.4), by the kind of each rule. Sums
+-- are modulo 2^64. A register without a rule is what the ABI says (System V ABI for AMD64, section 3.2.1).
 use Rattle.std.specs.Prelude.{ℕ, ◌+◌, ◌%◌, ◌^◌, ℤ, Bool, true, false, List, map, Option, None, Some}
 use Rattle.std.specs.Int.{w64, cast_unsigned}
 use Rattle.std.specs.List.{range_with_len, slice_index_or}
@@ -34,30 +34,30 @@ abbrev pub known_word : ℕ → Option ℕ → Outcome
 known_word a None = Failed (Unreadable a)
 known_word a (Some word) = Value word
 
--- what stands at the CFA plus an offset, or is it: a CFA that failed fails what rests on it
+-- what `then` gives for the sum of a base, such as the CFA, and an offset. It fails if the base is undefined or failed
 abbrev pub at_cfa : Outcome → ℤ → (ℕ → Outcome) → Outcome
 at_cfa (Value cfa) offset then = then ((cfa + cast_unsigned w64 offset) % 2 ^ 64)
 at_cfa Undefined offset then = Failed NoCfa
 at_cfa (Failed why) offset then = Failed why
 
--- the CFA: a register's value plus an offset, or the value of an expression of the entry, for which no CFA is on the stack
+-- the CFA: a register's value plus an offset, or the value of an expression of the entry, which has no CFA on its stack at the start
 abbrev pub cfa_value : FdeFields → Regs → List MemRun → Option CfaRule → Outcome
 cfa_value e regs memory None = Undefined
 cfa_value e regs memory (Some (cfa.Base register offset)) = at_cfa (value_now regs register) offset Value
 cfa_value e regs memory (Some (cfa.Expr place)) = expr_value regs memory Undefined false (expr_bytes e place)
 
--- a column without a rule
+-- the value of a column without a rule
 abbrev pub value_at_rest : Regs → Outcome → Default → ℕ → Outcome
 value_at_rest regs cfa KeepsValue column = value_now regs column
 value_at_rest regs cfa IsCfa column = cfa
 value_at_rest regs cfa Unspecified column = Undefined
 
--- an expression is the value, or the address of it
+-- the value of an expression or, if it fetches, the word at that address
 abbrev pub value_or_word : Bool → List MemRun → Outcome → Outcome
 value_or_word false memory value = value
 value_or_word true memory value = word_of memory value
 
--- a column by its rule
+-- the value of a column by its rule
 abbrev pub column_value : FdeFields → Regs → List MemRun → Outcome → ℕ → Rule → Outcome
 column_value e regs memory cfa column rule.Rest = value_at_rest regs cfa (default_of column) column
 column_value e regs memory cfa column rule.Undefined = Undefined
@@ -70,7 +70,7 @@ column_value e regs memory cfa column (rule.Expr fetch place) = value_or_word fe
 unfoldable pub value_in_row : FdeFields → Regs → List MemRun → Row → ℕ → Outcome
 value_in_row e regs memory row column = column_value e regs memory (cfa_value e regs memory row.cfa) column (rule_at row column)
 
--- all of a row of an entry: the CFA, the return address, and the sixteen registers
+-- the frame that a row of an entry gives: the CFA, the return address and the sixteen registers
 unfoldable pub row_frame : FdeFields → Row → Regs → List MemRun → Frame
 row_frame e row regs memory = record {
   cfa = cfa_value e regs memory row.cfa;

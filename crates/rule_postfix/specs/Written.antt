@@ -1,5 +1,5 @@
--- Which frame entries are written, and the reason for which each other is left out (Breakpad's symbol_files.md, "STACK CFI INIT": the
--- records of a range are those of one entry).
+-- Which frame entries are written, and for which reason each other entry is left out (Breakpad's symbol_files.md, "STACK CFI INIT": the records of a
+-- range are those of one entry).
 use Rattle.std.specs.Prelude.{ℕ, ◌+◌, ◌^◌, ◌&&◌, not, nat_lt, Bool, if◌then◌else◌, List, [], ◌∷◌, ◌++◌, map, Option, None, Some}
 use Rattle.std.specs.List.{flat_map}
 use Rattle.sym_edges.specs.declared.reason.Reason.{Reason}
@@ -18,33 +18,33 @@ use Rattle.rule_postfix.specs.declared.omission.Omission.{Omission}
 use Rattle.rule_postfix.specs.FrameLines.{frame_lines}
 use Rattle.range_union.specs.Ranges.{any_overlap}
 
--- the range of an entry; it is one of addresses where it is not empty and ends below 2^64
+-- the range of an entry; it is a range of addresses if it is not empty and ends below 2^64
 abbrev pub range_of : FdeFields → Range
 range_of e = record { start = e.start; end = e.start + e.size }
 
 unfoldable pub has_range : FdeFields → Bool
 has_range e = nat_lt 0 e.size && nat_lt (e.start + e.size) (2 ^ 64)
 
--- the reason that its instructions give, or an address without a CFA rule; an empty range has no such address
+-- the reason of the first bad instruction. If there is none and the range is one of addresses: `Cfa`, if some address has no CFA rule
 unfoldable pub rows_reason : FdeFields → Option Reason
 rows_reason e = if has_range e then rows_fault e else instruction_fault e
 
--- the range is code: not empty, and wholly in one range of code
+-- the range is one of addresses, and wholly in one range of code
 unfoldable pub is_code : List Range → FdeFields → Bool
 is_code code e = has_range e && encloses code e.start (e.start + e.size)
 
--- the first reason to leave out an entry whose fields can be read: its rows, its place, the ranges that are taken
+-- the first reason to leave out an entry whose fields can be read: its rows are bad, its range is not code, or it overlaps a taken range
 unfoldable pub reason_among : List Range → List Range → FdeFields → Option Reason
 reason_among code taken e =
     option_or (rows_reason e)
     (option_or (unless (is_code code e) reason.Outside)
     (unless (not (any_overlap (range_of e) taken)) reason.Overlap))
 
--- the ranges of the entries that are written before it are taken
+-- the taken ranges are those of the entries that are written before it
 unfoldable pub reason_behind : List Range → List FdeFields → FdeFields → Option Reason
 reason_behind code written e = reason_among code (map range_of written) e
 
--- the whole reason to leave an entry out, after those that are written: the first that applies
+-- the reason to leave out an entry, given the entries written before it; if several apply, the first
 abbrev pub body_reason : List Range → List FdeFields → Body → Option Reason
 body_reason code before (Good e) = reason_behind code before e
 body_reason code before (Bad why) = Some why
@@ -57,7 +57,7 @@ pub record Decided : Type 0 where
   pub written : List FdeFields
   pub omitted : List Omission
 
--- an entry more is left out with a reason, or written
+-- one more entry is left out with a reason, or written
 abbrev pub left_out : Entry → Reason → Decided → Decided
 left_out entry why d = record { written = d.written; omitted = d.omitted ++ record { section = entry.section; at = entry.at; reason = why } ∷ [] }
 
@@ -79,26 +79,26 @@ unfoldable pub with_entries : List Range → List Entry → Decided → Decided
 with_entries code [] d = d
 with_entries code (entry ∷ entries) d = with_entries code entries (with_entry code entry d)
 
--- what is decided of entries, where these were written before them
+-- what is decided about entries, given the entries written before them
 unfoldable pub decided_behind : List Range → List FdeFields → List Entry → Decided
 decided_behind code before entries = with_entries code entries (record { written = before; omitted = [] })
 
--- what is decided of entries in their order
+-- what is decided about entries in their order
 unfoldable pub decided_of : List Range → List Entry → Decided
 decided_of code entries = decided_behind code [] entries
 
--- those of `.eh_frame` stand before those of `.debug_frame`
+-- the entries of `.eh_frame` come before those of `.debug_frame`
 unfoldable pub decided : List Range → List Entry → List Entry → Decided
 decided code first second = decided_of code (first ++ second)
 
--- the entries that are written, and the others with their reasons
+-- the written entries, and the omissions with their reasons
 unfoldable pub written : List Range → List Entry → List Entry → List FdeFields
 written code first second = (decided code first second).written
 
 unfoldable pub omitted : List Range → List Entry → List Entry → List Omission
 omitted code first second = (decided code first second).omitted
 
--- the records of entries
+-- the records of an entry, and those of several entries
 unfoldable pub entry_lines : ℕ → FdeFields → List SymLine
 entry_lines base e = frame_lines e (row_at e) e.start e.size base
 

@@ -23,9 +23,9 @@ pub struct Frames {
     pub omitted: Omissions,
 }
 
-/// The text of the frame records of all entries, those of the first list before those of the second, with addresses
-/// counted from `base`; and the entries that are left out, each with its first reason. Evaluating the text gives what the rows of the
-/// written entries give. They are translated by a crew of workers, whose number changes nothing.
+/// Returns the text of the frame records of the written entries, and the entries that are left out, each with its first reason. The entries of the
+/// first list come before those of the second; addresses are counted from `base`. Evaluating the text gives what the rows of the written entries
+/// give. A crew of workers translates; their number changes nothing.
 #[tactic(auto, using(crate::proofs::DecidedLemmas::lies_above, crate::proofs::DecidedLemmas::shown_text, crate::proofs::DecidedLemmas::shown_omitted, crate::proofs::MeaningLemmas::entries_kept))]
 pub fn translate_all<R: Threads + Sync>(
     crew: &Crew<'_, R>,

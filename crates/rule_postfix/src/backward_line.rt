@@ -1,4 +1,4 @@
-//! A line that is written from its end to its front.
+//! A line that is written from its end to its start.
 ghost use Rattle.std.specs.Prelude.{◌≡◌, ◌+◌, ◌≤◌, [], ◌∷◌, ◌++◌, length, OnOk};
 ghost use Rattle.std.specs.Fmt.{signed_decimal};
 ghost use Rattle.sym_edges.specs.Abi.{register_name};
@@ -9,7 +9,7 @@ use sym_edges::OutOfMemory;
 use sym_records::{write_change, write_init};
 use sym_rules::{write_byte, write_bytes, write_register, write_signed};
 
-/// Room for `N` bytes, and the place in it from which on it is written. What is put goes in front of that. Contracts see what is written.
+/// Room for `N` bytes; those from `at` on are written. More bytes are put before them. Contracts see the written bytes.
 #[derive(Drop)]
 pub struct BackwardLine<const N: usize> {
     room: [u8; N],
@@ -37,7 +37,7 @@ impl<const N: usize> BackwardLine<N> {
         }
     }
 
-    /// Nothing is written any more.
+    /// Empties the line.
     #[inline]
     pub fn clear(&mut self)
         ensures { self.new ≡ [] }
@@ -52,7 +52,7 @@ impl<const N: usize> BackwardLine<N> {
         N - self.at
     }
 
-    /// Adds what is written to a text.
+    /// Adds the line to a text.
     #[inline]
     pub fn add_to(&self, text: &mut Vec<u8>) -> Result<(), OutOfMemory>
         ensures { OnOk result (text.new.items ≡ text.old.items ++ self.now) }
@@ -88,7 +88,7 @@ impl<const N: usize> BackwardLine<N> {
         self.at = write_signed(number, &mut self.room, self.at);
     }
 
-    /// Puts the name of a register; from 16 on there is none.
+    /// Puts the name of a register, which is empty from 16 on.
     #[inline]
     pub fn put_register(&mut self, number: u8)
         requires room { length self.old + 4 ≤ N }
@@ -98,7 +98,7 @@ impl<const N: usize> BackwardLine<N> {
         self.at = write_register(number, &mut self.room, self.at);
     }
 
-    /// Puts the words of `STACK CFI INIT` and its numbers.
+    /// Puts `STACK CFI INIT`, the address and the size.
     #[inline]
     pub fn put_init(&mut self, address: u64, size: u64)
         requires room { length self.old + 48 ≤ N }
@@ -107,7 +107,7 @@ impl<const N: usize> BackwardLine<N> {
         self.at = write_init(address, size, &mut self.room, self.at);
     }
 
-    /// Puts the words of `STACK CFI` and its number.
+    /// Puts `STACK CFI` and the address.
     #[inline]
     pub fn put_change(&mut self, address: u64)
         requires room { length self.old + 26 ≤ N }

@@ -10,8 +10,8 @@ use crate::backward_line::BackwardLine;
 use crate::rules::{LINE, Rows, Unwritten, write_changes};
 use frame_rows::Columns;
 
-/// Writes a record of the changes between two rows of an entry, where there are any, over a line, where no column becomes
-/// unspecified and none of the rules is an expression. The two rows differ in no column outside of those that are given.
+/// Empties the line and writes a record of the changes between two rows of an entry into it, if there are changes, no column becomes unspecified and
+/// none of the rules is an expression. The rows differ in no column outside `columns`.
 #[tactic(auto, using(crate::proofs::SpellingLemmas::no_change, crate::proofs::SpellingLemmas::some_change))]
 pub fn write_change_line(
     rows: &Rows<'_, '_, '_>,

@@ -13,7 +13,7 @@ use std::alloc::Global;
 use std::collections::BTreeMap;
 use sym_edges::OutOfMemory;
 
-/// The most bytes that the instructions of a short CIE have. Of these CIEs the state of one at a time is kept.
+/// The most bytes of instructions that a short CIE has. The state of only one short CIE at a time is cached.
 const SHORT: usize = 64;
 
 /// Whether the CIE of an entry is long.
@@ -21,8 +21,8 @@ pub fn is_long(fde: &Fde<'_>) -> bool {
     fde.initial_instructions.len() > SHORT
 }
 
-/// The states after the CIEs at some places of a section. That of a long CIE is made once, however the entries of the CIEs
-/// alternate; of the short ones the last is kept, whose place is `short`, so that many of them take no memory.
+/// The states after the CIEs at some places of a section. The state of a long CIE is made once, even if the entries of several CIEs alternate. Of the
+/// short CIEs only the last one's state is cached, at the place `short`, so that many short CIEs take no more memory than one.
 #[derive(Drop)]
 pub struct CieStates {
     by_place: BTreeMap<usize, CieState>,
@@ -30,7 +30,7 @@ pub struct CieStates {
 }
 
 impl CieStates {
-    /// None yet.
+    /// No state yet.
     #[tactic(auto, using(crate::proofs::KeepingLemmas::none_kept))]
     pub fn new(alloc: Global) -> CieStates
         ensures { (e : FdeFields) → KeptFor result e }
@@ -41,7 +41,7 @@ impl CieStates {
         }
     }
 
-    /// Lets the state of the short CIE go.
+    /// Drops the state of the short CIE.
     fn drop_short(&mut self)
         ensures { (f : FdeFields) → KeptFor self.old f → KeptFor self.new f }
     {
@@ -60,7 +60,7 @@ impl CieStates {
         }
     }
 
-    /// Makes the state after the CIE of an entry, where it is not there.
+    /// Makes the state after the CIE of an entry, if it is not cached.
     #[tactic(auto, using(crate::proofs::KeepingLemmas::is_there, crate::proofs::KeepingLemmas::is_made, crate::proofs::KeepingLemmas::new_kept))]
     pub fn make(&mut self, alloc: Global, fde: &Fde<'_>) -> Result<(), OutOfMemory>
         requires { KeptFor self.old fde.now }
@@ -76,7 +76,7 @@ impl CieStates {
         Ok(())
     }
 
-    /// The state after the CIE of an entry, which was made.
+    /// The cached state after the CIE of an entry.
     pub fn behind(&self, fde: &Fde<'_>) -> &CieState
         requires { get nat_cmp self.now.by_place fde.now.cie ≡ Some (cie_left fde.now) }
         ensures { result.now ≡ cie_left fde.now }

@@ -2,7 +2,7 @@
 ghost use Rattle.std.specs.Prelude.{◌≡◌};
 ghost use Rattle.rule_postfix.specs.internal.Backward.{column_of};
 
-/// What the rule of a column gives the value of.
+/// What gets its value from a column's rule.
 #[derive(Clone, Copy)]
 pub enum ColumnTarget {
     /// The return address.

@@ -14,8 +14,8 @@ use std::alloc::Global;
 use sym_edges::{Reason, Stop};
 use sym_records::ByteText;
 
-/// Adds the text of an entry's frame records, with addresses counted from `base`, where the state after its CIE is given; or
-/// the reason for which it has none, which is met after some of the text.
+/// Adds the text of an entry's frame records, with addresses counted from `base`, given the state after its CIE. If the entry has no records, returns
+/// the reason; some of the text may be added by then.
 pub fn spell_entry(
     alloc: Global,
     text: &mut Vec<u8>,
@@ -49,8 +49,8 @@ pub fn spell_entry(
     Ok(())
 }
 
-/// The text of an entry's frame records, with addresses counted from `base`, or the reason for which it has none: that of
-/// its first bad instruction, or `Cfa` where some address of its range has no CFA rule. Evaluating the text gives what the rows give.
+/// Returns the text of an entry's frame records, with addresses counted from `base`, or the reason for which it has none: that of its first bad
+/// instruction or else, if some address of its range has no CFA rule, `Cfa`. Evaluating the text gives what the rows give.
 #[tactic(auto, using(crate::proofs::MeaningLemmas::entry_kept))]
 pub fn translate(alloc: Global, fde: &Fde<'_>, base: u64) -> Result<ByteText, Stop<Reason>>
     requires some { 0 < fde.now.size }

@@ -1,23 +1,22 @@
 //! Frame entries as frame records (Breakpad's symbol_files.md, STACK CFI INIT and STACK CFI).
 //!
-//! [`translate`] gives the records of one entry: an INIT with the rules of its first row, and a record of changes at each
-//! address at which the row says something else than at the address before. Where a column becomes unspecified, of
-//! which no record could say so, a new INIT begins. `specs/RowParts.antt` says which rules mean the same and which targets are unruled,
-//! `specs/RowRules.antt` how they are spelled and in which order they stand, and `specs/FrameLines.antt` which records a range
-//! has, by the row at each of its addresses.
+//! [`translate`] gives the records of one entry: an INIT with the rules of its first row, and a record of changes at each address at which the row
+//! says something else than the row at the address before. If a column becomes unspecified, which no rule can say, a new INIT begins.
+//! `specs/RowParts.antt` says which rules mean the same and which targets are unruled, `specs/RowRules.antt` how rules are spelled and in which order
+//! they stand, and `specs/FrameLines.antt` which records a range has, given the row at each of its addresses.
 //!
-//! [`translate_all`] goes over the entries of both sections, those of `.eh_frame` first, and writes an entry unless there is
-//! a reason to leave it out: that of its fields, of its instructions or of an address without a CFA rule; a range that is not
-//! wholly in one range of code; one that meets the range of an entry written before it. Each entry that is left out is listed
-//! with its first reason. `specs/Written.antt` has that choice, and `specs/Covering.antt` what it comes to: each address of a
-//! written entry is covered by one INIT, and no other address by any.
+//! [`translate_all`] goes over the entries of both sections, first those of `.eh_frame`, and writes an entry unless there is a reason to leave it
+//! out. The reasons are: its fields cannot be read; an instruction is bad; an address has no CFA rule; the range is not wholly in one range of code;
+//! the range overlaps that of an entry written before. Each entry that is left out is listed with its first reason. `specs/Written.antt` has this
+//! choice, and `specs/Covering.antt` its result: each address of a written entry is covered by one INIT, and no other address by any.
 //!
-//! The instructions of a CIE are carried out once for all of its entries: `cie_states` has the states that they leave.
+//! `cie_states` caches the states that the instructions of CIEs leave, for the entries that share a CIE.
 //!
 //! Records are spelled backward, into a line (`backward_line`) that has room for all rules (`rules`). The words of a DWARF expression, which
-//! `expr_postfix` gives, may be longer, so the rules of a record with one are added one by one (`long_rules`).
+//! `expr_postfix` gives, may be longer, so the rules of a record with an expression are added one by one (`long_rules`).
 //!
-//! Entries are translated in shares, side by side, each share as if no range were taken before it; one of whose ranges is taken is translated anew, in turn.
+//! Entries are translated in shares, in parallel, each share as if no range were taken before it. If a range of a share overlaps a taken range, that
+//! share is translated anew, in turn.
 //!
 //! To read: `parts`, `column_target`, `backward_line`, `rules`, `change_record`, `long_rules`, `open_init`, `entry_records`, then `omission`,
 //! `written_ranges`, `cie_states`, `progress`, `shares` and `all`.

@@ -1,4 +1,5 @@
-//! Rules with expressions, whose words may be longer than a line: each rule is added to a text by itself, the words of an expression from memory.
+//! Rules with expressions, whose words may be longer than a line. Each rule is added to a text by itself, and memory is allocated for the words of an
+//! expression.
 ghost use Rattle.std.specs.Prelude.{◌≡◌, ◌++◌, ◌∷◌, [], Some, OnOk};
 ghost use Rattle.sym_rules.specs.declared.rules.Target.TheVariants.{Cfa};
 ghost use Rattle.sym_rules.specs.Rules.{spelled_rules};
@@ -31,7 +32,7 @@ fn add_rule(alloc: Global, text: &mut Vec<u8>, rule: &RuleText) -> Result<(), Ou
     Ok(())
 }
 
-/// Adds the rule of a target that is an expression of an entry, where rule text can say it.
+/// Adds the rule of a target that is an expression of an entry, if rule text can express it.
 #[tactic(auto, using(crate::proofs::LongLemmas::expression_added, crate::proofs::LongLemmas::no_words_added))]
 fn add_expression(
     alloc: Global,
@@ -50,7 +51,7 @@ fn add_expression(
     }
 }
 
-/// Adds the rule of the CFA, where two rows differ in it.
+/// Adds the rule of the CFA, if two rows differ in it.
 #[tactic(auto, using(crate::proofs::LongLemmas::line_added, crate::proofs::LongLemmas::expression_added))]
 fn add_cfa(
     alloc: Global,
@@ -76,7 +77,7 @@ fn column_target(target: ColumnTarget) -> Target
     }
 }
 
-/// Adds the rule of a column, where two rows differ in it.
+/// Adds the rule of a column, if two rows differ in it.
 #[tactic(auto, using(crate::proofs::LongLemmas::line_added, crate::proofs::LongLemmas::expression_added))]
 fn add_column(
     alloc: Global,
@@ -133,7 +134,7 @@ pub fn add_row_rules(
     Ok(())
 }
 
-/// Adds a record of the changes between two rows of an entry, where there are any.
+/// Adds a record of the changes between two rows of an entry, if there are any.
 #[tactic(auto, using(crate::proofs::LongLemmas::record_added, crate::proofs::LongLemmas::no_record))]
 pub fn add_change_record(
     alloc: Global,

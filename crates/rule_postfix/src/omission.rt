@@ -1,7 +1,7 @@
 //! Entries that are left out.
 use sym_edges::{ListOf, Reason, Sect};
 
-/// An entry that is left out: where it stands in its section, and why.
+/// An entry that is left out: its offset in its section, and the reason.
 #[derive(Clone, Copy, PartialEq, Eq, Debug)]
 pub struct Omission {
     pub section: Sect,

@@ -20,11 +20,10 @@ use frame_rows::{Columns, Row, Stepper};
 use std::alloc::Global;
 use sym_edges::{OutOfMemory, Reason, Stop};
 
-/// The most bytes that the front of an INIT has.
+/// The most bytes of an INIT before its rules.
 const FRONT: usize = 48;
 
-/// The INIT whose end is not known yet: its start, and the text after its numbers, which is its rules and the changes in it. A
-/// line is made in `line`.
+/// The INIT whose end is not known yet: its start, and the text after its numbers, which has its rules and its changes. Each line is made in `line`.
 #[derive(Drop)]
 pub struct OpenInit {
     start: u64,
@@ -33,7 +32,7 @@ pub struct OpenInit {
 }
 
 impl OpenInit {
-    /// Room for one. Takes no memory.
+    /// Room for one INIT. Allocates no memory.
     pub fn new(alloc: Global) -> OpenInit {
         OpenInit {
             start: 0,
@@ -43,7 +42,7 @@ impl OpenInit {
     }
 }
 
-/// An INIT begins at a row of an entry.
+/// Begins an INIT at a row of an entry.
 fn begin(
     alloc: Global,
     fde: &Fde<'_>,
@@ -62,7 +61,7 @@ fn begin(
     }
 }
 
-/// The INIT ends: it is spelled, and the changes in it.
+/// Ends the INIT: adds it and its changes to the text.
 #[tactic(auto, using(crate::proofs::SpellingLemmas::init_closed))]
 fn close(text: &mut Vec<u8>, open: &OpenInit, end: u64, base: u64) -> Result<(), OutOfMemory>
     requires above { base ≤ open.now.start }
@@ -76,7 +75,7 @@ fn close(text: &mut Vec<u8>, open: &OpenInit, end: u64, base: u64) -> Result<(),
     Ok(())
 }
 
-/// A row of an entry, the row after it, and the address at which that begins; addresses are counted from `base`.
+/// A row of an entry, the next row, and the address at which the next row begins; records count from `base`.
 #[derive(Drop)]
 struct RowChange<'r, 'f, 'a> {
     fde: &'f Fde<'a>,
@@ -86,7 +85,7 @@ struct RowChange<'r, 'f, 'a> {
     base: u64,
 }
 
-/// The INIT ends, and another begins at a row.
+/// Ends the INIT, and begins another at the next row.
 fn cut(
     alloc: Global,
     text: &mut Vec<u8>,
@@ -101,7 +100,7 @@ fn cut(
     begin(alloc, change.fde, open, change.address, change.after)
 }
 
-/// A row after another, where a rule may have more words than a line has room for.
+/// Adds the next row, if a rule may have more words than fit into a line.
 fn put_long_row(
     alloc: Global,
     text: &mut Vec<u8>,
@@ -124,8 +123,8 @@ fn put_long_row(
     add_change_record(alloc, &mut open.body, &mut open.line, address, &rows)
 }
 
-/// A row of an entry after another: where a column becomes unspecified, another INIT begins, else the changes are spelled. The two rows
-/// differ in no column outside of those that are given.
+/// Adds the next row of an entry: if a column becomes unspecified, another INIT begins; otherwise the changes are spelled. The two rows differ in no
+/// column outside `columns`.
 fn put_row(
     alloc: Global,
     text: &mut Vec<u8>,
@@ -151,7 +150,7 @@ fn put_row(
     }
 }
 
-/// The last row ends, and with it the INIT, unless an instruction after it is bad.
+/// Ends the last row and its INIT, unless an instruction after the row is bad.
 fn end_steps(
     text: &mut Vec<u8>,
     open: &OpenInit,
@@ -174,15 +173,15 @@ fn end_steps(
     Ok(())
 }
 
-/// Whether one lacked a rule for the CFA before, or a row does.
+/// Whether a row before lacked a rule for the CFA, or this one does.
 fn lack_rule(lacking: bool, row: &Row) -> bool
     ensures { result ≡ (lacking || not (has_cfa row.now)) }
 {
     lacking || row.cfa.is_none()
 }
 
-/// Spells the records of the rows of an entry from where a stepper stands, each row compared with the one before it, and says whether some
-/// row lacks a rule for the CFA; or the reason of the first bad instruction, which is met after some of the text.
+/// Spells the records of an entry's rows from the stepper's row on, each row compared with the row before it. Returns whether some row lacks a rule
+/// for the CFA, or the reason of the first bad instruction; some of the text may be added by then.
 pub fn spell_steps(
     alloc: Global,
     fde: &Fde<'_>,

@@ -6,7 +6,7 @@ ghost use Rattle.rule_postfix.specs.RowParts.{own_as_same, by_group, column_part
 use expr_steps::Place;
 use frame_rows::{CfaRule, Row, Rule};
 
-/// What a row says of a target: nothing that a line has to say, the CFA's rule, or a column's.
+/// What a row says about a target: nothing that a record must say, the CFA's rule, or a column's rule.
 #[derive(Clone, Copy, PartialEq, Eq, Debug)]
 pub enum RowPart {
     Unruled,
@@ -22,7 +22,7 @@ pub fn is_kept(column: u8) -> bool
     column == 3 || column == 6 || (12 <= column && column <= 15)
 }
 
-/// Whether nothing is specified of the column where no rule is given, so that no line can say that it is unruled again.
+/// Whether nothing is specified about the column if no rule is given, so that no rule can say that it is unruled again.
 #[tactic(auto, unfolding(crate::specs::RowParts::is_unspecified, sym_edges::specs::Abi::default_of))]
 pub fn is_unspecified(column: u8) -> bool
     ensures { result ≡ is_unspecified column }
@@ -62,7 +62,7 @@ fn by_group(kept: bool, given: Rule) -> RowPart
     }
 }
 
-/// The part of a column that has a rule.
+/// The part of a column, given its rule.
 #[tactic(auto, unfolding(crate::specs::RowParts::column_part))]
 pub fn column_part(column: u8, given: Rule) -> RowPart
     ensures { result ≡ column_part column given }
@@ -161,7 +161,7 @@ pub fn rule_at(row: &Row, column: u8) -> Rule
     }
 }
 
-/// Whether two rules are the same; most are both at rest.
+/// Whether two rules are equal; most pairs are both `Rest`.
 #[inline(always)]
 fn equal(a: &Rule, b: &Rule) -> bool
     ensures { result ≡ true → a.now ≡ b.now }

@@ -1,4 +1,4 @@
-//! What is decided of entries, one after another, and the text of those that are written.
+//! Decides about entries, one after another, and makes the text of those that are written.
 ghost use Rattle.std.specs.Prelude.{◌≡◌, ℕ, List, ◌+◌, ◌-◌, ◌^◌, ◌<◌, ◌≤◌, true, false, None, Some, length, take, drop, MatchOption, IfOk, OnOk};
 ghost use Rattle.std.specs.Option.{option_or};
 ghost use Rattle.sym_edges.specs.Outside.{MatchStop};
@@ -25,7 +25,7 @@ use std::alloc::Global;
 use sym_edges::{OutOfMemory, Reason, Stop};
 use sym_records::TextPieces;
 
-/// In what entries are translated: what gives memory, the ranges of code, and the address from which text counts, which lies below them.
+/// What translating needs: the allocator, the ranges of code, and the address from which records count; no range of code starts below it.
 #[derive(Clone, Copy)]
 pub struct Setting<'c> {
     pub alloc: Global,
@@ -33,8 +33,8 @@ pub struct Setting<'c> {
     pub base: u64,
 }
 
-/// What was decided so far: the text of the records, the entries that are left out, and the ranges of those that are
-/// written. The INIT of one entry at a time is made in `open`.
+/// What was decided so far: the text of the records, the entries that are left out, and the ranges of the written entries. `open` is memory for an
+/// INIT of the entry at hand.
 #[derive(Drop)]
 pub struct Progress {
     pub text: TextPieces,
@@ -58,7 +58,7 @@ impl Progress {
     }
 }
 
-/// The end of a range of addresses that is not empty and ends below 2^64.
+/// The end of an entry's range, if the range is not empty and ends below 2^64.
 #[tactic(auto, using(crate::proofs::ReasonLemmas::ends_at, crate::proofs::ReasonLemmas::is_empty, crate::proofs::ReasonLemmas::leaves))]
 fn end_of(fde: &Fde<'_>) -> Option<u64>
     ensures { MatchOption result (has_range fde.now ≡ false) (λ end. EndsAt fde.now end) }
@@ -69,7 +69,7 @@ fn end_of(fde: &Fde<'_>) -> Option<u64>
     fde.start.checked_add(fde.size)
 }
 
-/// Why an entry without such a range is left out.
+/// Why an entry is left out if its range is empty or does not end below 2^64.
 #[tactic(auto, using(crate::proofs::ReasonLemmas::unranged_bad, crate::proofs::ReasonLemmas::unranged_good))]
 fn reason_without_range(
     alloc: Global,
@@ -86,7 +86,7 @@ fn reason_without_range(
     }
 }
 
-/// Why an entry with such a range is left out, where there is a later reason.
+/// Why an entry is left out if its range is not empty and ends below 2^64: the reason that its rows give, or else `later`.
 #[tactic(auto, using(crate::proofs::ReasonLemmas::later_reason, crate::proofs::ReasonLemmas::first_reason))]
 fn reason_or(
     alloc: Global,
@@ -106,7 +106,7 @@ fn reason_or(
     }
 }
 
-/// An entry is left out.
+/// Leaves an entry out.
 fn leave_out(progress: &mut Progress, entry: &Entry<'_>, reason: Reason) -> Result<(), OutOfMemory>
     ensures { OnOk result ((base : ℕ) (d : Decided) → Shows base progress.old d → Shows base progress.new (left_out entry.now reason d)) }
 {
@@ -118,7 +118,7 @@ fn leave_out(progress: &mut Progress, entry: &Entry<'_>, reason: Reason) -> Resu
     Ok(())
 }
 
-/// An entry is left out, where it was refused.
+/// Leaves an entry out, if `stop` is a reason.
 fn leave_out_where_refused(
     progress: &mut Progress,
     entry: &Entry<'_>,
@@ -132,7 +132,7 @@ fn leave_out_where_refused(
     }
 }
 
-/// An entry whose range is free is written, or has the reason that its rows give; then the text stays.
+/// Writes an entry whose range overlaps none that is taken. If its rows give a reason, returns it and leaves the text as it was.
 fn write(
     alloc: Global,
     progress: &mut Progress,
@@ -171,7 +171,7 @@ fn write(
     Ok(())
 }
 
-/// An entry whose fields can be read is written or left out, where the state after its CIE is given.
+/// Writes an entry whose fields can be read, or leaves it out, given the state after its CIE.
 fn put_behind(
     setting: Setting<'_>,
     progress: &mut Progress,
@@ -202,7 +202,7 @@ fn put_behind(
     }
 }
 
-/// An entry whose fields can be read is written or left out. The state after its CIE is made where it is not there.
+/// Writes an entry whose fields can be read, or leaves it out. The state after its CIE is made if it is not cached.
 fn put_good(
     setting: Setting<'_>,
     progress: &mut Progress,
@@ -220,7 +220,7 @@ fn put_good(
     put_behind(setting, progress, states.behind(fde), entry, fde)
 }
 
-/// An entry is written or left out.
+/// Writes an entry or leaves it out.
 fn put_entry(
     setting: Setting<'_>,
     progress: &mut Progress,
@@ -238,7 +238,7 @@ fn put_entry(
     }
 }
 
-/// Entries of one section in order, from one number on up to another.
+/// Decides about the entries of one section from `from` up to `to`, in order.
 pub fn put_range(
     setting: Setting<'_>,
     progress: &mut Progress,

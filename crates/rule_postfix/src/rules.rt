@@ -1,5 +1,5 @@
-//! The rules of a record: those that a row has, and those that differ between two rows. They are written from the last to the
-//! first into the line of the record.
+//! The rules of a record: those that a row has, or those that differ between two rows. They are written from the last to the first into the line of
+//! the record.
 ghost use Rattle.std.specs.Prelude.{◌≡◌, ◌+◌, ◌≤◌, ◌∷◌, [], ◌++◌, true, false, None, Some, length, codes, MatchOption, MatchResult, OnOk};
 ghost use Rattle.std.specs.List.{flat_map};
 ghost use Rattle.sym_rules.specs.Rules.{spelled_token, spelled_rules, target_word};
@@ -20,7 +20,7 @@ use expr_steps::Place;
 use frame_entries::Fde;
 use frame_rows::{CfaRule, Columns, Row, Rule};
 
-/// The most bytes that a line with all rules has.
+/// The room of a line, in bytes: enough for all rules but expressions.
 pub const LINE: usize = 768;
 
 /// Two rows of an entry.
@@ -31,7 +31,7 @@ pub struct Rows<'r, 'f, 'a> {
     pub after: &'r Row,
 }
 
-/// The CFA plus so much.
+/// The CFA plus an offset.
 #[inline]
 #[tactic(auto, using(crate::proofs::TokenLemmas::sum_written))]
 fn write_sum(offset: i64, line: &mut BackwardLine<LINE>)
@@ -44,7 +44,7 @@ fn write_sum(offset: i64, line: &mut BackwardLine<LINE>)
     line.put_bytes(b" .cfa ");
 }
 
-/// The word at the CFA plus so much.
+/// The word at the CFA plus an offset.
 #[inline]
 #[tactic(auto, using(crate::proofs::TokenLemmas::word_written))]
 fn write_word_at(offset: i64, line: &mut BackwardLine<LINE>)
@@ -69,7 +69,7 @@ fn write_value(number: u8, line: &mut BackwardLine<LINE>)
     line.put_byte(b' ');
 }
 
-/// A register plus so much.
+/// A register plus an offset.
 #[inline]
 #[tactic(auto, using(crate::proofs::TokenLemmas::base_written))]
 fn write_base(register: u8, offset: i64, line: &mut BackwardLine<LINE>)
@@ -84,7 +84,7 @@ fn write_base(register: u8, offset: i64, line: &mut BackwardLine<LINE>)
     line.put_byte(b' ');
 }
 
-/// The name of a column after one space, with `:` after it.
+/// A space, the name of a column, and `:`.
 #[inline]
 #[tactic(auto, using(crate::proofs::TokenLemmas::register_written))]
 fn write_target(target: ColumnTarget, line: &mut BackwardLine<LINE>)
@@ -102,7 +102,7 @@ fn write_target(target: ColumnTarget, line: &mut BackwardLine<LINE>)
     }
 }
 
-/// A column by its own name; the return address has none.
+/// The rule that a register has its own value; the return address has none.
 #[tactic(auto, using(crate::proofs::TokenLemmas::rule_written, crate::proofs::TokenLemmas::no_rule))]
 fn write_own(target: ColumnTarget, line: &mut BackwardLine<LINE>)
     requires room { length line.old + 40 ≤ 768 }
@@ -118,7 +118,7 @@ fn write_own(target: ColumnTarget, line: &mut BackwardLine<LINE>)
     }
 }
 
-/// What says that a column is unruled again, where something does.
+/// The rule that says that a column is unruled again, if there is one.
 #[tactic(auto, using(crate::proofs::TokenLemmas::rule_written, crate::proofs::TokenLemmas::no_rule), unfolding(sym_edges::specs::Abi::default_of))]
 fn write_unruled(target: ColumnTarget, line: &mut BackwardLine<LINE>)
     requires room { length line.old + 40 ≤ 768 }
@@ -139,8 +139,8 @@ fn write_unruled(target: ColumnTarget, line: &mut BackwardLine<LINE>)
     }
 }
 
-/// An expression of an entry that gives a rule's value: whether the CFA is on the stack before it, and whether the value is the
-/// word at what it leaves. Its words may have no room in a line.
+/// An expression of an entry that is a rule: whether the CFA may be on the stack at its start, and whether the value is the word at the address that
+/// it gives. Its words may not fit into a line.
 #[derive(Clone, Copy)]
 pub struct ExprRule {
     pub start: bool,
@@ -148,7 +148,7 @@ pub struct ExprRule {
     pub place: Place,
 }
 
-/// A rule of a column, where it has a spelling; or the expression that it is.
+/// Writes the rule of a column, if it has a spelling; returns it if it is an expression.
 #[tactic(auto, using(crate::proofs::TokenLemmas::rule_written, crate::proofs::TokenLemmas::no_rule))]
 fn write_rule(
     fde: &Fde<'_>,
@@ -188,7 +188,7 @@ fn write_rule(
     Ok(())
 }
 
-/// A part of a column, where it has a spelling; or the expression that it is.
+/// Writes the part of a column, if it has a spelling; returns it if it is an expression.
 #[tactic(auto, unfolding(crate::specs::RowRules::spelled))]
 fn write_part(
     fde: &Fde<'_>,
@@ -213,7 +213,7 @@ fn write_part(
     }
 }
 
-/// The rule of a column, where two rows differ in it; or the expression that it is in the second.
+/// Writes the rule that a column has in the second of two rows, if they differ in it; returns it if it is an expression.
 #[tactic(auto, using(crate::proofs::TokenLemmas::no_rule, crate::proofs::PartLemmas::no_base))]
 pub fn write_column(
     rows: &Rows<'_, '_, '_>,
@@ -237,13 +237,13 @@ pub fn write_column(
 /// Why the changes between two rows are not written into a line.
 #[derive(Clone, Copy)]
 pub enum Unwritten {
-    /// A column becomes unspecified, of which no line can say so.
+    /// A column becomes unspecified, which no rule can say.
     Unspecified,
-    /// A rule is an expression, whose words may have no room there.
+    /// A rule is an expression, whose words may not fit into the line.
     Expression,
 }
 
-/// The rule of the CFA, where two rows differ in it; or the expression that it is in the second.
+/// Writes the rule that the CFA has in the second of two rows, if they differ in it; returns it if it is an expression.
 #[tactic(auto, using(crate::proofs::TokenLemmas::cfa_written, crate::proofs::TokenLemmas::no_rule), unfolding(crate::specs::RowRules::spelled, expr_postfix::specs::ExprTokens::rule_tokens))]
 pub fn write_cfa(rows: &Rows<'_, '_, '_>, line: &mut BackwardLine<LINE>) -> Result<(), ExprRule>
     requires room { length line.old + 40 ≤ 768 }
@@ -270,8 +270,8 @@ pub fn write_cfa(rows: &Rows<'_, '_, '_>, line: &mut BackwardLine<LINE>) -> Resu
     }
 }
 
-/// The rules of the registers in which two rows differ, by number. The two differ in no column outside of those that are given. Most of
-/// these stay too, so that is asked first.
+/// Writes the rules of the registers in which two rows differ, by number. The rows differ in no column outside `columns`. Most of `columns` have the
+/// same rule in both rows, so this is checked first.
 #[tactic(auto, using(crate::proofs::RulesLemmas::no_register, crate::proofs::RulesLemmas::register_stays, crate::proofs::RulesLemmas::one_register_more, crate::proofs::RulesLemmas::none_lost, crate::proofs::RulesLemmas::stays_kept, crate::proofs::RulesLemmas::one_kept, crate::proofs::RulesLemmas::one_lost, crate::proofs::RulesLemmas::all_kept, crate::proofs::RulesLemmas::all_registers))]
 fn write_registers(
     rows: &Rows<'_, '_, '_>,
@@ -300,7 +300,7 @@ fn write_registers(
     Ok(())
 }
 
-/// The rule of the return address, where two rows differ in it.
+/// Writes the rule of the return address, if two rows differ in it.
 #[tactic(auto, using(crate::proofs::RulesLemmas::one_lost, crate::proofs::RulesLemmas::ra_kept, crate::proofs::RulesLemmas::ra_stays, crate::proofs::RulesLemmas::no_ra_text))]
 fn write_ra(rows: &Rows<'_, '_, '_>, line: &mut BackwardLine<LINE>) -> Result<(), Unwritten>
     requires kept { some_unspecified_below rows.now.before.now rows.now.after.now 16 ≡ false }
@@ -321,8 +321,8 @@ fn write_ra(rows: &Rows<'_, '_, '_>, line: &mut BackwardLine<LINE>) -> Result<()
     }
 }
 
-/// The rules of the targets in which two rows of an entry differ, where no column becomes unspecified and none of these rules is an
-/// expression. The two differ in no column outside of those that are given.
+/// Writes the rules of the targets in which two rows of an entry differ, if no column becomes unspecified and none of these rules is an expression.
+/// The rows differ in no column outside `columns`.
 #[tactic(auto, using(crate::proofs::RulesLemmas::all_rules))]
 pub fn write_changes(
     rows: &Rows<'_, '_, '_>,
@@ -346,7 +346,7 @@ pub fn write_changes(
     }
 }
 
-/// The row that says nothing: seventeen columns, those of the registers and that of the return address.
+/// The row without rules: seventeen columns, those of the registers and that of the return address.
 #[tactic(auto, unfolding(frame_rows::specs::Rows::empty_row))]
 pub fn empty_row() -> Row
     ensures { result ≡ empty_row }
@@ -357,7 +357,7 @@ pub fn empty_row() -> Row
     }
 }
 
-/// The rules that a row of an entry has, and the end of their line, where none of them is an expression.
+/// Writes the rules of a row of an entry, and the end of their line, if none of the rules is an expression.
 #[tactic(auto, using(crate::proofs::RulesLemmas::from_empty, crate::proofs::RulesLemmas::alike_outside))]
 pub fn write_row_rules(
     fde: &Fde<'_>,

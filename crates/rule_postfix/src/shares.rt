@@ -1,4 +1,4 @@
-//! The entries of a section in shares, which workers translate side by side and which are joined in their order.
+//! The entries of a section in shares, which workers translate in parallel and whose results are joined in order.
 ghost use Rattle.std.specs.Prelude.{◌≡◌, ◌*◌, ◌<◌, ◌≤◌, ◌++◌, length, false, OnOk};
 ghost use Rattle.std.specs.List.{list_any};
 ghost use Rattle.unit_workers.specs.Shares.{share};
@@ -19,13 +19,13 @@ use std::thread::Threads;
 use sym_edges::{OutOfMemory, Span};
 use unit_workers::{Crew, NoGate, UnitJob, share_bounds};
 
-/// The fewest entries that a share has, where a section has as many.
+/// The fewest entries in a share; the last share may have fewer.
 const LEAST: usize = 512;
 
-/// The shares of a worker.
+/// The most shares per worker.
 const EACH: usize = 4;
 
-/// Whether an entry has a long CIE, whose instructions each share that meets it would carry out anew.
+/// Whether an entry has a long CIE, whose instructions each share with such an entry would carry out anew.
 fn has_long_cie(entries: &EntryList<'_>) -> bool {
     'entries: for i in 0..entries.len() {
         let entry = entries.entry(i);
@@ -38,7 +38,7 @@ fn has_long_cie(entries: &EntryList<'_>) -> bool {
     false
 }
 
-/// How many entries a share has. There is one share for one worker, and where a CIE is long.
+/// How many entries a share has. There is only one share if there is one worker, or if a CIE is long.
 fn share_size(entries: &EntryList<'_>, workers: usize) -> usize
     requires { (1 ≤ workers) × (workers ≤ 64) }
     ensures { 0 < result }
@@ -50,7 +50,7 @@ fn share_size(entries: &EntryList<'_>, workers: usize) -> usize
     (count / (EACH * workers)).saturating_add(1).max(LEAST)
 }
 
-/// Decides the entries of share `k`.
+/// Decides about the entries of share `k`.
 #[tactic(auto, using(unit_workers::proofs::ShareLemmas::share_between))]
 fn put_share(
     setting: Setting<'_>,
@@ -66,7 +66,7 @@ fn put_share(
     put_range(setting, progress, entries, from, to)
 }
 
-/// The shares of a section's entries, each decided as if no range were taken.
+/// The shares of a section's entries, each decided as if no range were taken before it.
 #[derive(Drop)]
 struct Translator<'s, 'a> {
     setting: Setting<'s>,
@@ -116,7 +116,7 @@ impl<'s, 'a> UnitJob for Translator<'s, 'a> {
     }
 }
 
-/// Whether one of the ranges meets one that is taken.
+/// Whether one of `spans` overlaps a taken range.
 #[tactic(auto, using(crate::proofs::ShareLemmas::met_here, crate::proofs::ShareLemmas::met_never))]
 fn meets_any(taken: &WrittenRanges, spans: &[Span]) -> bool
     ensures { result ≡ list_any (λ range. any_overlap range taken.now) spans.now }
@@ -130,7 +130,7 @@ fn meets_any(taken: &WrittenRanges, spans: &[Span]) -> bool
     false
 }
 
-/// The ranges are taken too, as a whole where none is taken. None meets one that is taken.
+/// Takes more ranges, none of which overlaps a taken one. If none is taken yet, the list is used as a whole.
 #[tactic(auto, using(crate::proofs::ShareLemmas::part_apart, crate::proofs::ShareLemmas::all_taken))]
 fn take_all(
     alloc: Global,
@@ -152,7 +152,7 @@ fn take_all(
     Ok(())
 }
 
-/// Adds what was decided of share `k`, or decides its entries anew where a range of theirs meets one that is taken.
+/// Adds what was decided about share `k`, or decides about its entries anew if one of their ranges overlaps a taken range.
 fn join_share(
     progress: &mut Progress,
     translator: &Translator<'_, '_>,
@@ -183,7 +183,7 @@ fn join_share(
     Ok(())
 }
 
-/// Adds what was decided of all shares, in their order.
+/// Adds what was decided about all shares, in their order.
 fn join_shares(
     progress: &mut Progress,
     translator: &Translator<'_, '_>,
@@ -200,7 +200,7 @@ fn join_shares(
     Ok(())
 }
 
-/// Decides the entries of one section in order, by a crew of workers.
+/// Decides about the entries of one section in order, with a crew of workers.
 pub fn put_entries<R: Threads + Sync>(
     crew: &Crew<'_, R>,
     setting: Setting<'_>,

@@ -9,8 +9,8 @@ use std::alloc::Global;
 use std::marker::Model;
 use sym_edges::{OutOfMemory, Span};
 
-/// Ranges of addresses of which no two meet, in the order in which they were put, and an address at or above all their ends. From the first
-/// one on that starts below the end of another, their union is held too.
+/// Ranges of addresses in the order in which they were put, no two of which overlap; `top` is at or above all their ends. Once a range starts below
+/// the end of an earlier one, `united` has their union too.
 #[derive(Drop)]
 pub struct WrittenRanges {
     spans: Vec<Span>,
@@ -30,7 +30,7 @@ impl Model for WrittenRanges {
     ghost invariant = { λ t. AreTaken t.spans.items t.united t.top };
 }
 
-/// Whether a range that is not empty meets one of a list that rises: the first that ends above its start decides.
+/// Whether a range that is not empty overlaps one of a rising list: the first range that ends above `start` decides.
 fn meets_rising(spans: &[Span], start: u64, end: u64) -> bool
     requires rising { AreRising 0 spans.now }
     requires some { start < end }
@@ -43,7 +43,7 @@ fn meets_rising(spans: &[Span], start: u64, end: u64) -> bool
     }
 }
 
-/// The union of ranges of which none meets one before it.
+/// The union of ranges, none of which overlaps an earlier one.
 fn union_of(alloc: Global, spans: &[Span]) -> Result<RangeUnion, OutOfMemory>
     requires { (k : ℕ) (d : Range) → k < length spans.now → any_overlap (slice_index_or spans.now k d) (take k spans.now) ≡ false }
     ensures { IfOk result (λ united. AreAlike spans.now united) }
@@ -56,7 +56,7 @@ fn union_of(alloc: Global, spans: &[Span]) -> Result<RangeUnion, OutOfMemory>
     Ok(united)
 }
 
-/// The union of such ranges, and of one more that meets none of them.
+/// The union of ranges, none of which overlaps an earlier one, and of one more, which overlaps none of them.
 fn union_with(
     alloc: Global,
     spans: &[Span],
@@ -84,7 +84,7 @@ impl WrittenRanges {
         }
     }
 
-    /// The ranges in the order in which they were put: none meets one before it.
+    /// The ranges in the order in which they were put: none overlaps an earlier one.
     pub fn as_slice(&self) -> &[Span]
         ensures value { result.now ≡ self.now }
         ensures apart { (k : ℕ) (d : Range) → k < length self.now → any_overlap (slice_index_or self.now k d) (take k self.now) ≡ false }
@@ -92,7 +92,7 @@ impl WrittenRanges {
         self.spans.as_slice()
     }
 
-    /// Whether a range that is not empty meets one of those. None meets one that starts after all of them, as most do.
+    /// Whether a range that is not empty overlaps one of these. A range that starts after all of them, as most do, overlaps none.
     #[tactic(auto, using(crate::proofs::OverlapLemmas::none_reaches))]
     pub fn meets(&self, start: u64, end: u64) -> bool
         requires { start < end }
@@ -107,7 +107,7 @@ impl WrittenRanges {
         }
     }
 
-    /// A range more, which is not empty and meets none of them.
+    /// Puts a range, which is not empty and overlaps none of the others.
     pub fn put(&mut self, alloc: Global, start: u64, end: u64) -> Result<(), OutOfMemory>
         requires some { start < end }
         requires apart { any_overlap (range_to start end) self.old ≡ false }

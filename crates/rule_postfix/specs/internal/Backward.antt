@@ -1,4 +1,4 @@
--- The rules of a record, one after another, as they are written from the last to the first.
+-- The rules of a record, which are written from the last to the first.
 use Rattle.std.specs.Prelude.{◌≡◌, ℕ, ◌-◌, Bool, true, false, List, map, Option}
 use Rattle.std.specs.List.{list_any, range_with_len}
 use Rattle.std.specs.Option.{option_to_list}
@@ -20,7 +20,7 @@ use Rattle.rule_postfix.specs.declared.rules.ExprRule.{ExprRule}
 use Rattle.rule_postfix.specs.declared.rules.Unwritten.{Unwritten}
 use Rattle.rule_postfix.specs.declared.rules.Unwritten.TheVariants.{Unspecified, Expression}
 
--- the column of a target, and the target as rules have it
+-- the column of a target, and the target as rules name it
 abbrev pub column_of : ColumnTarget → ℕ
 column_of Ra = 16
 column_of (Reg number) = number
@@ -33,25 +33,25 @@ target_of (Reg number) = target.Reg number
 abbrev pub expr_spelled : FdeFields → ExprRule → Option (List Token)
 expr_spelled e rule = rule_tokens rule.start rule.fetch (expr_bytes e rule.place)
 
--- a part of the CFA, which no column has
+-- a part that is the CFA's rule; no column has such a part
 abbrev pub is_base : RowPart → Bool
 is_base Unruled = false
 is_base (Base cfa) = true
 is_base (Column given) = false
 
--- where changes are not written for a column that becomes unspecified, there is one
+-- if changes are not written because a column becomes unspecified, some column does become so
 abbrev pub IfLost : Row → Row → Unwritten → Type 0
 IfLost before after Unspecified = some_becomes_unspecified before after ≡ true
 IfLost before after Expression = Unit {0}
 
--- the rule of a target, where it has tokens
+-- the text of a target's rule, empty without words
 unfoldable pub rule_text : Target → Option (List Token) → List ℕ
 rule_text t tokens = spelled_rules (option_to_list (rule_of t tokens))
 
--- the registers from one on
+-- the registers from `n` on
 unfoldable pub registers_from : ℕ → List Target
 registers_from n = map target.Reg (range_with_len n (16 - n))
 
--- one of these becomes unspecified
+-- a register from `n` on becomes unspecified
 unfoldable pub some_unspecified_from : Row → Row → ℕ → Bool
 some_unspecified_from before after n = list_any (becomes_unspecified before after) (range_with_len n (16 - n))

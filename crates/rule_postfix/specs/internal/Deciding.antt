@@ -1,4 +1,4 @@
--- What the pass over the entries holds.
+-- What holds during the pass over the entries.
 use Rattle.std.specs.Prelude.{◌≡◌, ℕ, ◌+◌, ◌^◌, ◌<◌, ◌≤◌, true, List, [], map}
 use Rattle.sym_edges.specs.declared.fault.Stop.{Stop}
 use Rattle.sym_edges.specs.declared.fault.Stop.TheVariants.{Fault, NoMemory}
@@ -11,11 +11,11 @@ use Rattle.sym_records.specs.Spelled.{text_bytes}
 use Rattle.rule_postfix.specs.declared.progress.Progress.{Progress}
 use Rattle.rule_postfix.specs.Written.{Decided, has_range, range_of, written_lines}
 
--- what lies in one of the ranges starts at or above an address
+-- a range of addresses inside a range of code starts at or above `base`
 pub record LiesAbove (base : ℕ) (code : List Range) : Type 0 where
   pub at : (start end : ℕ) → encloses code start end ≡ true → base ≤ start
 
--- the range of an entry is one of addresses, with this end
+-- the range of an entry is not empty, and ends at `end`, below 2^64
 pub record EndsAt (e : FdeFields) (end : ℕ) : Type 0 where
   pub ranged : has_range e ≡ true
   pub some : 0 < e.size
@@ -26,13 +26,12 @@ pub record EndsAt (e : FdeFields) (end : ℕ) : Type 0 where
 abbrev pub none_decided : Decided
 none_decided = record { written = []; omitted = [] }
 
--- there is a reason, and a fact of it
+-- the stop is a reason, for which `P` holds
 abbrev pub IfRefused : Stop Reason → (Reason → Type 0) → Type 0
 IfRefused (Fault why) P = P why
 IfRefused NoMemory P = ⊥
 
--- the text is that of the records of what was decided; the omissions are those of what was decided;
--- and the ranges that are taken are those that are written
+-- the progress has what was decided: the text of the written entries' records, the omissions, and the ranges of the written entries as taken
 pub record Shows (base : ℕ) (p : Progress) (d : Decided) : Type 0 where
   pub text : text_bytes p.text ≡ canon_text (written_lines base d.written)
   pub omitted : p.omitted.items ≡ d.omitted

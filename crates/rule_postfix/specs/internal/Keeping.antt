@@ -11,20 +11,21 @@ use Rattle.frame_rows.specs.Left.{Left}
 use Rattle.frame_rows.specs.CieLeft.{cie_left}
 use Rattle.rule_postfix.specs.declared.cie_states.CieStates.{CieStates}
 
--- a state, if there is one, is that of an entry
+-- the state, if there is one, is that after an entry's CIE
 abbrev pub IsStateOf : Option (Result Left Reason) → FdeFields → Type 0
 IsStateOf None e = Unit {0}
 IsStateOf (Some state) e = state ≡ cie_left e
 
--- the state at the place of an entry's CIE, if there is one, is that of the entry
+-- the state at the place of an entry's CIE, if there is one, is that after this CIE
 abbrev pub KeptFor : CieStates → FdeFields → Type 0
 KeptFor states e = IsStateOf (get nat_cmp states.by_place e.cie) e
 
--- and that of each entry of a list
+-- this holds for each entry of a list
 abbrev pub KeptForAll : CieStates → List Entry → Type 0
 KeptForAll states entries = (j : ℕ) (d : Entry) (f : FdeFields) → j < length entries → (slice_index_or entries j d).body ≡ Good f → KeptFor states f
 
--- after an entry the states are still those of another, where the two have one CIE if they have the place of one
+-- after `entry` the state for another entry `f` is still that after the CIE of `f`, if the two have one CIE whenever the places of their CIEs are
+-- equal
 abbrev pub StaysKept : Entry → CieStates → CieStates → Type 0
 StaysKept entry before after =
     (f : FdeFields) → KeptFor before f → ((e : FdeFields) → entry.body ≡ Good e → e.cie ≡ f.cie → HaveOneCie e f) → KeptFor after f

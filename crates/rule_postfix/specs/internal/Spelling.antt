@@ -7,7 +7,7 @@ use Rattle.sym_records.specs.Canon.{canon_text}
 use Rattle.rule_postfix.specs.declared.open_init.OpenInit.{OpenInit}
 use Rattle.rule_postfix.specs.internal.Writing.{Open}
 
--- the text has the records so far after what stood in front, and the INIT that is open has its start, its rules and its changes
+-- the text has the records so far after `front`, and the open INIT has the start, the rules and the changes of `o`
 pub record IsSpelled (front : List ℕ) (base : ℕ) (text : List ℕ) (p : OpenInit) (o : Open) : Type 0 where
   pub based : o.base ≡ base
   pub start : p.start ≡ o.start

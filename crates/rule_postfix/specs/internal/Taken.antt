@@ -3,7 +3,7 @@ use Rattle.std.specs.Prelude.{◌≡◌, ℕ, ◌<◌, ◌≤◌, false, List, [
 use Rattle.sym_edges.specs.Addresses.{Range}
 use Rattle.range_union.specs.Ranges.{any_overlap}
 
--- no range of a list is empty, and each starts at or above the end of the one before it
+-- no range of a list is empty, and each starts at or above the end of the range before it
 abbrev pub AreRising : ℕ → List Range → Type 0
 AreRising low [] = Unit {0}
 AreRising low (r ∷ ranges) = (low ≤ r.start) × (r.start < r.end) × AreRising r.end ranges
@@ -13,11 +13,11 @@ abbrev pub EndBy : ℕ → List Range → Type 0
 EndBy top [] = Unit {0}
 EndBy top (r ∷ ranges) = (r.end ≤ top) × EndBy top ranges
 
--- ranges that are met as those of a list are
+-- a range overlaps one of `united` exactly if it overlaps one of `ranges`
 pub record AreAlike (ranges united : List Range) : Type 0 where
   pub same : (q : Range) → any_overlap q united ≡ any_overlap q ranges
 
--- they rise, or their union has them
+-- the ranges rise, or `united` is like them (`AreAlike`)
 abbrev pub AreFound : List Range → Option (List Range) → Type 0
 AreFound ranges None = AreRising 0 ranges
 AreFound ranges (Some united) = AreAlike ranges united

@@ -21,11 +21,11 @@ pub record Open : Type 0 where
 abbrev pub opened : FdeFields → ℕ → List SymLine → ℕ → Row → Open
 opened e base lines start row = record { base = base; lines = lines; start = start; rules = row_rules e row; changes = [] }
 
--- the INIT ends
+-- the open INIT ends
 abbrev pub closed : Open → ℕ → List SymLine
 closed o end = o.lines ++ Init (o.start - o.base) (end - o.start) o.rules ∷ o.changes
 
--- the changes at a row inside it
+-- the changes at a row inside the INIT
 abbrev pub with_changes : ℕ → List RuleText → Open → Open
 with_changes b rules o = record {
   base = o.base;
@@ -35,18 +35,18 @@ with_changes b rules o = record {
   changes = o.changes ++ change (b - o.base) rules;
 }
 
--- one row more, after another
+-- adds the row that follows `before`
 unfoldable pub with_row : FdeFields → ℕ → Row → Row → Open → Open
 with_row e b before after o =
     if some_becomes_unspecified before after then opened e o.base (closed o b) b after
     else with_changes b (changed_rules e before after) o
 
--- rows, after another
+-- adds rows that follow `before`
 unfoldable pub with_rows : FdeFields → Row → List RowAt → Open → Open
 with_rows e before [] o = o
 with_rows e before (r ∷ rows) o = with_rows e r.row rows (with_row e r.address before r.row o)
 
--- the records of rows up to an end
+-- the records of rows, the last of which ends at `end`
 unfoldable pub lines_of : FdeFields → ℕ → ℕ → List RowAt → List SymLine
 lines_of e base end [] = []
 lines_of e base end (r ∷ rows) = closed (with_rows e r.row rows (opened e base [] r.address r.row)) end
