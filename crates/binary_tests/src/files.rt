@@ -9,7 +9,7 @@ use test_rows::Holding;
 use test_rows::elf::{EIGHT_OR_FOUR, LONG_CODE, NULL, UNIT, file_of};
 use unit_workers::Crew;
 
-/// A file of two units of one entry.
+/// A file of two units with one entry each.
 fn two_units(alloc: Global) -> Result<Vec<u8>, AllocError> {
     let mut units = Vec::from_slice(alloc, UNIT)?;
     units.extend_from_slice(UNIT)?;

@@ -1,4 +1,4 @@
-//! Entries with many rows, and with many rows remembered (`frame_rows`), and their records (`rule_postfix`).
+//! Entries with many rows, or with many remembered rows (`frame_rows`), and their records (`rule_postfix`).
 ghost use Rattle.std.specs.Prelude.{◌+◌, ◌<◌, ◌^◌};
 
 use crate::comparison::same;
@@ -9,7 +9,7 @@ use std::alloc::{AllocError, Global};
 use std::process::Abort;
 use std::test::Fail;
 
-/// An entry of 1000 after initial instructions as at a call: the CFA is rsp + 8, and the return address lies at the CFA - 8.
+/// An entry from 1000 on, after initial instructions as at a call: the CFA is rsp + 8, and the return address is saved at the CFA - 8.
 #[tactic(auto, unfolding(frame_entries::specs::Pointers::is_encoding, frame_entries::specs::Pointers::is_format))]
 fn called(instructions: &[u8]) -> Fde<'_>
     ensures some { 0 < result.size }
@@ -60,7 +60,7 @@ fn rows_of(alloc: Global, fde: &Fde<'_>) -> Result<Vec<(u64, i64)>, Fail>
     Ok(found)
 }
 
-/// The same by a stepper that carries out the initial instructions itself.
+/// The same rows, from a stepper that executes the initial instructions itself.
 fn rows_by_steps(alloc: Global, fde: &Fde<'_>) -> Result<Vec<(u64, i64)>, Fail>
     requires some { 0 < fde.now.size }
     requires fits { fde.now.start + fde.now.size < 2 ^ 64 }
@@ -68,7 +68,7 @@ fn rows_by_steps(alloc: Global, fde: &Fde<'_>) -> Result<Vec<(u64, i64)>, Fail>
     steps_of(alloc, Stepper::new(alloc, fde)?)
 }
 
-/// The same by one that begins with what they leave.
+/// The same rows, from a stepper that begins with the result of the initial instructions.
 fn rows_behind(alloc: Global, fde: &Fde<'_>) -> Result<Vec<(u64, i64)>, Fail>
     requires some { 0 < fde.now.size }
     requires fits { fde.now.start + fde.now.size < 2 ^ 64 }
@@ -77,7 +77,7 @@ fn rows_behind(alloc: Global, fde: &Fde<'_>) -> Result<Vec<(u64, i64)>, Fail>
     steps_of(alloc, Stepper::begin(alloc, &state, fde)?)
 }
 
-/// The text of the entry with these rows: a record where the CFA's offset is another.
+/// The text of the entry with these rows: a record for each row whose CFA has another offset.
 fn text_of(alloc: Global, rows: &[(u64, i64)]) -> Result<Vec<u8>, AllocError> {
     let first = b"STACK CFI INIT 1000 10000 .cfa: $rsp 8 + .ra: .cfa -8 + ^\n";
     let mut text = Vec::from_slice(alloc, first)?;
@@ -117,10 +117,10 @@ fn expect_rows(
     Ok(())
 }
 
-/// How many rows are remembered at once.
+/// The number of rows that are remembered at once.
 const NESTED: u64 = 100;
 
-/// Each row is remembered, and then the CFA's offset is another; afterwards each comes back.
+/// Each row is remembered, and then the CFA gets another offset; afterwards each row is restored.
 fn nested(alloc: Global) -> Result<Vec<u8>, AllocError> {
     let mut instructions = Vec::new(alloc);
     for number in 1..NESTED + 1 {
@@ -147,7 +147,7 @@ fn nested_rows(alloc: Global) -> Result<Vec<(u64, i64)>, AllocError> {
     Ok(rows)
 }
 
-/// How many rows the longest entry has after its first.
+/// The number of rows of the longest entry after its first.
 const MANY: u64 = 5000;
 
 fn many(alloc: Global) -> Result<Vec<u8>, AllocError> {

@@ -14,7 +14,7 @@ use sym_edges::{OutOfMemory, Part, Reason, Sect, Stop};
 const PUSH_RBP: &[u8] = b"\x14\0\0\0\0\0\0\0\x01zR\0\x01\x78\x10\x01\x1b\x0c\x07\x08\x90\x01\0\0\
     \x1c\0\0\0\x1c\0\0\0\xe0\xef\xff\xff\x20\0\0\0\0\x41\x0e\x10\x86\x02\x43\x0d\x06\x4a\x0c\x07\x08\0\0\0";
 
-/// The same CIE, and a function from 1000 to 1010 of which rax is saved for a while.
+/// The same CIE, and a function from 1000 to 1010 in which rax is saved for a while.
 const SAVED_RAX: &[u8] = b"\x14\0\0\0\0\0\0\0\x01zR\0\x01\x78\x10\x01\x1b\x0c\x07\x08\x90\x01\0\0\
     \x13\0\0\0\x1c\0\0\0\xe0\xef\xff\xff\x10\0\0\0\0\x44\x80\x03\x44\x07\0";
 
@@ -22,7 +22,7 @@ const SAVED_RAX: &[u8] = b"\x14\0\0\0\0\0\0\0\x01zR\0\x01\x78\x10\x01\x1b\x0c\x0
 const RESTORING: &[u8] = b"\x14\0\0\0\0\0\0\0\x01zR\0\x01\x78\x10\x01\x1b\x0c\x07\x08\x90\x01\0\0\
     \x0e\0\0\0\x1c\0\0\0\xe0\xef\xff\xff\x20\0\0\0\0\x0b";
 
-/// The addresses of the rows of a section's entry, its records, and its reason to be left out.
+/// A section; the addresses of its entry's rows, the entry's records, and the reason why it is omitted.
 const SECTIONS: [(&str, &[u8], &[u64], &[u8], Option<Reason>); 3] = [
     (
         "push rbp",
@@ -54,7 +54,7 @@ fn why<T>(answer: Result<T, Stop<Reason>>) -> Result<Result<T, Reason>, OutOfMem
     }
 }
 
-/// The addresses of an entry's rows, and the reason where there are none.
+/// The addresses of an entry's rows, and the reason if there are none.
 fn addresses(alloc: Global, fde: &Fde<'_>) -> Result<(Vec<u64>, Option<Reason>), OutOfMemory>
     requires some { 0 < fde.now.size }
     requires fits { fde.now.start + fde.now.size < 2 ^ 64 }
@@ -71,7 +71,7 @@ fn addresses(alloc: Global, fde: &Fde<'_>) -> Result<(Vec<u64>, Option<Reason>),
     }
 }
 
-/// The text of an entry's records, and the reason where there are none.
+/// The text of an entry's records, and the reason if there are none.
 fn records(alloc: Global, fde: &Fde<'_>) -> Result<(Vec<u8>, Option<Reason>), OutOfMemory>
     requires some { 0 < fde.now.size }
     requires fits { fde.now.start + fde.now.size < 2 ^ 64 }

@@ -1,4 +1,4 @@
-//! The sizes of what is held by the million.
+//! The sizes of values that are stored by the million.
 use die_walk::Die;
 use frame_rows::{Row, Rule};
 use func_flatten::{LineRun, Piece, PublicAt};

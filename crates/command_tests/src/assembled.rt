@@ -13,7 +13,7 @@ use std::thread::Threads;
 use sym_edges::{CallList, MemSink, OutOfMemory};
 use unit_workers::{Crew, NoGate};
 
-/// How many headers, units and frame entries of each section were read, and what is made of them.
+/// How many headers, units and frame entries of each section were read, and the dump that is made of them.
 fn made_of<R: Threads + Sync>(
     rt: &R,
     alloc: Global,
@@ -32,7 +32,7 @@ fn made_of<R: Threads + Sync>(
     Ok((counts, dumped))
 }
 
-/// The same of an image.
+/// The same, given an image.
 fn made_of_image<R: Threads + Sync>(
     rt: &R,
     alloc: Global,
@@ -44,7 +44,7 @@ fn made_of_image<R: Threads + Sync>(
     }
 }
 
-/// A file, what is read of it, and its records behind MODULE and INFO.
+/// A file, what is read of it, and its records after MODULE and INFO.
 const FILES: [(&str, Given, &[usize], &[u8]); 2] = [
     (
         "push rbp",

@@ -1,5 +1,5 @@
-//! `run` over stores and sinks in memory: the commands' rows, each call that fails in turn, and workers that meet. What each small
-//! file gives stands in the rows of the crate `worked` too.
+//! `run` with stores and sinks in memory: the rows of the commands, each call that fails in turn, and workers that meet. The results for the small
+//! files are also worked examples of the crate `worked`.
 use crate::comparison::same;
 use crate::cores::{CORE_ROWS, IN_F, MISSING, STACKS, SYMBOL_FILE, SYMBOLS, WITH, WITHOUT};
 use crate::files::{Given, debug_file, file_by, joined};
@@ -23,7 +23,7 @@ use test_rows::elf::{ID, NULL, small_and};
 use test_rows::{Holding, Recording};
 use unit_workers::{Gate, NoGate};
 
-/// How many bytes a call moves, the room of out, and the numbers of the calls of the store, of out and of err that fail.
+/// How many bytes a call moves, the room of out, and the numbers of the calls that fail: of the store, of out and of err.
 #[derive(Clone, Copy)]
 struct Edges<'a> {
     step: usize,
@@ -52,8 +52,8 @@ fn named(alloc: Global, name: &str, bytes: &[u8]) -> Result<NamedFile, AllocErro
     })
 }
 
-/// A store of the file `d/a.out`, of the states `d/state` and `d/stack`, of the symbol files `d/text` and `d/seven` and that of a module, of a
-/// debug file, also below the root `d`, and of the debug files of a program of this build and of another.
+/// A store of the file `d/a.out`, the states `d/state` and `d/stack`, the symbol files `d/text` and `d/seven`, the symbol file of a module, a debug
+/// file (also below the root `d`), and the debug files of a program of this build and of another.
 fn store_of(alloc: Global, file: &[u8], edges: Edges<'_>) -> Result<MemStore, AllocError> {
     let mut files = Vec::new(alloc);
     files.push(named(alloc, "d/a.out", file)?)?;
@@ -73,12 +73,12 @@ fn store_of(alloc: Global, file: &[u8], edges: Edges<'_>) -> Result<MemStore, Al
     Ok(MemStore::new(alloc, FileList::of(files), edges.step.max(1), fail))
 }
 
-/// A sink of this room, whose calls of these numbers fail.
+/// A sink with this room, whose calls with these numbers fail.
 fn sink_of(alloc: Global, room: usize, step: usize, fail: &[u64]) -> Result<MemSink, Fail> {
     Ok(MemSink::new(alloc, room, step.max(1), calls(alloc, fail)?)?)
 }
 
-/// Words over the file `d/a.out`, the edges that they meet, and what they are called where something else comes of them.
+/// Arguments and the file `d/a.out`, the edges of the run, and the label that is reported if the result is another.
 #[derive(Clone, Copy)]
 struct Asked<'a> {
     label: &'a str,
@@ -104,7 +104,7 @@ struct Wanted<'a> {
     err: &'a [u8],
 }
 
-/// Status 0 and a text on standard output alone.
+/// Status 0, and a text on standard output only.
 fn good(out: &[u8]) -> Wanted<'_> {
     Wanted {
         status: 0,
@@ -113,7 +113,7 @@ fn good(out: &[u8]) -> Wanted<'_> {
     }
 }
 
-/// The status and both texts of words.
+/// The status and both texts for these arguments.
 fn answer<R: Threads + Sync, G: Gate + Sync>(
     rt: &R,
     gate: &G,
@@ -132,7 +132,7 @@ fn answer<R: Threads + Sync, G: Gate + Sync>(
     Ok((status, out, err))
 }
 
-/// Words give this status and these texts.
+/// The arguments give this status and these texts.
 fn expect<R: Abort + Threads + Sync, G: Gate + Sync>(
     rt: &R,
     gate: &G,
@@ -147,7 +147,7 @@ fn expect<R: Abort + Threads + Sync, G: Gate + Sync>(
     Ok(())
 }
 
-/// The same in calls of one byte and in large calls.
+/// The same, with calls of one byte and with large calls.
 fn expect_form<R: Abort + Threads + Sync>(
     rt: &R,
     alloc: Global,
@@ -162,7 +162,7 @@ fn expect_form<R: Abort + Threads + Sync>(
     expect(rt, &NoGate, alloc, asked, wanted)
 }
 
-/// The row's status and texts, by each of its forms.
+/// Each form of the row gives its status and texts.
 fn expect_row<R: Abort + Threads + Sync>(rt: &R, alloc: Global, row: Row) -> Result<(), Fail> {
     let (label, forms, given, status, out, err) = row;
     let file = file_by(alloc, given)?;
@@ -179,7 +179,7 @@ fn expect_row<R: Abort + Threads + Sync>(rt: &R, alloc: Global, row: Row) -> Res
     Ok(())
 }
 
-/// The same of rows.
+/// The same for several rows.
 fn expect_rows<R: Abort + Threads + Sync>(rt: &R, alloc: Global, rows: &[Row]) -> Result<(), Fail> {
     for row in rows {
         expect_row(rt, alloc, *row)?;
@@ -222,8 +222,8 @@ fn samples_have_their_rows(rt: HostRuntime) -> Result<(), Fail> {
     expect_rows(&rt, rt.alloc(), &SAMPLE_ROWS)
 }
 
-/// Each write of one byte that fails in turn, those to out before those to err: the status is 4, and the sinks hold what was
-/// written before.
+/// Writes are of one byte, and each of them fails in turn, those to out before those to err: the status is 4, and the sinks have what was written
+/// before.
 fn expect_fronts<R: Abort + Threads + Sync>(
     rt: &R,
     alloc: Global,
@@ -272,8 +272,8 @@ fn each_call_that_fails_leaves_a_front(rt: HostRuntime) -> Result<(), Fail> {
 
 type ReadRow = (Words, Given, usize, usize, usize, &'static [u8]);
 
-/// Words, how many bytes a call moves, how often the file is read, and how many calls of the store another file takes. A file takes the opening, a
-/// call for each piece, and the one that finds the end. Last stands the line on standard error.
+/// The arguments, the file, how many bytes a call moves, how often the file is read, how many calls of the store another file takes, and the line on
+/// standard error. A file takes a call for the opening, one for each piece, and one that finds the end.
 const READS: [ReadRow; 9] = [
     (DUMP, Given::Units(&[], PUSH_RBP), 7, 1, 0, UNREAD),
     (FULL, Given::Units(&[], PUSH_RBP), 50, 1, 0, UNREAD_NAME),
@@ -293,7 +293,7 @@ const READS: [ReadRow; 9] = [
     (STACKS, IN_F, 16, 1, 0, UNREAD),
 ];
 
-/// Each call of the store that fails in turn: the status is 3, with the row's line.
+/// Each call of the store fails in turn: the status is 3, with the row's line.
 fn expect_unread<R: Abort + Threads + Sync>(
     rt: &R,
     alloc: Global,
@@ -329,7 +329,7 @@ fn each_call_that_fails_has_its_status(rt: HostRuntime) -> Result<(), Fail> {
     Ok(())
 }
 
-/// Words give this status and these texts where a call of the store fails.
+/// The arguments give this status and these texts if a call of the store fails.
 fn expect_without<R: Abort + Threads + Sync>(
     rt: &R,
     alloc: Global,
@@ -344,7 +344,7 @@ fn expect_without<R: Abort + Threads + Sync>(
     expect(rt, &NoGate, alloc, Asked { edges, ..asked }, wanted)
 }
 
-/// A symbol file that cannot be opened or read is missing, and the run goes on.
+/// A symbol file that cannot be opened or read counts as missing, and the run goes on.
 #[test]
 fn a_symbol_file_that_fails_is_missing(rt: HostRuntime) -> Result<(), Fail> {
     let alloc = rt.alloc();
@@ -352,7 +352,7 @@ fn a_symbol_file_that_fails_is_missing(rt: HostRuntime) -> Result<(), Fail> {
     let with = joined(alloc, WITH)?;
     let without = joined(alloc, WITHOUT)?;
     let asked = smooth("a symbol file", STACKS, &file);
-    // An opening, one piece and the end, of the core file and then of the symbol file.
+    // Calls 1 to 3 open the core file, read its one piece and find its end; calls 4 to 6 do so for the symbol file.
     for call in 4..=7 {
         let (out, err) = if call < 7 {
             (&without, MISSING)
@@ -407,7 +407,7 @@ fn large_files_are_answered(rt: HostRuntime) -> Result<(), Fail> {
     expect(&rt, &NoGate, alloc, asked, good(STEPS))
 }
 
-/// Of two workers the one that draws the first unit waits until the other has reached the second.
+/// Of two workers, the one that draws the first unit waits until the other has reached the second unit.
 fn expect_meeting<R: Abort + Threads + Sync>(
     rt: &R,
     alloc: Global,

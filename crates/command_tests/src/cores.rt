@@ -6,20 +6,19 @@ use test_rows::elf::put;
 
 pub const STACKS: Words = &["stacks", "d/a.out", "d"];
 
-/// The symbol file of the module, below the folder `d`, and its records: a function that another one calls, of which no rule gives the return
-/// address.
+/// The symbol file of the module, below the folder `d`, and its records: a function and its caller; no rule gives the return address of the caller.
 pub const SYMBOL_FILE: &str = "d/a/030201000504070608090A0B0C0D0E0F0/a.sym";
 
 pub const SYMBOLS: &[u8] = b"MODULE Linux x86_64 030201000504070608090A0B0C0D0E0F0 a\n\
     FUNC 1000 20 0 f\nFUNC 2000 10 0 g\n\
     STACK CFI INIT 1000 20 .cfa: $rsp 8 + .ra: .cfa -8 + ^\nSTACK CFI INIT 2000 10 .cfa: $rsp 8 +\n";
 
-/// The first address of the module, and the one behind its last.
+/// The first address of the module, and the address after its last.
 const START: u64 = 0x5555_5555_0000;
 
 const END: u64 = 0x5555_5555_4000;
 
-/// A file header of this type, with so many program headers behind it.
+/// A file header of this type, for a number of program headers after it.
 fn put_file_header(bytes: &mut Vec<u8>, kind: u64, count: u64) -> Result<(), AllocError> {
     bytes.extend_from_slice(b"\x7fELF\x02\x01\x01\0\0\0\0\0\0\0\0\0")?;
     put(bytes, 2, &[kind, 62])?;
@@ -29,14 +28,14 @@ fn put_file_header(bytes: &mut Vec<u8>, kind: u64, count: u64) -> Result<(), All
     put(bytes, 2, &[64, 56, count, 0, 0, 0])
 }
 
-/// A program header: its type and flags, and then its offset, address, and sizes in the file and in memory.
+/// A program header: first its type and flags, then its offset, address, and sizes in the file and in memory.
 fn put_program(bytes: &mut Vec<u8>, kind: [u64; 2], place: [u64; 4]) -> Result<(), AllocError> {
     let [offset, address, size, memory] = place;
     put(bytes, 4, &kind)?;
     put(bytes, 8, &[offset, address, address, size, memory, 1])
 }
 
-/// A note of an owner of three or four letters.
+/// A note whose owner has three or four letters.
 fn put_note(
     bytes: &mut Vec<u8>,
     owner: &[u8],
@@ -54,7 +53,7 @@ fn put_note(
     put(bytes, descriptor.len().wrapping_neg() % 4, &[0])
 }
 
-/// The front of the module in memory: its file header, a segment of 3010 bytes of code, and its build id.
+/// The first bytes of the module in memory: its file header, a segment of 3010 bytes of code, and its build id.
 fn image(alloc: Global) -> Result<Vec<u8>, AllocError> {
     let mut bytes = Vec::new(alloc);
     put_file_header(&mut bytes, 3, 2)?;
@@ -83,7 +82,7 @@ fn state(alloc: Global, rip: u64) -> Result<Vec<u8>, AllocError> {
     Ok(bytes)
 }
 
-/// The core file of a process of one module and one thread, with these bytes at 7000.
+/// The core file of a process with one module and one thread, with these bytes at 7000.
 pub fn core_at(alloc: Global, rip: u64, stack: &[u8]) -> Result<Vec<u8>, AllocError> {
     let image = image(alloc)?;
     let mut notes = Vec::new(alloc);
@@ -115,7 +114,7 @@ pub const IN_F: Given = Given::Core(RIP, TO_G);
 const HEAD: &[u8] =
     b"signal 11\nmodule 555555550000 555555554000 a 030201000504070608090A0B0C0D0E0F0\nthread 1\n";
 
-/// What a process says whose symbol file is not there.
+/// The output for a process without a symbol file.
 pub const WITHOUT: &[&[u8]] = &[HEAD, b"0 555555551005 a\nnone\nend no-symbols\n"];
 
 pub const MISSING: &[u8] = b"missing a 030201000504070608090A0B0C0D0E0F0\n";
@@ -125,7 +124,7 @@ pub const WITH: &[&[u8]] = &[
     b"0 555555551005 a\nf at ?\n1 555555552005 a\ng at ?\nend ra-undefined\n",
 ];
 
-/// Words, and core files.
+/// Arguments, and core files.
 pub const CORE_ROWS: [Row; 7] = [
     ("a stack of a core", &[STACKS], IN_F, 0, WITH, &[]),
     (

@@ -7,7 +7,7 @@ use test_rows::elf::{
     TWO_FILES, entry_of, file_of, file_with, line_table, put, small_and, unit_of, with_functions,
 };
 
-/// An entry: its code, its name, its first address and its length, and what stands after these.
+/// An entry: its code, its name, its first address and its length, and the bytes after these.
 pub type Entry = (u8, &'static [u8], u64, u64, &'static [u8]);
 
 /// What a file is made of.
@@ -16,9 +16,9 @@ pub enum Given {
     Bytes(&'static [u8]),
     /// The file of the function `main` at 1000.
     Small,
-    /// The same with another byte at an offset.
+    /// The small file with another byte at an offset.
     Changed(usize, u8),
-    /// The same with one section more.
+    /// The small file with one more section.
     And(Section<'static>),
     /// Code from 1000 on, without a build id.
     Code(&'static [u8]),
@@ -28,29 +28,29 @@ pub enum Given {
     Abbreviated(&'static [&'static [u8]], &'static [u8]),
     /// `main` at 1000, and `b` and `a` at 1008.
     Symbols,
-    /// A unit with these entries. The lines are 3 from 1000, 9 from 1004 and 4 from 100c on, up to 1020.
+    /// A unit with these entries. The lines are 3 from 1000 on, 9 from 1004 on, and 4 from 100c to 1020.
     Entries(&'static [Entry]),
     /// The same in the 64-bit format.
     WideEntries(&'static [Entry]),
     /// The same as `Entries`, with code from 1000 to 2020.
     InLongCode(&'static [Entry]),
-    /// The same with this section in place of `.debug_info`.
+    /// The same with this section as `.debug_info`.
     WithInfo(Section<'static>),
-    /// `f` with the lines of two files, and `g` in another unit with those of the same table, if so, or of one after it.
+    /// `f` with the lines of two files, and `g` in another unit: with the lines of the same table if true, else of a second table.
     TwoUnits(bool),
     /// The function `f` of eight bytes at this address, and the symbol of the small file.
     Covered(u64),
-    /// Code from 1000 to 1020 and frames alone.
+    /// Only code from 1000 to 1020, and frames.
     Stripped(&'static [u8]),
     /// The program of a C compiler.
     Hello,
-    /// The same without debug information and symbols.
+    /// The same program without debug information and symbols.
     HelloStripped,
-    /// The core file of a thread with this rip and these bytes on its stack.
+    /// The core file of a thread with this rip, and these bytes on its stack.
     Core(u64, &'static [u8]),
 }
 
-/// Texts one after the other.
+/// Texts, one after the other.
 pub fn joined(alloc: Global, parts: &[&[u8]]) -> Result<Vec<u8>, AllocError> {
     let mut whole = Vec::new(alloc);
     for part in parts {
@@ -76,7 +76,7 @@ fn two_at_one_address(alloc: Global) -> Result<Vec<u8>, AllocError> {
     file_with(alloc, &[(1, 0)], &entries, b"\0main\0b\0a\0", NULL)
 }
 
-/// A file of code from 1000 on alone.
+/// A file that has only code, from 1000 on.
 pub fn of_code(alloc: Global, bytes: &[u8]) -> Result<Vec<u8>, AllocError> {
     let code = (".text", [1, 6, 0x1000, 0], bytes);
     file_of(alloc, &[(1, 0)], &[NULL, code])

@@ -11,7 +11,7 @@ pub const FULL: Words = &["dump", "--full", "d/a.out"];
 
 pub const FULL_WITH_ITSELF: Words = &["dump", "--full", "d/a.out", "--debug", "d/a.out"];
 
-/// What both say of a file that cannot be read.
+/// The line of both commands for a file that cannot be read.
 pub const UNREAD_NAME: &[u8] = b"cannot read d/a.out\n";
 
 /// A dump by any number of workers, and with the file as its own debug file.
@@ -51,7 +51,7 @@ const SKELETON: &[u8] =
 const WIDE_SKELETON: &[u8] =
     b"\xff\xff\xff\xff\x1d\0\0\0\0\0\0\0\x05\0\x04\x08\0\0\0\0\0\0\0\0\x01\x02\x03\x04\x05\x06\x07\x08\x01\0\0\0\0\0\0\0\0";
 
-/// Units of version 4 whose entries have code 1 and code 2, and a byte each.
+/// Units of version 4 whose entries have code 1 and code 2, with one byte each.
 const FIRST: &[u8] = b"\x09\0\0\0\x04\0\0\0\0\0\x08\x01\0";
 
 const SECOND: &[u8] = b"\x09\0\0\0\x04\0\0\0\0\0\x08\x02\0";
@@ -59,7 +59,7 @@ const SECOND: &[u8] = b"\x09\0\0\0\x04\0\0\0\0\0\x08\x02\0";
 /// DW_TAG_compile_unit with DW_AT_language, and with DW_AT_GNU_dwo_name, each in one byte.
 const NAMED: &[u8] = b"\x01\x11\0\x13\x0b\0\0\x02\x11\0\xb0\x42\x0b\0\0\0";
 
-/// The unit of version 3, compressed by zlib: behind an Elf64_Chdr, in the older form, with a bad check, by zstd, and of more than 2^29 bytes.
+/// The unit of version 3, compressed: by zlib after an Elf64_Chdr, in the older form, with a bad check, by zstd, and of more than 2^29 bytes.
 const PACKED: &[u8] =
     b"\x01\x00\x00\x00\x00\x00\x00\x00\x0b\x00\x00\x00\x00\x00\x00\x00\x01\x00\x00\x00\x00\x00\x00\x00\x78\xda\x63\x67\x60\x60\x60\x66\x00\x01\x0e\x00\x00\x75\x00\x13";
 
@@ -75,7 +75,7 @@ const BY_ZSTD: &[u8] =
 const TOO_LONG: &[u8] =
     b"\x01\x00\x00\x00\x00\x00\x00\x00\x01\x00\x00\x20\x00\x00\x00\x00\x01\x00\x00\x00\x00\x00\x00\x00\x78\xda\x63\x67\x60\x60\x60\x66\x00\x01\x0e\x00\x00\x75\x00\x13";
 
-/// The unit of a function with a copy that is inlined in it, compressed in the same ways.
+/// The unit of a function with an inlined copy in it, compressed in the same ways.
 const PACKED_UNIT: &[u8] =
     b"\x01\x00\x00\x00\x00\x00\x00\x00\x39\x00\x00\x00\x00\x00\x00\x00\x01\x00\x00\x00\x00\x00\x00\x00\x78\xda\x33\x65\x60\x60\x60\x61\x00\x01\x0e\x46\x10\xa9\x5f\xcc\xc0\x12\x1f\x65\x98\x56\xc6\xc0\x20\x00\x16\x66\x50\x00\x62\xe6\x74\x06\x16\x28\x97\x03\x88\x19\x81\x3a\x00\x74\x26\x03\x6a";
 

@@ -1,4 +1,4 @@
-//! A program of a C compiler in the field's usual layout: the files `hello`, without debug information and with it alone, and its text.
+//! A program of a C compiler in the usual layout: the files `hello`, one without debug information and one with only that, and its text.
 use std::alloc::{AllocError, Global};
 use test_rows::elf::{ID, NULL, Section, file_of};
 
@@ -9,7 +9,7 @@ pub const OTHER_ID: Section<'static> = (
     b"\x04\0\0\0\x14\0\0\0\x03\0\0\0GNU\0\0\x01\x02\x03\x04\x05\x06\x07\x08\x09\x0a\x0b\x0c\x0d\x0e\x0f\x10\x11\x12\x14",
 );
 
-/// Frame entries of `_start` without a return address, at 48 of the procedure linkage table, and of `main`.
+/// Frame entries: that of `_start`, whose return address is undefined; at 48 that of the procedure linkage table; and that of `main`.
 const FRAMES: &[u8] = b"\
     \x14\0\0\0\0\0\0\0\x01zR\0\x01\x78\x10\x01\x1b\x0c\x07\x08\x90\x01\0\0\
     \x14\0\0\0\x1c\0\0\0\x20\xf0\xff\xff\x22\0\0\0\0\x07\x10\0\0\0\0\0\
@@ -32,7 +32,7 @@ const ABBREVIATIONS: &[u8] = b"\
     \x02\x2e\0\x3f\x19\x03\x0e\x3a\x0b\x3b\x0b\x27\x19\x49\x13\x11\x01\x12\x07\x40\x18\0\0\
     \x03\x24\0\x0b\x0b\x3e\x0b\x03\x08\0\0\0";
 
-/// A line table of version 5: 1139 line 3, 113d line 4, 114c line 5, up to 1150.
+/// A line table of version 5: line 3 at 1139, line 4 at 113d, line 5 at 114c, end at 1150.
 const LINES: &[u8] = b"\x47\0\0\0\x05\0\x08\0\x2a\0\0\0\
     \x01\x01\x01\xfb\x0e\x0d\0\x01\x01\x01\x01\0\0\0\x01\0\0\x01\
     \x01\x01\x1f\x01\0\0\0\0\x02\x01\x1f\x02\x0b\x02\x08\0\0\0\0\x08\0\0\0\0\
@@ -44,7 +44,7 @@ const SYMBOLS: &[u8] = b"\0\0\0\0\0\0\0\0\0\0\0\0\0\0\0\0\0\0\0\0\0\0\0\0\
     \x07\0\0\0\x12\0\x04\0\x40\x10\0\0\0\0\0\0\x22\0\0\0\0\0\0\0\
     \x0e\0\0\0\x12\0\x04\0\x39\x11\0\0\0\0\0\0\x17\0\0\0\0\0\0\0";
 
-/// The records behind MODULE and INFO.
+/// The records after MODULE and INFO.
 pub const HELLO: &[u8] = b"FILE 0 /home/u/hello.c\n\
     FUNC 1139 17 0 main\n1139 4 3 0\n113d f 4 0\n114c 4 5 0\n\
     PUBLIC 1000 0 _init\nPUBLIC 1040 0 _start\n\
@@ -63,7 +63,7 @@ pub enum Parts {
     All,
     /// No debug information and no symbols.
     Stripped,
-    /// These alone, and no bytes for code and frames (SHT_NOBITS).
+    /// Only debug information and symbols, and no bytes for code and frames (SHT_NOBITS).
     Debug,
 }
 
@@ -72,7 +72,7 @@ fn front(body: &[u8], count: usize) -> &[u8] {
     body.split_at(count.min(body.len())).0
 }
 
-/// What is loaded, with this type.
+/// The sections that are loaded, with this type.
 fn loaded<'a>(id: Section<'a>, kind: u64, body: &'a [u8]) -> [Section<'a>; 6] {
     [
         NULL,
@@ -84,7 +84,7 @@ fn loaded<'a>(id: Section<'a>, kind: u64, body: &'a [u8]) -> [Section<'a>; 6] {
     ]
 }
 
-/// Debug information and symbols; the names of these stand in section 12.
+/// Debug information and symbols; the symbols' names are in section 12.
 const DEBUG: [Section<'static>; 7] = [
     (".debug_info", [1, 0, 0, 0], UNIT),
     (".debug_abbrev", [1, 0, 0, 0], ABBREVIATIONS),
@@ -95,7 +95,7 @@ const DEBUG: [Section<'static>; 7] = [
     (".strtab", [3, 0, 0, 0], b"\0_init\0_start\0main\0"),
 ];
 
-/// The program with this build id, or parts of it.
+/// The program with this build id, or a part of it.
 pub fn hello(alloc: Global, id: Section<'static>, parts: Parts) -> Result<Vec<u8>, AllocError> {
     let kind = if matches!(parts, Parts::Debug) { 8 } else { 1 };
     let body = Vec::from_elem(alloc, 0x90u8, 0x110)?;

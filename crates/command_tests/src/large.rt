@@ -1,14 +1,14 @@
-//! Sections and files that are larger than 16 bits can say: they want no memory that is not there.
+//! Sections and files whose sizes need more than 16 bits; they need no more memory than there is.
 use std::alloc::{AllocError, Global};
 use test_rows::elf::{ID, NULL, file_of, put};
 
-/// How many frame entries of one address each have more than 65,535 bytes.
+/// The number of frame entries, each for one address, that have more than 65,535 bytes together.
 const ENTRIES: u64 = 2731;
 
-/// How many records.
+/// The number of records.
 const RECORDS: u64 = 0x10000;
 
-/// A CIE as at a call, and entries from 1000 on, of 24 bytes each.
+/// A CIE with the rules at a call, and entries from 1000 on, of 24 bytes each.
 fn frames(alloc: Global) -> Result<Vec<u8>, AllocError> {
     let cie = b"\x14\0\0\0\0\0\0\0\x01zR\0\x01\x78\x10\x01\x1b\x0c\x07\x08\x90\x01\0\0";
     let mut frames = Vec::from_slice(alloc, cie)?;
@@ -57,5 +57,5 @@ pub fn functions(alloc: Global) -> Result<Vec<u8>, AllocError> {
     Ok(text)
 }
 
-/// The frames of a stack in it.
+/// The frames of a stack with this file.
 pub const STEPS: &[u8] = b"0 1005\nf100 at ?\n1 2005\nf200 at ?\nend no-rules\n";

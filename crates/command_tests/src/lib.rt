@@ -1,6 +1,6 @@
-//! Tests of the commands: `run` of `dumpsyms_cmd` over stores and sinks in memory, and the two calls that `dump` is put together of.
+//! Tests of the commands: `run` of `dumpsyms_cmd` with stores and sinks in memory, and the two calls that make up `dump`.
 //!
-//! They use public calls alone and nothing stands on them, so each of those crates is proved without them. There is no code here.
+//! They use only public calls and no crate depends on them, so each tested crate is proved without them. There is no product code here.
 #![tactic(auto)]
 
 #[cfg(test)]

@@ -44,36 +44,36 @@ pub const FRAME: Words = &["frame", "d/a.out", "1001", "d/state"];
 
 pub const WALK: Words = &["walk", "d/a.out", "d/stack"];
 
-/// A function that another one calls, of which no rule gives the return address.
+/// A function `f` and its caller `g`; no rule gives the return address of `g`.
 const CALLED: &[u8] = b"MODULE Linux x86_64 0 a\nFUNC 1000 20 0 f\nFUNC 2000 10 0 g\n\
     STACK CFI INIT 1000 20 .cfa: $rsp 8 + .ra: .cfa -8 + ^\nSTACK CFI INIT 2000 10 .cfa: $rsp 8 +\n";
 
-/// The state in it, as the file `d/stack`.
+/// A state in `f`, as the file `d/stack`.
 pub const STACK: &[u8] = b"REG rip 1005\nREG rsp 7000\nMEM 7000 0520000000000000\n";
 
-/// The frame records of a function that pushes rbp, in other words, as the file `d/text`.
+/// The frame records of a function that pushes rbp, spelled in another way, as the file `d/text`.
 pub const TEXT: &[u8] = b"MODULE Linux x86_64 0 a\n\
     STACK CFI INIT 1000 20 .cfa: 8 $rsp + .ra: .cfa 8 - ^\n\
     STACK CFI 1001 .cfa: 16 $rsp + $rbp: .cfa 16 - ^\n\
     STACK CFI 1004 .cfa: $rbp 16 +\n\
     STACK CFI 100e .cfa: $rsp 8 +\n";
 
-/// Two functions that meet, and two that do not.
+/// Two functions that overlap, and two that do not.
 const MEETING: &[u8] = b"MODULE Linux x86_64 0 a\nFUNC 1000 10 0 f\nFUNC 1008 10 0 g\n";
 
 const APART: &[u8] = b"MODULE Linux x86_64 0 a\nFUNC 1000 10 0 f\nFUNC 1010 10 0 g\n";
 
 const MEETS: &[u8] = b"C5 record 3\n";
 
-/// A function with a copy that is inlined in it.
+/// A function with an inlined copy in it.
 pub const INLINED: &[u8] = b"MODULE Linux x86_64 0 a\nFILE 0 /s/a.c\nINLINE_ORIGIN 0 g\n\
     FUNC 1000 20 0 _Z1fv\nINLINE 0 4 0 0 1004 8\n1000 4 3 0\n1004 8 9 0\n100c 14 4 0\n";
 
-/// The same with another number for its file, as the symbol file `d/seven`.
+/// The same with another file number, as the symbol file `d/seven`.
 pub const SEVEN: &[u8] = b"MODULE Linux x86_64 0 a\nFILE 7 /s/a.c\nINLINE_ORIGIN 0 g\n\
     FUNC 1000 20 0 _Z1fv\nINLINE 0 4 7 0 1004 8\n1000 4 3 7\n1004 8 9 7\n100c 14 4 7\n";
 
-/// Its entries, and the records that they have.
+/// The entries of that function, and their records.
 const COPY: &[Entry] = &[
     (4, b"_Z1fv\0", 0x1000, 0x20, b""),
     (3, b"g\0", 0x1004, 8, b"\x01\x04\0"),
@@ -82,29 +82,29 @@ const COPY: &[Entry] = &[
 pub const COPY_RECORDS: &[u8] = b"FILE 0 /s/a.c\nINLINE_ORIGIN 0 g\n\
     FUNC 1000 20 0 _Z1fv\nINLINE 0 4 0 0 1004 8\n1000 4 3 0\n1004 8 9 0\n100c 14 4 0\n";
 
-/// Rust's legacy names of a function and of a symbol, and how they are shown.
+/// A function and a symbol with Rust's legacy mangling, and how their names are shown.
 const MANGLED: &[u8] = b"MODULE Linux x86_64 0 a\nFUNC 1000 20 0 _ZN1a1b17h0123456789abcdefE\n\
     PUBLIC 2000 0 _ZN10_$LT$T$GT$1f17h0123456789abcdefE\n";
 
 const SHOWN: &[u8] = b"MODULE Linux x86_64 0 a\nFUNC 1000 20 0 a::b\nPUBLIC 2000 0 <T>::f\n";
 
-/// The frame records of a function that pushes rbp, has it as its frame's base, and returns.
+/// The frame records of a function that pushes rbp, uses it as the base of its frame, and returns.
 pub const PUSHED: &[u8] = b"MODULE Linux x86_64 0 a\n\
     STACK CFI INIT 1000 20 .cfa: $rsp 8 + .ra: .cfa -8 + ^\n\
     STACK CFI 1001 .cfa: $rsp 16 + $rbp: .cfa -16 + ^\n\
     STACK CFI 1004 .cfa: $rbp 16 +\n\
     STACK CFI 100e .cfa: $rsp 8 +\n";
 
-/// The state behind the push, as the file `d/state`.
+/// The state after the push, as the file `d/state`.
 pub const STATE: &[u8] = b"REG rsp 7ffe0010\nMEM 7ffe0010 4000fe7f000000003412400000000000\n";
 
-/// What the rules give there.
+/// The values of the rules in that state.
 pub const VALUES: &[u8] = b"cfa 7ffe0020\nra 401234\nrax undefined\nrdx undefined\nrcx undefined\n\
     rbx failed missing rbx\nrsi undefined\nrdi undefined\nrbp 7ffe0040\nrsp 7ffe0020\nr8 undefined\n\
     r9 undefined\nr10 undefined\nr11 undefined\nr12 failed missing r12\nr13 failed missing r13\n\
     r14 failed missing r14\nr15 failed missing r15\n";
 
-/// The values in front of the push, where rbp is the base, and behind the last change.
+/// The values before the push, those where rbp is the base, and those after the last change.
 const AT_ENTRY: &[u8] = b"cfa 7ffe0018\nra 7ffe0040\nrax undefined\nrdx undefined\nrcx undefined\n\
     rbx failed missing rbx\nrsi undefined\nrdi undefined\nrbp failed missing rbp\nrsp 7ffe0018\n\
     r8 undefined\nr9 undefined\nr10 undefined\nr11 undefined\nr12 failed missing r12\n\
@@ -121,7 +121,7 @@ const AT_END: &[u8] = b"cfa 7ffe0018\nra 7ffe0040\nrax undefined\nrdx undefined\
     rsp 7ffe0018\nr8 undefined\nr9 undefined\nr10 undefined\nr11 undefined\n\
     r12 failed missing r12\nr13 failed missing r13\nr14 failed missing r14\nr15 failed missing r15\n";
 
-/// Words that are no row.
+/// Arguments that no command accepts.
 pub const NO_ROWS: &[Words] = &[
     &[],
     &["dump"],
@@ -143,8 +143,8 @@ pub const OMITTED: &[u8] = b"omitted eh_frame 18 state\n";
 
 pub const SKIPPED: &[u8] = b"skipped debug_info 0 version 3\n";
 
-/// A CIE with the CFA at rsp + 8 and the return address at the CFA - 8, and at 18 the FDE of a function from 1000 to 1020
-/// that pushes rbp; then the zero that ends the section.
+/// A CIE with the CFA at rsp + 8 and the return address at the CFA - 8; at 18 the FDE of a function from 1000 to 1020 that pushes rbp; then the zero
+/// that ends the section.
 pub const PUSH_RBP: &[u8] = &[
     0x14, 0, 0, 0, 0, 0, 0, 0, 0x01, 0x7a, 0x52, 0, 0x01, 0x78, 0x10, 0x01, 0x1b, 0x0c, 0x07, 0x08,
     0x90, 0x01, 0, 0, 0x1c, 0, 0, 0, 0x1c, 0, 0, 0, 0xe0, 0xef, 0xff, 0xff, 0x20, 0, 0, 0, 0, 0x41,
@@ -156,14 +156,14 @@ pub const PUSH_RBP_LINES: &[u8] = b"STACK CFI INIT 1000 20 .cfa: $rsp 8 + .ra: .
     STACK CFI 1004 .cfa: $rbp 16 +\n\
     STACK CFI 100e .cfa: $rsp 8 +\n";
 
-/// The same CIE, and an entry of the same range with a `restore_state` alone, of which no row is remembered.
+/// The same CIE, and an entry of the same range whose only instruction is a `restore_state`; no row is remembered.
 pub const RESTORING: &[u8] = &[
     0x14, 0, 0, 0, 0, 0, 0, 0, 0x01, 0x7a, 0x52, 0, 0x01, 0x78, 0x10, 0x01, 0x1b, 0x0c, 0x07, 0x08,
     0x90, 0x01, 0, 0, 0x0e, 0, 0, 0, 0x1c, 0, 0, 0, 0xe0, 0xef, 0xff, 0xff, 0x20, 0, 0, 0, 0, 0x0b,
     0, 0, 0, 0,
 ];
 
-/// A command's row: its name, its words in several forms, the file `d/a.out`, and the status and both texts that are wanted.
+/// A command's row: its name, its arguments in several forms, the file `d/a.out`, and the status and both texts that are wanted.
 pub type Row = (
     &'static str,
     &'static [Words],
@@ -328,7 +328,7 @@ pub const TEXT_ROWS: [Row; 17] = [
     ),
 ];
 
-/// Words, and ELF files.
+/// Arguments, and ELF files.
 pub const ROWS: [Row; 23] = [
     ("usage", NO_ROWS, Given::Small, 2, &[], &[USAGE]),
     (
@@ -719,14 +719,14 @@ pub const FUNCTION_ROWS: [Row; 20] = [
     ),
 ];
 
-/// The path of the lines of one file.
+/// The FILE record of the lines of one file.
 pub const A: &[u8] = b"FILE 0 /s/a.c\n";
 
-/// The records of two units with a table each.
+/// The records of two units with a line table each.
 pub const THREE_PATHS: &[u8] =
     b"FILE 0 /s/a.c\nFILE 1 /s/a?.c\nFILE 2 /s/b.c\nFUNC 1000 c 0 f\n1000 8 1 2\n1008 4 2 1\nFUNC 100c 14 0 g\n100c 14 4 0\n";
 
-/// The records of two units with one table.
+/// The records of two units with one line table.
 pub const ONE_TABLE: &[u8] =
     b"FILE 0 /s/a?.c\nFILE 1 /s/b.c\nFUNC 1000 c 0 f\n1000 8 1 1\n1008 4 2 0\nFUNC 100c 14 0 g\n100c 4 2 0\n";
 
@@ -736,8 +736,8 @@ pub const CUT: &[u8] = b"\x14\0\0";
 pub const SEVENTEEN: &[u8] =
     b"\x01\x02\x03\x04\x05\x06\x07\x08\x09\x0a\x0b\x0c\x0d\x0e\x0f\x10\xff";
 
-/// The numbers of the calls of the store that fail (none, the first or the second), a row's name, its words, its file, and the status and
-/// both texts that are wanted.
+/// The numbers of the calls of the store that fail (none, the first or the second), a row's name, its arguments, its file, and the status and both
+/// texts that are wanted.
 pub type Front = (
     &'static [u64],
     &'static str,

@@ -1,4 +1,4 @@
--- A made ELF file of n units, every byte of it: ELF64 (System V ABI, chapters 4 and 5), DWARF 4 and 5.
+-- A generated ELF file of n units, byte by byte: ELF64 (System V ABI, chapters 4 and 5), DWARF 4 and 5.
 use Rattle.std.specs.Prelude.{ℕ, ◌+◌, ◌*◌, ◌-◌, ◌^◌, ◌%◌, ◌==◌, List, [], ◌∷◌, length, replicate, codes, decimal, if◌then◌else◌}
 use Rattle.std.specs.List.{concat, flat_map, range_with_len}
 use Rattle.std.specs.Int.{w32, w64, to_le_bytes}
@@ -11,7 +11,7 @@ four number = to_le_bytes w32 number
 abbrev pub eight : ℕ → List ℕ
 eight number = to_le_bytes w64 number
 
--- code begins at 401000, and each unit has 64 bytes of it: fK 32 bytes, and gK the 32 after it
+-- the code begins at 401000, and each unit k has 64 bytes of it: 32 bytes of fK, then 32 of gK
 abbrev pub code_at : ℕ → ℕ
 code_at k = 0x401000 + 64 * k
 
@@ -23,8 +23,8 @@ by_version k fifth fourth = if k % 2 == 0 then fifth else fourth
 abbrev pub each_below : (ℕ → List ℕ) → ℕ → List ℕ
 each_below piece n = flat_map piece (range_with_len 0 n)
 
--- the line program of a unit whose code begins at an address (DWARF 5 6.2.5): line 10 at that address, line 11 after 16 bytes, line 20 after 32, line 21 after 48, and the
--- end after 64
+-- the line program of a unit whose code begins at an address (DWARF 5 6.2.5): line 10 at that address, line 11 after 16 bytes, line 20 after 32, line
+-- 21 after 48, and the end after 64
 unfoldable pub line_program : ℕ → List ℕ
 line_program code = concat (
     -- DW_LNE_set_address
@@ -34,25 +34,25 @@ line_program code = concat (
     -- DW_LNE_end_sequence
     (0x00 ∷ 1 ∷ 0x01 ∷ []) ∷ [])
 
--- what stands between the length of a line table's header and its program (DWARF 4 and 5 6.2.4): instructions of one byte, one operation each, of
--- which all are statements; line_base -5, line_range 14, opcode_base 13, the operands of twelve opcodes; and /s/uK.c as the one file
+-- the fields of a line table's header between the length of the header and its directories (DWARF 4 and 5 6.2.4): instructions of one byte, one
+-- operation for each, all rows statements; line_base -5, line_range 14, opcode_base 13, and the operand counts of twelve opcodes
 unfoldable pub line_fields : List ℕ
 line_fields = 1 ∷ 1 ∷ 1 ∷ 0xfb ∷ 14 ∷ 13 ∷ 0 ∷ 1 ∷ 1 ∷ 1 ∷ 1 ∷ 0 ∷ 0 ∷ 0 ∷ 1 ∷ 0 ∷ 0 ∷ 1 ∷ []
 
 -- in version 5, directories have a path (DW_LNCT_path as DW_FORM_string), files a path and a directory (DW_LNCT_directory_index as DW_FORM_data1);
--- the file has the numbers 0 and 1
+-- the directory is /s, and the file uK.c has the numbers 0 and 1
 unfoldable pub line_header_5 : ℕ → List ℕ
 line_header_5 k = concat (line_fields ∷ (1 ∷ 0x01 ∷ 0x08 ∷ 1 ∷ []) ∷ codes "/s" ∷ (0 ∷ []) ∷ (2 ∷ 0x01 ∷ 0x08 ∷ 0x02 ∷ 0x0b ∷ 2 ∷ []) ∷
     codes "u" ∷ decimal k ∷ codes ".c" ∷ (0 ∷ 0 ∷ []) ∷ codes "u" ∷ decimal k ∷ codes ".c" ∷ (0 ∷ 0 ∷ []) ∷ [])
 
--- in version 4, no directory but that of the compilation; the file has the number 1, its directory is that one, and its time and length are unknown
+-- in version 4, no directory but the compilation directory; the file has the number 1, that directory, and an unknown time and length
 unfoldable pub line_header_4 : ℕ → List ℕ
 line_header_4 k = concat (line_fields ∷ (0 ∷ []) ∷ codes "u" ∷ decimal k ∷ codes ".c" ∷ (0 ∷ 0 ∷ 0 ∷ 0 ∷ 0 ∷ []) ∷ [])
 
 abbrev pub line_header : ℕ → List ℕ
 line_header k = by_version k (line_header_5 k) (line_header_4 k)
 
--- a line table after its length; version 5 has the sizes of addresses and of segment selectors
+-- a line table after its length; version 5 also gives the sizes of addresses and of segment selectors
 unfoldable pub line_body : ℕ → List ℕ
 line_body k = concat (by_version k (5 ∷ 0 ∷ 8 ∷ 0 ∷ []) (4 ∷ 0 ∷ []) ∷ four (length (line_header k)) ∷ line_header k ∷ line_program (code_at k) ∷ [])
 
@@ -63,9 +63,9 @@ line_table k = concat (four (length (line_body k)) ∷ line_body k ∷ [])
 unfoldable pub line_tables : ℕ → List ℕ
 line_tables n = each_below line_table n
 
--- `.debug_abbrev`, for all units: a compilation unit with a name, a compilation directory, a line table, a first address and a size; a function
--- with a name, a first address and a size, with children and without; an inlined copy with its origin, a first address, a size, and the file and
--- the line that it is called from (DWARF 5 7.5.3, 7.5.5 and 7.5.6: attribute and form in pairs)
+-- `.debug_abbrev`, for all units: a compilation unit with a name, a compilation directory, a line table, a first address and a size; a function with
+-- a name, a first address and a size, once with children and once without; an inlined copy with its origin, a first address, a size, and the file and
+-- the line of its call (DWARF 5 7.5.3, 7.5.5 and 7.5.6: pairs of attribute and form)
 unfoldable pub abbreviations : List ℕ
 abbreviations =
     1 ∷ 0x11 ∷ 1 ∷ 0x03 ∷ 0x08 ∷ 0x1b ∷ 0x08 ∷ 0x10 ∷ 0x17 ∷ 0x11 ∷ 0x01 ∷ 0x12 ∷ 0x06 ∷ 0 ∷ 0 ∷
@@ -74,8 +74,8 @@ abbreviations =
     4 ∷ 0x1d ∷ 0 ∷ 0x31 ∷ 0x13 ∷ 0x11 ∷ 0x01 ∷ 0x12 ∷ 0x06 ∷ 0x58 ∷ 0x0b ∷ 0x59 ∷ 0x0b ∷ 0 ∷ 0 ∷
     0 ∷ []
 
--- the root of a unit, by the digits of its number, its first address and the offset of its line table: its name and its compilation directory, and
--- then its line table, its first address and its size
+-- the root entry of a unit, given the digits of its number, its first address and the offset of its line table: first its name and compilation
+-- directory, then its line table, first address and size
 unfoldable pub root_texts : List ℕ → List ℕ
 root_texts digits = concat ((1 ∷ []) ∷ codes "u" ∷ digits ∷ codes ".c" ∷ (0 ∷ []) ∷ codes "/s" ∷ (0 ∷ []) ∷ [])
 
@@ -85,20 +85,20 @@ root_numbers code table = concat (four table ∷ eight code ∷ (64 ∷ 0 ∷ 0 
 unfoldable pub unit_root : List ℕ → ℕ → ℕ → List ℕ
 unit_root digits code table = concat (root_texts digits ∷ root_numbers code table ∷ [])
 
--- a unit after its length, up to its functions: its header (DWARF 4 and 5 7.5.1), and its root
+-- a unit between its length and its functions: the header (DWARF 4 and 5 7.5.1) and the root entry
 unfoldable pub unit_front : ℕ → ℕ → ℕ → List ℕ
 unit_front k code table = concat (by_version k (5 ∷ 0 ∷ 1 ∷ 8 ∷ 0 ∷ 0 ∷ 0 ∷ 0 ∷ []) (4 ∷ 0 ∷ 0 ∷ 0 ∷ 0 ∷ 0 ∷ 8 ∷ []) ∷ unit_root (decimal k) code table ∷ [])
 
--- a function of 32 bytes, by an abbreviation
+-- the entry of a function of 32 bytes, with an abbreviation
 unfoldable pub function : ℕ → List ℕ → ℕ → ℕ → List ℕ
 function abbreviation letter k address = concat ((abbreviation ∷ []) ∷ letter ∷ decimal k ∷ (0 ∷ []) ∷ eight address ∷ (32 ∷ 0 ∷ 0 ∷ 0 ∷ []) ∷ [])
 
--- the copy of gK, which stands at an offset in the unit: 8 bytes from the eighth of fK on, called from line 5 of file 1; the ends of fK's children and
--- of the root's
+-- the copy of gK in fK, from byte 8 of fK on, 8 bytes long, called from line 5 of file 1; `origin` is the offset of gK in the unit. Two zeros end the
+-- children of fK and of the root
 unfoldable pub inlined_copy : ℕ → ℕ → List ℕ
 inlined_copy code origin = concat ((4 ∷ []) ∷ four origin ∷ eight (code + 8) ∷ (8 ∷ 0 ∷ 0 ∷ 0 ∷ 1 ∷ 5 ∷ 0 ∷ 0 ∷ []) ∷ [])
 
--- gK; fK, and in it the copy of gK
+-- gK; then fK, with the copy of gK in it
 unfoldable pub unit_functions : ℕ → ℕ → ℕ → List ℕ
 unit_functions k code origin = concat (function 3 (codes "g") k (code + 32) ∷ function 2 (codes "f") k code ∷ inlined_copy code origin ∷ [])
 
@@ -117,25 +117,25 @@ numbered_unit k = unit k (code_at k) (length (line_tables k))
 unfoldable pub units : ℕ → List ℕ
 units n = each_below numbered_unit n
 
--- what all frame entries share (DWARF 5 6.4.1; the augmentation `zR` of the System V ABI's .eh_frame): code alignment 1, data alignment -8, return
--- address in column 16, pointers relative to their place, four bytes, signed; CFA = rsp + 8, and the return address is saved at CFA - 8
+-- the CIE (DWARF 5 6.4.1; the augmentation `zR` of the System V ABI's .eh_frame): code alignment 1, data alignment -8, return address in column 16,
+-- pointers of four bytes, signed and relative to their place; CFA = rsp + 8, and the return address is saved at CFA - 8
 unfoldable pub common_entry : List ℕ
 common_entry = 20 ∷ 0 ∷ 0 ∷ 0 ∷ 0 ∷ 0 ∷ 0 ∷ 0 ∷ 1 ∷ 0x7a ∷ 0x52 ∷ 0 ∷ 1 ∷ 0x78 ∷ 16 ∷ 1 ∷ 0x1b ∷ 0x0c ∷ 7 ∷ 8 ∷ 0x90 ∷ 1 ∷ 0 ∷ 0 ∷ []
 
--- one byte on, CFA = rsp + 16, and rbp is saved at CFA - 16
+-- after one byte of code CFA = rsp + 16, and rbp is saved at CFA - 16
 abbrev pub usual : List ℕ
 usual = 0 ∷ 0x41 ∷ 0x0e ∷ 16 ∷ 0x86 ∷ 2 ∷ 0 ∷ 0 ∷ []
 
--- a state is restored that was not remembered: such an entry is left out of a dump
+-- a state is restored that was not remembered: a dump omits such an entry
 abbrev pub bad : List ℕ
 bad = 0 ∷ 0x0b ∷ 0 ∷ 0 ∷ 0 ∷ 0 ∷ 0 ∷ 0 ∷ []
 
--- frame entry number j, of 32 bytes from 401000 + 32 j on: `.eh_frame` follows the code, so that the way from its pointer, which stands 8 bytes into
--- the entry, to these leads back; the ways are those between offsets from 401000
+-- the FDE number j, for 32 bytes of code from 401000 + 32 j on. Its pointer to the code is 8 bytes into the FDE and relative to that place, so it is
+-- negative: `.eh_frame` follows the code. Both places are counted from 401000
 unfoldable pub frame_entry : ℕ → ℕ → List ℕ → List ℕ
 frame_entry n j instructions = concat (four 20 ∷ four (28 + 24 * j) ∷ four (2 ^ 32 + 32 * j - (64 * n + 24 + 24 * j + 8)) ∷ four 32 ∷ instructions ∷ [])
 
--- those of fK and gK; every tenth gK has a bad one
+-- the FDEs of fK and gK; that of every tenth gK is bad
 unfoldable pub unit_frames : ℕ → ℕ → List ℕ
 unit_frames n k = concat (frame_entry n (2 * k) usual ∷ frame_entry n (2 * k + 1) (if k % 10 == 9 then bad else usual) ∷ [])
 
@@ -152,7 +152,7 @@ unfoldable pub section_names : List ℕ
 section_names = concat ((0 ∷ []) ∷ codes ".note.gnu.build-id" ∷ (0 ∷ []) ∷ codes ".text" ∷ (0 ∷ []) ∷ codes ".eh_frame" ∷ (0 ∷ []) ∷
     codes ".debug_abbrev" ∷ (0 ∷ []) ∷ codes ".debug_info" ∷ (0 ∷ []) ∷ codes ".debug_line" ∷ (0 ∷ []) ∷ codes ".shstrtab" ∷ (0 ∷ []) ∷ [])
 
--- where the sections begin in the file: one after another, code at 1000
+-- the places of the sections in the file: one after another, from the code at 1000 on
 abbrev pub frames_at : ℕ → ℕ
 frames_at n = 0x1000 + 64 * n
 
@@ -179,7 +179,8 @@ section_header s = concat (four s.name ∷ four s.kind ∷ eight s.flags ∷ eig
 abbrev pub plain : ℕ → ℕ → ℕ → ℕ → Section
 plain name kind offset size = record { name = name; kind = kind; flags = 0; address = 0; offset = offset; size = size; alignment = 1 }
 
--- the section headers: none; SHT_NOTE, in memory (SHF_ALLOC); code (SHF_EXECINSTR too); SHT_PROGBITS in memory; three that are not; SHT_STRTAB
+-- the section headers: a null one; SHT_NOTE, in memory (SHF_ALLOC); code (SHF_EXECINSTR too); SHT_PROGBITS in memory; three that are not in memory;
+-- SHT_STRTAB
 unfoldable pub sections : ℕ → List Section
 sections n =
     record { name = 0; kind = 0; flags = 0; address = 0; offset = 0; size = 0; alignment = 0 } ∷
@@ -191,19 +192,19 @@ sections n =
     plain 62 1 (lines_at n) (length (line_tables n)) ∷
     plain 74 3 (names_at n) (length section_names) ∷ []
 
--- the ELF header: ELFCLASS64, ELFDATA2LSB, EV_CURRENT; ET_EXEC, EM_X86_64; no entry point; the program header at 64, the section headers at an offset;
--- the sizes of the headers, of which there are one program header, 56 bytes long, and eight section headers, 64 bytes long, the last that of the names
+-- the ELF header: ELFCLASS64, ELFDATA2LSB, EV_CURRENT; ET_EXEC, EM_X86_64; no entry point; the program header at 64, the section headers at an
+-- offset; the sizes of the headers: one program header of 56 bytes, and eight section headers of 64 bytes, the last of which is that of the names
 unfoldable pub file_header : ℕ → List ℕ
 file_header headers = concat ((0x7f ∷ 0x45 ∷ 0x4c ∷ 0x46 ∷ 2 ∷ 1 ∷ 1 ∷ 0 ∷ 0 ∷ 0 ∷ 0 ∷ 0 ∷ 0 ∷ 0 ∷ 0 ∷ 0 ∷ []) ∷
     (2 ∷ 0 ∷ 0x3e ∷ 0 ∷ 1 ∷ 0 ∷ 0 ∷ 0 ∷ []) ∷ replicate 8 0 ∷ (64 ∷ 0 ∷ 0 ∷ 0 ∷ 0 ∷ 0 ∷ 0 ∷ 0 ∷ []) ∷ eight headers ∷
     (0 ∷ 0 ∷ 0 ∷ 0 ∷ 64 ∷ 0 ∷ 56 ∷ 0 ∷ 1 ∷ 0 ∷ 64 ∷ 0 ∷ 8 ∷ 0 ∷ 7 ∷ 0 ∷ []) ∷ [])
 
--- the program header: PT_LOAD, read and run, so many bytes from the file's front at 400000, in pages of 1000
+-- the program header: PT_LOAD, read and execute, the first `size` bytes of the file at 400000, in pages of 1000
 unfoldable pub program_header : ℕ → List ℕ
 program_header size = concat ((1 ∷ 0 ∷ 0 ∷ 0 ∷ 5 ∷ 0 ∷ 0 ∷ 0 ∷ []) ∷ replicate 8 0 ∷ (0 ∷ 0 ∷ 0x40 ∷ 0 ∷ 0 ∷ 0 ∷ 0 ∷ 0 ∷ []) ∷ (0 ∷ 0 ∷ 0x40 ∷ 0 ∷ 0 ∷ 0 ∷ 0 ∷ 0 ∷ []) ∷
     eight size ∷ eight size ∷ (0 ∷ 0x10 ∷ 0 ∷ 0 ∷ 0 ∷ 0 ∷ 0 ∷ 0 ∷ []) ∷ [])
 
--- what stands in front of the code: 156 bytes, and zeros up to 1000; up to the end of `.eh_frame` all is in memory
+-- what is before the code: 156 bytes, and zeros up to 1000. Everything up to the end of `.eh_frame` is in memory
 unfoldable pub padding : List ℕ
 padding = replicate (0x1000 - 156) 0
 

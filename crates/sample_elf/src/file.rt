@@ -10,7 +10,7 @@ use crate::units::{UnitSections, make_units};
 use std::alloc::Global;
 use sym_edges::{ByteRun, OutOfMemory};
 
-/// `.debug_abbrev`: attribute and form in pairs.
+/// `.debug_abbrev`: pairs of attribute and form.
 #[tactic(auto, unfolding(crate::specs::Made::abbreviations))]
 fn abbreviations() -> &'static [u8]
     ensures { result.now ≡ abbreviations }
@@ -41,7 +41,7 @@ struct Layout {
     headers: u64,
 }
 
-/// The sections whose sizes go with the number of units.
+/// The sections whose sizes depend on the number of units.
 #[derive(Drop)]
 struct Parts {
     frames: Vec<u8>,
@@ -241,7 +241,7 @@ fn put_file_header(bytes: &mut Vec<u8>, headers: u64) -> Result<(), OutOfMemory>
     )
 }
 
-/// Adds the program header of so many bytes.
+/// Adds the program header for a number of bytes.
 #[tactic(auto, unfolding(crate::specs::Made::program_header))]
 fn put_program_header(bytes: &mut Vec<u8>, size: u64) -> Result<(), OutOfMemory>
     ensures { OnOk result (bytes.new.items ≡ bytes.old.items ++ program_header size) }
@@ -277,7 +277,7 @@ fn put_build_id(bytes: &mut Vec<u8>, n: u32) -> Result<(), OutOfMemory>
     )
 }
 
-/// Adds the zeros in front of the code.
+/// Adds the zeros before the code.
 #[tactic(auto, unfolding(crate::specs::Made::padding))]
 fn put_padding(alloc: Global, bytes: &mut Vec<u8>) -> Result<(), OutOfMemory>
     ensures { OnOk result (bytes.new.items ≡ bytes.old.items ++ padding) }
@@ -285,7 +285,7 @@ fn put_padding(alloc: Global, bytes: &mut Vec<u8>) -> Result<(), OutOfMemory>
     put_zeros(alloc, bytes, 0x1000 - 156)
 }
 
-/// What stands in front of the code.
+/// The bytes before the code.
 #[tactic(auto, using(crate::proofs::PieceLemmas::four_parts), unfolding(crate::specs::Made::front))]
 fn make_front(alloc: Global, n: u32, layout: &Layout) -> Result<Vec<u8>, OutOfMemory>
     requires abbreviations { layout.now.abbreviations ≡ abbreviations_at n }
@@ -338,7 +338,7 @@ fn make_bytes(alloc: Global, n: u32) -> Result<Vec<u8>, OutOfMemory>
     Ok(bytes)
 }
 
-/// A file of n units, some 360 bytes each, all of whose bytes `specs/Made.antt` says.
+/// A file of n units of about 360 bytes each; `specs/Made.antt` gives every byte.
 #[tactic(auto, using(crate::proofs::LengthLemmas::made_short))]
 pub fn make(alloc: Global, n: u32) -> Result<ByteRun, OutOfMemory>
     requires few { n ≤ 20000 }

@@ -6,7 +6,7 @@ use crate::pieces::put_all;
 use std::alloc::Global;
 use sym_edges::OutOfMemory;
 
-/// What all entries share.
+/// The CIE of all entries.
 const COMMON_ENTRY: [u8; 24] = [
     20, 0, 0, 0, 0, 0, 0, 0, 1, 0x7a, 0x52, 0, 1, 0x78, 16, 1, 0x1b, 0x0c, 7, 8, 0x90, 1, 0, 0,
 ];

@@ -7,7 +7,7 @@ use itoa::Buffer;
 use std::alloc::Global;
 use sym_edges::OutOfMemory;
 
-/// What the headers of both versions begin with.
+/// The first fields of the headers of both versions.
 const LINE_FIELDS: [u8; 18] = [1, 1, 1, 0xfb, 14, 13, 0, 1, 1, 1, 1, 0, 0, 0, 1, 0, 0, 1];
 
 /// The first address of a unit's code.

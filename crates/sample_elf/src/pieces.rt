@@ -15,7 +15,7 @@ pub fn put_all(bytes: &mut Vec<u8>, parts: &[&[u8]]) -> Result<(), OutOfMemory>
     Ok(())
 }
 
-/// Adds so many zero bytes.
+/// Adds a number of zero bytes.
 pub fn put_zeros(alloc: Global, bytes: &mut Vec<u8>, count: usize) -> Result<(), OutOfMemory>
     ensures { OnOk result (bytes.new.items ≡ bytes.old.items ++ replicate count 0) }
 {

@@ -1,6 +1,6 @@
 //! Section headers (ELF64, chapter 4).
 
-/// What a section header says; link, info and entry size are 0.
+/// The fields of a section header; link, info and entry size are 0.
 #[derive(Clone, Copy, Debug)]
 pub struct Section {
     pub name: u32,

@@ -37,7 +37,7 @@ fn put_root_numbers(bytes: &mut Vec<u8>, code: u64, table: u32) -> Result<(), Ou
     )
 }
 
-/// Adds the root of a unit, by the digits of its number, its first address and the offset of its line table.
+/// Adds the root of a unit, given the digits of its number, its first address and the offset of its line table.
 #[tactic(auto, using(crate::proofs::PieceLemmas::both), unfolding(crate::specs::Made::unit_root))]
 fn put_root(bytes: &mut Vec<u8>, digits: &[u8], code: u64, table: u32) -> Result<(), OutOfMemory>
     ensures { OnOk result (bytes.new.items ≡ bytes.old.items ++ unit_root digits.now code table) }
@@ -83,7 +83,7 @@ fn put_function(
     )
 }
 
-/// Adds the inlined copy of a function that stands at an offset in the unit, and the ends of children.
+/// Adds the inlined copy of a function, which is at an offset in the unit, and the ends of children.
 #[tactic(auto, unfolding(crate::specs::Made::inlined_copy))]
 fn put_copy(bytes: &mut Vec<u8>, code: u64, origin: u32) -> Result<(), OutOfMemory>
     requires low { code < 2 ^ 32 }

@@ -1,5 +1,5 @@
--- Where two symbol files say the same (Breakpad's symbol_files.md): at an address they name the same function, the same inlined calls and the
--- same line, and their frame rules have the same forms. What `PUBLIC`, `MODULE` and `INFO` say is not looked at.
+-- When two symbol files say the same at an address (Breakpad's symbol_files.md): if they name the same function, the same inlined calls and the same
+-- line there, and their frame rules have the same forms. What `PUBLIC`, `MODULE` and `INFO` say is not compared.
 use Rattle.std.specs.Prelude.{ℕ, ◌==◌, ◌&&◌, Bool, true, false, not, List, [], ◌∷◌, ◌++◌, map, Option, None, Some}
 use Rattle.std.specs.List.{find, range_with_len}
 use Rattle.std.specs.Str.{bytes_eq}
@@ -24,15 +24,15 @@ same_list same [] [] = true
 same_list same (a ∷ front) (b ∷ back) = same a b && same_list same front back
 same_list same _ _ = false
 
--- a line is its path, where that is known, and its number
+-- two lines are the same if their paths are the same or both unknown, and their numbers are the same
 abbrev pub same_line : Option (List ℕ) × ℕ → Option (List ℕ) × ℕ → Bool
 same_line a b = same_option bytes_eq a.0 b.0 && (a.1 == b.1)
 
--- an inlined call is the function's name, which is `<name omitted>` where the text has none, and the path and the line of the call
+-- two inlined calls are the same if the functions' names (`<name omitted>` if the text has none) and the paths and lines of the calls are
 abbrev pub same_call : Call → Call → Bool
 same_call a b = bytes_eq (call_name a) (call_name b) && same_line (a.path, a.line) (b.path, b.line)
 
--- where rules stand in both, the target's have one form
+-- the rules of a target in two lists of rules have one form
 abbrev pub same_rules : Target → List RuleText → List RuleText → Bool
 same_rules t a b = same_form (rule_form t a) (rule_form t b)
 
@@ -62,6 +62,6 @@ frame_aspects = Init ∷ rule_aspects
 abbrev pub differs : List SymLine → List SymLine → ℕ → Aspect → Bool
 differs own other x aspect = not (agrees own other x aspect)
 
--- the first aspect in which they differ at an address
+-- the first aspect in which two files differ at an address
 unfoldable pub first_unlike : List SymLine → List SymLine → ℕ → Option Aspect
 first_unlike own other x = find (differs own other x) (name_aspects ++ frame_aspects)

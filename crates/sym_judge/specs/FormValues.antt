@@ -1,4 +1,4 @@
--- What a form gives, over registers, memory and the CFA of its frame.
+-- The value of a form, given registers, memory and the CFA of its frame.
 use Rattle.std.specs.Prelude.{ℕ, ◌+◌, ◌%◌, ◌^◌, List, Option, Result, Ok, Err}
 use Rattle.sym_edges.specs.Results.{◌>>=◌}
 use Rattle.cfi_eval.specs.declared.registers.Regs.{Regs}

@@ -1,5 +1,6 @@
--- The form of a frame rule (Breakpad's symbol_files.md, "STACK CFI"): what its words say, where they add numbers to a register or to the CFA
--- and fetch what memory holds there. Two spellings of one form mean the same: `$rsp 16 +` and `16 $rsp +` do. Other words are their own form.
+-- The form of a frame rule (Breakpad's symbol_files.md, "STACK CFI"). If the words of the rule add numbers to a register or to the CFA, or subtract
+-- them, or fetch what memory holds at such a sum, the form is that sum or fetch. Two spellings of one form mean the same, such as `$rsp 16 +` and
+-- `16 $rsp +`. Other words are their own form.
 use Rattle.std.specs.Prelude.{ℕ, ◌+◌, ◌-◌, ◌%◌, ◌^◌, ◌==◌, ◌&&◌, Bool, true, false, if◌then◌else◌, List, [], ◌∷◌, Option, None, Some}
 use Rattle.std.specs.Int.{cast_unsigned, w64}
 use Rattle.std.specs.Option.{option_map, option_and_then}
@@ -22,7 +23,7 @@ use Rattle.sym_judge.specs.declared.terms.Term.TheVariants.{Plain, Fetched}
 abbrev pub sum : Base → ℕ → Sum
 sum b n = record { base = b; offset = n }
 
--- of two bases that are added one at least is nothing
+-- two bases can be added if at least one of them is nothing
 abbrev pub joined_base : Base → Base → Option Base
 joined_base a base.Nothing = Some a
 joined_base base.Nothing b = Some b
@@ -31,7 +32,7 @@ joined_base _ _ = None
 abbrev pub added : Sum → Sum → Option Sum
 added a b = option_map (λ c. sum c ((a.offset + b.offset) % 2 ^ 64)) (joined_base a.base b.base)
 
--- what is taken away is a number
+-- only a number without a base can be subtracted
 abbrev pub taken_base : Base → Base → Option Base
 taken_base a base.Nothing = Some a
 taken_base _ _ = None
@@ -39,17 +40,17 @@ taken_base _ _ = None
 abbrev pub taken : Sum → Sum → Option Sum
 taken a b = option_map (λ c. sum c ((a.offset + (2 ^ 64 - b.offset)) % 2 ^ 64)) (taken_base a.base b.base)
 
--- a sign takes two sums from the stack, the second of them from the top, and leaves one
+-- a sign takes the two top sums from the stack, the topmost as its second operand, and leaves one
 abbrev pub of_two : (Sum → Sum → Option Sum) → List Term → Option (List Term)
 of_two sign (Plain b ∷ Plain a ∷ terms) = option_map (λ s. Plain s ∷ terms) (sign a b)
 of_two sign _ = None
 
--- `^` takes one
+-- `^` takes one sum and leaves the fetch at it
 abbrev pub fetched : List Term → Option (List Term)
 fetched (Plain a ∷ terms) = Some (Fetched a ∷ terms)
 fetched _ = None
 
--- the stack after a word; `.cfa` says nothing inside its own rule
+-- the stack after a word; none if the word has no place in a sum or fetch, such as `.cfa` inside its own rule
 unfoldable pub with_word : Bool → Token → List Term → Option (List Term)
 with_word inside (token.Number n) terms = Some (Plain (sum base.Nothing (cast_unsigned w64 n)) ∷ terms)
 with_word inside (token.Reg register) terms = Some (Plain (sum (base.Register register) 0) ∷ terms)
@@ -64,7 +65,7 @@ unfoldable pub terms_after : Bool → List Token → List Term → Option (List 
 terms_after inside [] terms = Some terms
 terms_after inside (word ∷ words) terms = option_and_then (terms_after inside words) (with_word inside word terms)
 
--- the one term that words leave
+-- the term of a stack, if it has only one
 abbrev pub one_term : Option (List Term) → Option Term
 one_term (Some (t ∷ [])) = Some t
 one_term _ = None
@@ -72,7 +73,7 @@ one_term _ = None
 unfoldable pub term_of : Bool → List Token → Option Term
 term_of inside words = one_term (terms_after inside words [])
 
--- a form: a sum, or what memory holds there; no value; or the words
+-- a form: a sum, or what memory holds at a sum; no value; or the words themselves
 pub data Form : Type 0 where
   of_term : Term → Form
   no_value : Form
@@ -86,8 +87,8 @@ unfoldable pub form_of : Bool → List Token → Form
 form_of inside (token.Undef ∷ []) = no_value
 form_of inside words = or_words words (term_of inside words)
 
--- without a rule a register that a call keeps has its value, rsp is the CFA, and of the others nothing is known (System V ABI for AMD64,
--- section 3.2.1)
+-- the form of a missing rule: a register that a call keeps has its own value, rsp is the CFA, and nothing is known of the other registers (System V
+-- ABI for AMD64, section 3.2.1)
 abbrev pub default_form : Default → ℕ → Form
 default_form KeepsValue register = of_term (Plain (sum (base.Register register) 0))
 default_form IsCfa register = of_term (Plain (sum base.Cfa 0))
@@ -101,7 +102,7 @@ abbrev pub is_cfa : Target → Bool
 is_cfa target.Cfa = true
 is_cfa _ = false
 
--- the form of a target's rule, or of a missing one
+-- the form of a target's rule; if there is no rule, the form of a missing one
 abbrev pub form_by : Target → Option (List Token) → Form
 form_by t None = missing_form t
 form_by t (Some words) = form_of (is_cfa t) words
@@ -109,7 +110,7 @@ form_by t (Some words) = form_of (is_cfa t) words
 unfoldable pub rule_form : Target → List RuleText → Form
 rule_form t rules = form_by t (rule_for t rules)
 
--- whether two forms are one
+-- whether two forms are the same; first, whether their parts are
 abbrev pub same_base : Base → Base → Bool
 same_base base.Nothing base.Nothing = true
 same_base (base.Register a) (base.Register b) = a == b

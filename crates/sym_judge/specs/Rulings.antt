@@ -6,11 +6,11 @@ use Rattle.sym_judge.specs.declared.ruling.Aspect.{Aspect}
 use Rattle.sym_judge.specs.declared.ruling.Ruling.{Ruling}
 use Rattle.sym_judge.specs.declared.ruling.Ruling.TheVariants.{Yes, No}
 
--- they say the same below an address
+-- the files say the same at every address below an end
 abbrev pub AreAlikeBelow : ℕ → List SymLine → List SymLine → Type 0
 AreAlikeBelow end own other = (x : ℕ) → x < end → first_unlike own other x ≡ None
 
--- the least address at which they differ, and the first aspect there
+-- the least address at which the files differ, and the first aspect in which they differ there
 pub record IsFirstUnlike (own other : List SymLine) (address : ℕ) (aspect : Aspect) : Type 0 where
   pub address_fits : address < 2 ^ 64
   pub differ : first_unlike own other address ≡ Some aspect

@@ -1,4 +1,4 @@
--- What two symbol files that say the same have in common: what a look-up names, and what evaluating the frame rules gives.
+-- What two symbol files that say the same have in common: what a look-up names, and what the frame rules evaluate to.
 use Rattle.std.specs.Prelude.{◌≡◌, ℕ, List, map, Option, None, Some}
 use Rattle.sym_records.specs.declared.line.SymLine.{SymLine}
 use Rattle.sym_meaning.specs.TextNames.{Call, text_owner, text_chain, text_line}
@@ -18,14 +18,14 @@ pub record CallSaid : Type 0 where
 abbrev pub said : Call → CallSaid
 said call = record { name = call_name call; path = call.path; line = call.line }
 
--- both name the same function, the same inlined calls and the same line at an address
+-- both files name the same function, the same inlined calls and the same line at an address
 pub record NameTheSame (own other : List SymLine) (x : ℕ) : Type 0 where
   pub owner : text_owner own x ≡ text_owner other x
   pub chain : map said (text_chain own x) ≡ map said (text_chain other x)
   pub line : text_line own x ≡ text_line other x
 
--- rules stand at an address in both or in neither; for all memory, all registers of 64 bits and each frame of the first whose CFA is not
--- undefined the second has that frame: the CFA, the return address and each register, with the cause where one has no value
+-- if the first file gives no frame at an address, the second gives none. For all memory and all registers of 64 bits: if the first gives a frame
+-- whose CFA is not undefined, the second gives the same frame: the CFA, the return address and each register, with the cause if one has no value
 pub record UnwindTheSame (own other : List SymLine) (x : ℕ) : Type 0 where
   pub nowhere : (regs : Regs) (memory : List MemRun) → text_frame own x regs memory ≡ None → text_frame other x regs memory ≡ None
   pub frame : (regs : Regs) (memory : List MemRun) (f : Frame) → AreWords regs → IsKnown f.cfa → text_frame own x regs memory ≡ Some f → text_frame other x regs memory ≡ Some f

@@ -1,4 +1,4 @@
--- What serves the functions and loops of the crate alone: no public clause cites it.
+-- Definitions for the functions and loops of the crate: no public clause cites them.
 pub mod Stops
 pub mod Tables
 pub mod RuleMaps

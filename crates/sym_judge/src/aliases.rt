@@ -1,4 +1,4 @@
-//! Which numbers have one name: each name is compared once, and then the numbers.
+//! Which numbers have one name. Each name is compared once; after that only numbers are compared.
 ghost use Rattle.std.specs.Prelude.{◌≡◌, ℕ, List, true, IfOk, OnOk, IfSome};
 ghost use Rattle.std.specs.Bool.{OnTrue};
 ghost use Rattle.std.specs.Option.{option_copied, option_and_then};
@@ -22,14 +22,14 @@ pub(crate) enum Numbered {
     Origins,
 }
 
-/// A number, and the first one under which the first file has the same name.
+/// A number, and the first number under which the first file has the same name.
 #[derive(Clone, Copy)]
 pub struct Alias {
     pub number: u32,
     pub first: u32,
 }
 
-/// The numbers of both files that have a name of the first one, in their order.
+/// For each file, its numbers that have a name of the first file, in their order.
 #[derive(Drop)]
 pub struct Aliases {
     pub mine: Vec<Alias>,
@@ -57,7 +57,7 @@ pub(crate) fn name_of<'f>(
     }
 }
 
-/// The name under a number, where there is one.
+/// The name under a number, if there is one.
 pub(crate) fn name_in<'f>(
     numbered: Numbered,
     side: &IndexedFile<'f>,
@@ -86,7 +86,7 @@ fn numbers_of(
     Ok(numbers)
 }
 
-/// The number of the last eight bytes of a name: most names are told apart by it.
+/// The number of the last eight bytes of a name, which distinguishes most names.
 fn ending_of(name: &[u8]) -> u64 {
     let mut ending = 0u64;
     'bytes: for byte in name.split_at(name.len().saturating_sub(8)).1 {
@@ -139,7 +139,7 @@ fn first_of<'f>(firsts: &Firsts<'_, 'f>, name: Option<&'f [u8]>) -> Option<u32> 
     }
 }
 
-/// Adds a number of a file, where the first file has its name.
+/// Adds a number of a file, if the first file has its name.
 fn push_alias<'f>(
     aliases: &mut Vec<Alias>,
     firsts: &Firsts<'_, 'f>,
@@ -160,7 +160,7 @@ fn push_alias<'f>(
     Ok(())
 }
 
-/// The numbers of a file that have a name of the first one, of numbers in their order.
+/// The numbers of a file, given in their order, that have a name of the first file.
 fn aliases_in<'f>(
     alloc: Global,
     firsts: &Firsts<'_, 'f>,
@@ -198,7 +198,7 @@ pub(crate) fn copied(aliases: &Aliases) -> Result<Aliases, OutOfMemory>
     Ok(Aliases { mine, theirs })
 }
 
-/// Those of two files.
+/// The numbers of two files that have a name of the first.
 pub(crate) fn aliases_of<'f>(
     alloc: Global,
     numbered: Numbered,
@@ -215,7 +215,7 @@ pub(crate) fn aliases_of<'f>(
     Ok(Aliases { mine, theirs })
 }
 
-/// The first number of the name under a number, by halves.
+/// The first number of the name under a number, by binary search.
 pub(crate) fn first_in(aliases: &[Alias], number: u32) -> Option<u32>
     ensures { IfSome result (λ first. (numbered : Numbered) (own lines : List SymLine) → AreAliases numbered own lines aliases.now → name_of numbered own first ≡ name_of numbered lines number) }
 {
@@ -230,7 +230,7 @@ pub(crate) fn first_in(aliases: &[Alias], number: u32) -> Option<u32>
     Some(alias.first)
 }
 
-/// Whether two numbers have one name, as far as their first numbers tell.
+/// Whether two numbers have one name, as far as their first numbers show.
 pub(crate) fn have_one_name(aliases: &Aliases, a: u32, b: u32) -> bool
     ensures { OnTrue result ((numbered : Numbered) (own other : List SymLine) → AreAliasesOf numbered own other aliases.now → same_name numbered own other a b ≡ true) }
 {

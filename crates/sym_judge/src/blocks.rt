@@ -1,4 +1,4 @@
-//! Whether the blocks of two files say the same: a `FUNC` with the records under it, or an `INIT` with the changes behind it.
+//! Whether the blocks of two files say the same: a `FUNC` with the records under it, or an `INIT` with the changes after it.
 ghost use Rattle.std.specs.Prelude.{◌≡◌, ◌+◌, ◌<◌, List, [], ◌∷◌, ℕ, true, drop, length, None, Some, slice_get, MatchOption};
 ghost use Rattle.std.specs.Bool.{OnTrue};
 ghost use Rattle.cfi_eval.specs.TextRules.{same_target};
@@ -26,7 +26,7 @@ fn is_inside(half: Half, line: &SymLine) -> bool
     }
 }
 
-/// The next record of a block, and what stands behind it.
+/// The next record of a block, and the records after it.
 #[tactic(auto, using(crate::proofs::BlockLemmas::inside_more, crate::proofs::BlockLemmas::inside_ends))]
 fn next_inside(half: Half, lines: &[SymLine]) -> Option<(&SymLine, &[SymLine])>
     ensures { MatchOption result (inside half lines.now ≡ []) (λ next. (inside half lines.now ≡ next.0.now ∷ inside half next.1.now) × (length next.1.now < length lines.now)) }
@@ -103,7 +103,7 @@ fn are_same_ranges(level: u32, ranges: &[Extent], depth: u32, extents: &[Extent]
     level == depth && are_same_extents(ranges, extents)
 }
 
-/// Where a function is called that is inlined there: the line and the file of the call, and its origin.
+/// A call of an inlined function: the line and the file of the call, and the function's origin.
 #[derive(Clone, Copy)]
 struct Site {
     line: u32,
@@ -146,7 +146,7 @@ fn is_inline_like(
     are_same_ranges(level, ranges, *depth, extents.as_slice()) && is_same_site(both, site, second)
 }
 
-/// Whether it is a line record of some addresses, a line and a file.
+/// Whether a record is a line record of some addresses, a line and a file.
 fn is_line_like(both: &FilePair<'_>, run: Extent, line: u32, file: u32, found: &SymLine) -> bool
     ensures { result ≡ same_record both.now.own both.now.other (record_line.Line run.address run.size line file) found.now }
 {
@@ -163,7 +163,7 @@ fn is_line_like(both: &FilePair<'_>, run: Extent, line: u32, file: u32, found: &
         && is_same_source(both, line, file, *number, *path)
 }
 
-/// Whether it is a record of changes at an address.
+/// Whether a record is one of changes at an address.
 fn is_change_like(address: u64, rules: &[RuleText], found: &SymLine) -> bool
     ensures { (own other : List SymLine) → result ≡ same_record own other (record_line.Change address rules.now) found.now }
 {
@@ -213,7 +213,7 @@ fn is_same_record(both: &FilePair<'_>, a: &SymLine, b: &SymLine) -> bool
     }
 }
 
-/// Whether the records of two blocks behind their first say the same.
+/// Whether the records of two blocks after their first say the same.
 fn are_same_inside(half: Half, both: &FilePair<'_>, front: &[SymLine], back: &[SymLine]) -> bool
     ensures { result ≡ same_inside half both.now.own both.now.other front.now back.now }
 {
@@ -255,7 +255,7 @@ fn begins_at(line: &SymLine, start: u64) -> bool {
     }
 }
 
-/// Whether blocks that cover an address say the same. They are compared where the first of them begins, so each is compared once.
+/// Whether blocks that cover an address say the same. It is no if the first file's block does not begin there, so each is compared once.
 fn are_same_blocks(half: Half, both: &FilePair<'_>, i: usize, j: usize, address: u64) -> bool
     ensures { OnTrue result (AreSameBlocks half both.now.own both.now.other i j) }
 {
@@ -270,7 +270,7 @@ fn are_same_blocks(half: Half, both: &FilePair<'_>, i: usize, j: usize, address:
     are_same_inside(half, both, mine.split_at(i + 1).1, theirs.split_at(j + 1).1)
 }
 
-/// Whether two files do not differ at the addresses at which they have the blocks that they have at this one.
+/// Whether two files do not differ at any address at which they have the same blocks as at this one.
 #[tactic(auto, using(crate::proofs::ClearLemmas::no_blocks, crate::proofs::ClearLemmas::same_blocks))]
 pub(crate) fn is_clear(
     half: Half,

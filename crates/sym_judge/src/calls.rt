@@ -1,4 +1,4 @@
-//! The inlined calls of both files, named by the numbers of the first one.
+//! The inlined calls of both files, given by the numbers of the first file.
 ghost use Rattle.std.specs.Prelude.{◌≡◌, List, codes, IfOk, IfSome};
 ghost use Rattle.std.specs.Bool.{OnTrue};
 ghost use Rattle.std.specs.Option.{option_copied, option_and_then, unwrap_or};
@@ -15,7 +15,7 @@ use crate::names::{CallSpot, Spot, call_at, name_or_omitted};
 use clean_names::name_omitted;
 use std::marker::Model;
 
-/// A file, and for its numbers of names the least ones under which the first file has them. Contracts see the records of both.
+/// A file, and for its numbers of names the least numbers under which the first file has these names. Contracts see the records of both.
 #[derive(Drop)]
 pub(crate) struct Calls<'b, 'f> {
     own: &'b IndexedFile<'f>,
@@ -36,7 +36,7 @@ impl<'b, 'f> Model for Calls<'b, 'f> {
     ghost invariant = { λ c. AreAliases Files c.own.now c.side.now c.paths.items × AreAliases Origins c.own.now c.side.now c.origins.items };
 }
 
-/// The number under which the first file has the name of a number: none where there is no name. Nothing where it has another name.
+/// The number under which the first file has the name of a number: none if there is no name; nothing if the first file does not have the name.
 fn own_number(
     numbered: Numbered,
     side: &IndexedFile<'_>,
@@ -57,14 +57,14 @@ fn own_number(
     }
 }
 
-/// Whether a name is shown as one that is missing.
+/// Whether a name is shown as a missing one.
 fn is_omitted(name: Option<&[u8]>) -> bool
     ensures { OnTrue result (unwrap_or (option_copied name.entry) (codes "<name omitted>") ≡ codes "<name omitted>") }
 {
     name_or_omitted(name) == name_omitted()
 }
 
-/// The number under which the first file has the origin of a number, or none where no name is shown.
+/// The number under which the first file has the origin of a number, or none if no name is shown.
 fn own_origin(side: &IndexedFile<'_>, origins: &[Alias], origin: Option<u32>) -> Option<Option<u32>>
     ensures { IfSome result (λ found. (own : List SymLine) → AreAliases Origins own side.now origins.now → unwrap_or (option_and_then (text_origin own) found) (codes "<name omitted>") ≡ unwrap_or (option_and_then (text_origin side.now) origin) (codes "<name omitted>")) }
 {
@@ -99,7 +99,7 @@ impl<'b, 'f> Calls<'b, 'f> {
         self.side
     }
 
-    /// The call that the `INLINE` at a place says, where the first file has its names.
+    /// The call of the `INLINE` at a place, if the first file has its names.
     pub(crate) fn at(&self, place: usize) -> Option<CallSpot>
         ensures { IfSome result (λ call. shown_call self.now.own call ≡ shown (call_at self.now.other place)) }
     {

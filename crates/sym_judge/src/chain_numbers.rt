@@ -1,4 +1,4 @@
-//! Numbers of chains of calls: chains of one number are the same, whichever file they are of.
+//! Numbers of chains of calls: chains with one number are the same, whichever file they are from.
 ghost use Rattle.std.specs.Prelude.{◌≡◌, [], Some, slice_get, IfOk, OnOk, IfSome};
 ghost use Rattle.std.specs.Bool.{OnTrue};
 ghost use Rattle.sym_judge.specs.declared.chain_numbers.Entry.TheVariants.{Call, Joined};
@@ -9,14 +9,14 @@ use std::alloc::Global;
 use std::collections::BTreeMap;
 use sym_edges::OutOfMemory;
 
-/// The chain of a number: one call, by the numbers of the first file, or the chains of two numbers, one behind the other.
+/// The chain of a number: one call, given by the numbers of the first file, or the chains of two numbers, one after the other.
 #[derive(Clone, Copy)]
 pub enum Entry {
     Call(CallSpot),
     Joined(u32, u32),
 }
 
-/// What each number stands for, and the number of each call and of each two chains that were met.
+/// What each number stands for, and the numbers of the calls and of the pairs of chains so far.
 #[derive(Drop)]
 pub(crate) struct Numbers {
     entries: Vec<Entry>,
@@ -44,7 +44,7 @@ fn is_same_number(a: Option<u32>, b: Option<u32>) -> bool
     }
 }
 
-/// Whether two calls are named by the same numbers.
+/// Whether two calls are given by the same numbers.
 fn is_same_spot(a: CallSpot, b: CallSpot) -> bool
     ensures { OnTrue result (a ≡ b) }
 {
@@ -53,7 +53,7 @@ fn is_same_spot(a: CallSpot, b: CallSpot) -> bool
         && is_same_number(a.origin, b.origin)
 }
 
-/// Whether a number is that of a call.
+/// Whether a number stands for a call.
 fn is_of_call(entries: &[Entry], number: u32, call: CallSpot) -> bool
     ensures { OnTrue result (slice_get entries.now number ≡ Some (Call call)) }
 {
@@ -63,7 +63,7 @@ fn is_of_call(entries: &[Entry], number: u32, call: CallSpot) -> bool
     }
 }
 
-/// Whether a number is that of two chains.
+/// Whether a number stands for two chains, one after the other.
 fn is_of_joined(entries: &[Entry], number: u32, front: u32, back: u32) -> bool
     ensures { OnTrue result (slice_get entries.now number ≡ Some (Joined front back)) }
 {
@@ -73,7 +73,7 @@ fn is_of_joined(entries: &[Entry], number: u32, front: u32, back: u32) -> bool
     }
 }
 
-/// A new number, as long as it is below 2^32.
+/// A new number, if there is one below 2^32.
 fn push_entry(entries: &mut Vec<Entry>, entry: Entry) -> Result<Option<u32>, OutOfMemory>
     ensures keeps { OnOk result (Keeps entries.old.items entries.new.items) }
     ensures number { IfOk result (λ number. IfSome number (λ n. slice_get entries.new.items n ≡ Some entry)) }
@@ -104,7 +104,7 @@ pub(crate) fn call_number(numbers: &mut Numbers, call: CallSpot) -> Result<Optio
     Ok(Some(number))
 }
 
-/// The number of two chains, one behind the other.
+/// The number of two chains, one after the other.
 pub(crate) fn joined_number(
     numbers: &mut Numbers,
     front: u32,

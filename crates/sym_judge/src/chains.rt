@@ -1,5 +1,5 @@
-//! The chains of calls of functions with many levels, by their numbers: one map from addresses for each function, so that two chains are
-//! compared by two numbers.
+//! The chains of calls of functions with many levels, by their numbers: one map from addresses for each function, so that comparing two chains is
+//! comparing two numbers.
 ghost use Rattle.std.specs.Prelude.{◌≡◌, ◌≤◌, ◌<◌, ◌^◌, ◌++◌, ◌&&◌, ℕ, Bool, true, false, [], ◌∷◌, List, Option, IfOk, OnOk, IfSome, length, slice_get, if◌then◌else◌};
 ghost use Rattle.std.specs.Bool.{OnTrue};
 ghost use Rattle.std.specs.Option.{is_some};
@@ -28,13 +28,13 @@ pub(crate) type LevelMap = StepMap<Option<FirstItem>>;
 /// The calls that some levels have at an address.
 #[derive(Clone, Copy)]
 pub enum ChainPart {
-    /// The first level has none.
+    /// The first level has no call.
     Nothing,
-    /// Each level has one, and their chain has this number.
+    /// Each level has a call, and their chain has this number.
     Whole(u32),
-    /// Some level has none, and the chain of those above it has this number.
+    /// Some level has no call; the chain of the levels before it has this number.
     Ended(u32),
-    /// Their chain has no number: the first file does not have one of the calls.
+    /// The chain has no number: the first file does not have one of the calls.
     Unlike,
 }
 
@@ -55,7 +55,7 @@ pub struct FuncChains {
     pub chains: ChainMap,
 }
 
-/// The levels up to which chains are compared call by call, and nothing is held of them.
+/// The number of levels up to which chains are compared call by call; no map is made of them.
 const FEW: usize = 16;
 
 fn stop_at(stops: &[u64], index: usize) -> Option<u64>
@@ -64,7 +64,7 @@ fn stop_at(stops: &[u64], index: usize) -> Option<u64>
     stops.get(index).copied()
 }
 
-/// The calls of a map from an address on, and up to where they are the same.
+/// The calls of a map from an address on, and an end up to which they are the same.
 fn part_run(map: &ChainMap, address: u64) -> PartRun
     ensures above { IsBefore result.end address }
     ensures same { (y : ℕ) → address ≤ y → IsBefore result.end y → value_at Nothing map.now y ≡ result.part }
@@ -77,7 +77,7 @@ fn part_run(map: &ChainMap, address: u64) -> PartRun
     }
 }
 
-/// Calls of a number, where each level has one, or where some level has none.
+/// The calls of a number; `full` says that each level has one.
 fn numbered(number: Option<u32>, full: bool) -> ChainPart
     ensures { (own : List SymLine) (entries : List Entry) (calls : List Shown) → IfSome number (λ n. Means own entries n calls) → IsPart own entries calls full result }
 {
@@ -88,7 +88,7 @@ fn numbered(number: Option<u32>, full: bool) -> ChainPart
     }
 }
 
-/// The call of a level, by the place of its `INLINE`.
+/// The call of a level, given the place of its `INLINE`.
 fn level_part(
     calls: &Calls<'_, '_>,
     numbers: &mut Numbers,
@@ -107,7 +107,7 @@ fn level_part(
     Ok(numbered(number, true))
 }
 
-/// The calls of levels of which each in front has one, by their number and those of the others.
+/// The calls of levels, given the number of the first levels, of which each has a call, and the calls of the others.
 fn longer_part(
     numbers: &mut Numbers,
     number: u32,
@@ -124,7 +124,7 @@ fn longer_part(
     }
 }
 
-/// The calls of levels, by those of the levels in front and those of the others.
+/// The calls of levels, given those of the first levels and those of the others.
 fn joined_part(
     numbers: &mut Numbers,
     front: ChainPart,
@@ -162,7 +162,7 @@ fn level_map(
     }
 }
 
-/// The calls of levels at each address, by those of the levels in front and those of the others.
+/// The calls of levels at each address, given those of the first levels and those of the others.
 fn joined_map(
     alloc: Global,
     numbers: &mut Numbers,
@@ -186,7 +186,8 @@ fn joined_map(
     }
 }
 
-/// At how many levels more of them are cut: at the greatest power of two below their count, so that equal chains are cut alike.
+/// The number of levels in the first part when levels are split in two: the greatest power of two below their count, so that equal chains are split
+/// alike.
 fn half_of(count: usize) -> usize
     requires { 1 < count }
     ensures some { 0 < result }
@@ -199,7 +200,7 @@ fn half_of(count: usize) -> usize
     half
 }
 
-/// The calls of levels at each address, by halves of the levels.
+/// The calls of levels at each address, by splitting the levels in two.
 fn chain_map(
     alloc: Global,
     calls: &Calls<'_, '_>,
@@ -219,7 +220,7 @@ fn chain_map(
     joined_map(alloc, numbers, &first, &second)
 }
 
-/// The levels of a function with many.
+/// The levels of a function, if it has many.
 fn many_levels<'f>(side: &IndexedFile<'f>, func: usize) -> Option<&'f [LevelMap]>
     ensures some { IfSome result (λ levels. 0 < length levels.now) }
     ensures chain { IfSome result (λ levels. (x : ℕ) → x < 2 ^ 64 → chain_in levels.now x ≡ chain_places side.now func x) }
@@ -256,7 +257,7 @@ fn push_func(
     Ok(())
 }
 
-/// The chains of functions with many levels, each once, of places in their order.
+/// The chains of functions with many levels, each once; the places of the functions are given in their order.
 pub(crate) fn func_chains(
     alloc: Global,
     calls: &Calls<'_, '_>,
@@ -276,7 +277,7 @@ pub(crate) fn func_chains(
     Ok(funcs)
 }
 
-/// The chains of the function at a place, by halves.
+/// The chains of the function at a place, by binary search.
 pub(crate) fn chains_of(funcs: &[FuncChains], func: usize) -> Option<&ChainMap>
     ensures { IfSome result (λ map. (own lines : List SymLine) (entries : List Entry) → AreFuncChains own lines entries funcs.now → IsChainMap own lines entries func map.now) }
 {
@@ -291,7 +292,7 @@ pub(crate) fn chains_of(funcs: &[FuncChains], func: usize) -> Option<&ChainMap>
     Some(&known.chains)
 }
 
-/// Whether no calls are there.
+/// Whether there are no calls.
 fn is_nothing(part: ChainPart) -> bool
     ensures { OnTrue result ((own : List SymLine) (entries : List Entry) (calls : List Shown) (full : Bool) → IsPart own entries calls full part → calls ≡ []) }
 {
@@ -312,7 +313,7 @@ fn has_number(part: ChainPart, number: u32) -> bool
     }
 }
 
-/// Whether calls have one number, or none are there.
+/// Whether calls have one number, or there are none on either side.
 pub(crate) fn have_one_number(a: ChainPart, b: ChainPart) -> bool
     ensures { OnTrue result ((own : List SymLine) (entries : List Entry) (c d : List Shown) (f g : Bool) → IsPart own entries c f a → IsPart own entries d g b → c ≡ d) }
 {

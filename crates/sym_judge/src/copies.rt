@@ -1,4 +1,4 @@
-//! Whether a file is a copy of another one, record for record: such files say the same, and nothing is made of them.
+//! Whether a file is a copy of another one, record for record: such files say the same, and nothing more is computed for them.
 ghost use Rattle.std.specs.Prelude.{◌≡◌, map};
 ghost use Rattle.std.specs.Bool.{OnTrue};
 ghost use Rattle.sym_records.specs.Listed.{said};

@@ -1,4 +1,4 @@
-//! Where two files may differ: one pass over the blocks of both, which says of most addresses that they do not.
+//! Where two files may differ: one pass over the blocks of both shows for most addresses that the files do not differ there.
 ghost use Rattle.std.specs.Prelude.{◌≡◌, ◌≤◌, ◌<◌, ◌^◌, ℕ, nat_le, true, false, if◌then◌else◌, Some, IfOk, OnOk};
 ghost use Rattle.std.specs.Bool.{OnTrue};
 ghost use Rattle.step_maps.specs.Stepping.{value_at, last_from};
@@ -24,7 +24,7 @@ pub(crate) fn nearer(a: Option<u64>, b: Option<u64>) -> Option<u64>
     }
 }
 
-/// Notes what is so from an address on, where that was not known yet.
+/// Notes what holds from an address on, if it did not hold before.
 fn note(
     doubts: &mut StepMap<bool>,
     known: bool,
@@ -42,7 +42,7 @@ fn note(
     doubts.set(address, doubted)
 }
 
-/// Where two files may differ in a half.
+/// The addresses at which two files may differ in a half.
 pub(crate) fn doubts_of(
     alloc: Global,
     half: Half,

@@ -1,4 +1,4 @@
-//! The two files that are judged, with the numbers under which both name the same.
+//! The two files that are judged, with the numbers under which both have one name.
 ghost use Rattle.std.specs.Prelude.{◌≡◌, IfOk};
 ghost use Rattle.sym_judge.specs.internal.Aliases.{AreAliasesOf};
 ghost use Rattle.sym_judge.specs.internal.Blocks.{same_name, AreTold, is_told, are_told};
@@ -13,14 +13,14 @@ use std::marker::Model;
 use sym_edges::OutOfMemory;
 use sym_records::SymLine;
 
-/// Of the numbers of a kind some under which two files have one name: those that are told by their places, and others.
+/// Some numbers of a kind under which two files have one name: numbers that are the same in both files, by a list (`told`), and others.
 #[derive(Drop)]
 pub struct OneNames {
     pub told: Vec<bool>,
     pub aliases: Aliases,
 }
 
-/// Two files, and of their numbers of `FILE` and of `INLINE_ORIGIN` records some under which both have one name. Contracts see the records.
+/// Two files, with some of their `FILE` and `INLINE_ORIGIN` numbers under which both have one name. Contracts see the records.
 #[derive(Drop)]
 pub(crate) struct FilePair<'f> {
     own: IndexedFile<'f>,
@@ -41,7 +41,7 @@ impl<'f> Model for FilePair<'f> {
     ghost invariant = { λ b. AreOneNames Files b.own b.other b.paths × AreOneNames Origins b.own b.other b.origins };
 }
 
-/// How many records of a kind there are.
+/// The number of records of a kind.
 fn count_of(numbered: Numbered, lines: &[SymLine]) -> u32 {
     let mut count = 0u32;
     'lines: for line in lines {
@@ -70,7 +70,7 @@ fn is_one_name(
     }
 }
 
-/// Of the numbers that the records of a kind have where each has its own, from 0 on, whether both files have one name under it.
+/// For each number below the count of the first file's records of a kind, whether both files have one name under it.
 fn same_names(
     alloc: Global,
     numbered: Numbered,
@@ -87,7 +87,7 @@ fn same_names(
     Ok(told)
 }
 
-/// Whether a number is told.
+/// Whether the list is true at a number.
 fn is_told(told: &[bool], number: u32) -> bool
     ensures { result ≡ is_told told.now number }
 {
@@ -97,14 +97,14 @@ fn is_told(told: &[bool], number: u32) -> bool
     }
 }
 
-/// Whether two numbers are one that is told.
+/// Whether two numbers are equal, and the list is true at them.
 fn are_told(told: &[bool], a: u32, b: u32) -> bool
     ensures { result ≡ are_told told.now a b }
 {
     a == b && is_told(told, a)
 }
 
-/// The numbers that have one name, where there may be others than those that are told.
+/// The numbers that have one name; none are looked for if the list has all numbers.
 fn aliases_beside<'f>(
     alloc: Global,
     numbered: Numbered,

@@ -1,4 +1,4 @@
-//! One of the two files, with the rules of its long INITs held by addresses.
+//! One of the two files, with maps of the rules of its long INITs.
 ghost use Rattle.std.specs.Prelude.{◌≡◌, ◌<◌, length, Some, IfOk, IfSome};
 ghost use Rattle.cfi_eval.specs.Inits.{init_place};
 ghost use Rattle.sym_judge.specs.Forms.{form_by};
@@ -38,7 +38,7 @@ impl<'a, 'f> Model for FileRules<'a, 'f> {
 }
 
 impl<'a, 'f> FileRules<'a, 'f> {
-    /// A file of which nothing is held.
+    /// A file without such maps.
     pub(crate) fn bare(alloc: Global, side: &'a IndexedFile<'f>) -> FileRules<'a, 'f>
         ensures { result ≡ side.now }
     {
@@ -49,7 +49,7 @@ impl<'a, 'f> FileRules<'a, 'f> {
         }
     }
 
-    /// A file with the rules of its long INITs.
+    /// A file with the maps of its long INITs.
     pub(crate) fn of(
         alloc: Global,
         side: &'a IndexedFile<'f>,
@@ -75,7 +75,7 @@ impl<'a, 'f> FileRules<'a, 'f> {
         self.side.init_at(address)
     }
 
-    /// The rules at an address that the INIT at a place covers, the first that does.
+    /// The rules at an address; the INIT at the given place is the first that covers it.
     pub(crate) fn table_at(&self, init: usize, address: u64) -> RuleTable
         requires within { init < length self.now }
         requires first { init_place self.now address ≡ Some init }
@@ -87,7 +87,7 @@ impl<'a, 'f> FileRules<'a, 'f> {
         }
     }
 
-    /// The form of the rule of a target at a place, or of a missing one. That of a long rule is held.
+    /// The form of the rule of a target at a place, or of a missing rule. The form of a long rule is cached.
     pub(crate) fn form_at(
         &self,
         alloc: Global,

@@ -60,7 +60,7 @@ fn taken(a: Sum, b: Sum) -> Option<Sum>
     }
 }
 
-/// The sum on top of the stack is taken.
+/// Takes the sum from the top of the stack.
 #[tactic(auto, using(crate::proofs::StackLemmas::no_sum_none, crate::proofs::StackLemmas::no_sum_fetched))]
 fn pop_sum(stack: &mut Vec<Term>) -> Option<Sum>
     ensures { MatchOption result (HasNoSum stack.old.items) (λ s. reverse stack.old.items ≡ Term.Plain s ∷ reverse stack.new.items) }
@@ -72,7 +72,7 @@ fn pop_sum(stack: &mut Vec<Term>) -> Option<Sum>
     }
 }
 
-/// The two sums on top of the stack are taken, and given in the order in which they were pushed.
+/// Takes the two sums from the top of the stack, and returns them in the order in which they were pushed.
 #[tactic(auto, using(crate::proofs::StackLemmas::none_no_two, crate::proofs::StackLemmas::one_no_two))]
 fn pop_two(stack: &mut Vec<Term>) -> Option<(Sum, Sum)>
     ensures { MatchOption result (HasNoTwo stack.old.items) (λ two. reverse stack.old.items ≡ Term.Plain two.1 ∷ Term.Plain two.0 ∷ reverse stack.new.items) }
@@ -91,7 +91,7 @@ fn plain(sum: Option<Sum>) -> Option<Term>
     }
 }
 
-/// The term that a word leaves on the stack, once those that it takes are taken from it.
+/// The term that a word leaves on the stack, after the terms that it takes were taken off.
 #[tactic(auto, unfolding(crate::specs::Forms::with_word))]
 fn term_after(word: &Token, inside: bool, stack: &mut Vec<Term>) -> Option<Term>
     ensures { MatchOption result
@@ -132,7 +132,7 @@ fn term_after(word: &Token, inside: bool, stack: &mut Vec<Term>) -> Option<Term>
     }
 }
 
-/// The one term that words leave.
+/// The term of a stack, if it has only one.
 fn one_term(stack: &[Term]) -> Option<Term>
     ensures { result ≡ one_of (reverse stack.now) }
 {
@@ -142,7 +142,7 @@ fn one_term(stack: &[Term]) -> Option<Term>
     }
 }
 
-/// What words add up, where they do nothing else.
+/// The sum or fetch that words compute, if they do nothing else.
 fn term_of(alloc: Global, inside: bool, words: &[Token]) -> Result<Option<Term>, OutOfMemory>
     ensures { IfOk result (λ t. t ≡ term_of inside words.now) }
 {
@@ -166,7 +166,7 @@ fn is_undefined(words: &[Token]) -> bool
     }
 }
 
-/// The form of a rule's words. `inside` says that it is the CFA's rule.
+/// The form of a rule's words. `inside` says that the rule is the CFA's.
 #[tactic(auto, using(crate::proofs::StackLemmas::form_undefined, crate::proofs::StackLemmas::form_defined))]
 pub(crate) fn form_of<'r>(
     alloc: Global,
@@ -184,7 +184,7 @@ pub(crate) fn form_of<'r>(
     }
 }
 
-/// The form of a missing rule: a register that a call keeps has its value, rsp is the CFA, and of the others nothing is known.
+/// The form of a missing rule: a register that a call keeps has its value, rsp is the CFA, and nothing is known of the others.
 #[tactic(auto, unfolding(sym_edges::specs::Abi::default_of, sym_edges::specs::Abi::is_kept))]
 pub(crate) fn missing_form(target: &Target) -> Form<'static>
     ensures { form_view result ≡ missing_form target.now }
@@ -208,14 +208,14 @@ pub(crate) fn missing_form(target: &Target) -> Form<'static>
     Form::NoValue
 }
 
-/// Whether the rules of the target are those of the CFA.
+/// Whether the target is the CFA.
 pub(crate) fn is_cfa(target: &Target) -> bool
     ensures { result ≡ is_cfa target.now }
 {
     matches!(target, Target::Cfa)
 }
 
-/// The form of a target's rule, or of a missing one.
+/// The form of a target's rule, or of a missing rule.
 pub(crate) fn form_by<'r>(
     alloc: Global,
     target: &Target,
@@ -268,7 +268,7 @@ pub(crate) fn are_same_words(a: &[Token], b: &[Token]) -> bool
     back.is_empty()
 }
 
-/// Whether two forms are one.
+/// Whether two forms are the same.
 pub(crate) fn is_same_form(a: Form<'_>, b: Form<'_>) -> bool
     ensures { result ≡ same_form (form_view a.entry) (form_view b.entry) }
 {

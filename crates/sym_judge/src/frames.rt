@@ -21,7 +21,7 @@ use std::marker::Model;
 use sym_edges::OutOfMemory;
 use sym_rules::{Target, Token};
 
-/// The frame rules of two files, and which of the long ones are in the same words. Contracts see the records.
+/// The frame rules of two files, and which of the long ones have the same words. Contracts see the records.
 #[derive(Drop)]
 pub(crate) struct RulePair<'a, 'f> {
     own: FileRules<'a, 'f>,
@@ -40,7 +40,7 @@ impl<'a, 'f> Model for RulePair<'a, 'f> {
     ghost invariant = { λ r. AreRuleAliasesOf r.own r.other r.aliases };
 }
 
-/// Whether words, or missing ones, have one form as the rule of a target. Of equal words it takes no memory.
+/// Whether words, or missing ones, have one form as the rule of a target. For equal words it allocates no memory.
 #[tactic(auto, using(crate::proofs::FrameLemmas::same_words_same_form))]
 fn is_same_rule(
     alloc: Global,
@@ -68,7 +68,7 @@ fn are_few(words: Option<&[Token]>) -> bool {
     }
 }
 
-/// What differs where no INIT of the own file covers the address.
+/// What differs if no INIT of the first file covers the address.
 fn alone(init: Option<usize>) -> Option<Aspect>
     ensures { MatchOption init (result ≡ None) (λ _. result ≡ Some Aspect.Init) }
 {
@@ -79,7 +79,7 @@ fn alone(init: Option<usize>) -> Option<Aspect>
 }
 
 impl<'a, 'f> RulePair<'a, 'f> {
-    /// Two files of which nothing is held.
+    /// Two files without maps of their rules.
     pub(crate) fn bare(alloc: Global, both: &'a FilePair<'f>) -> RulePair<'a, 'f>
         ensures { result ≡ both.now }
     {
@@ -90,7 +90,7 @@ impl<'a, 'f> RulePair<'a, 'f> {
         }
     }
 
-    /// Two files with the rules of their long INITs.
+    /// Two files with the maps of their long INITs.
     pub(crate) fn of(alloc: Global, both: &'a FilePair<'f>) -> Result<RulePair<'a, 'f>, OutOfMemory>
         ensures { IfOk result (λ rules. rules ≡ both.now) }
     {
@@ -163,7 +163,7 @@ impl<'a, 'f> RulePair<'a, 'f> {
         self.first_register(alloc, a, b)
     }
 
-    /// What differs of the frame rules at an address.
+    /// What differs in the frame rules at an address.
     pub(crate) fn first_aspect(
         &self,
         alloc: Global,

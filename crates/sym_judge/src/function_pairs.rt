@@ -1,4 +1,4 @@
-//! Functions of both files that meet at addresses where the files may differ: what is found out once for one of them or for two.
+//! Functions of both files that meet at addresses at which the files may differ: what is found out once for one function or for two.
 ghost use Rattle.std.specs.Prelude.{◌≡◌, List, IfOk, OnOk, IfSome};
 ghost use Rattle.std.specs.Str.{bytes_eq};
 ghost use Rattle.sym_lookup.specs.AnswerTexts.{func_name_at};
@@ -32,7 +32,8 @@ pub struct FuncPair {
     pub same_name: bool,
 }
 
-/// What is known of functions that meet: of two with long names or many levels, and the chains of those with many levels, in their order.
+/// What is known of functions that meet: for two with long names or many levels, whether they have one name; and the chains of those with many
+/// levels, in their order.
 #[derive(Drop)]
 pub struct FuncMeetings {
     pub pairs: Vec<FuncPair>,
@@ -40,7 +41,7 @@ pub struct FuncMeetings {
     pub other: Vec<FuncChains>,
 }
 
-/// The length in bytes up to which names are compared where they meet.
+/// The length in bytes up to which two names are compared at each meeting.
 const SHORT: usize = 256;
 
 /// A number for two places, by which meetings are sorted.
@@ -50,7 +51,7 @@ fn key_of(own: usize, other: usize) -> u64 {
         .wrapping_add(other as u64)
 }
 
-/// Adds a meeting where both files have a function.
+/// Adds a meeting, if both files have a function.
 fn push_meeting(
     meetings: &mut Vec<Meeting>,
     own: Option<usize>,
@@ -91,7 +92,7 @@ fn meetings(
     }
 }
 
-/// Each two functions once, of meetings in the order of their functions.
+/// Each pair of functions once, given the meetings in the order of their functions.
 fn distinct(alloc: Global, meetings: &[Meeting]) -> Result<Vec<Meeting>, OutOfMemory> {
     let mut distinct = Vec::new(alloc);
     'meetings: for at in 0..meetings.len() {
@@ -108,7 +109,7 @@ fn have_many(both: &FilePair<'_>, met: &Meeting) -> bool {
     has_many(both.own(), met.own) && has_many(both.other(), met.other)
 }
 
-/// Adds whether two functions have one name, where they have long names or many levels.
+/// Adds whether two functions have one name, if both names are long or both functions have many levels.
 fn push_pair(
     pairs: &mut Vec<FuncPair>,
     both: &FilePair<'_>,
@@ -161,7 +162,7 @@ fn many_in(
     Ok((own, other))
 }
 
-/// The chains of the functions of both files that stand at places, by one numbering.
+/// The chains of functions of both files, whose places are given, numbered by the same entries.
 fn numbered(
     alloc: Global,
     both: &FilePair<'_>,
@@ -180,7 +181,7 @@ fn numbered(
     Ok((own, other))
 }
 
-/// What is known of functions of which none meet.
+/// What is known if no functions meet.
 pub(crate) fn no_meetings(alloc: Global) -> FuncMeetings
     ensures { (own other : List SymLine) → AreFuncMeetings own other result }
 {
@@ -215,7 +216,7 @@ pub(crate) fn func_meetings(
     Ok(FuncMeetings { pairs, own, other })
 }
 
-/// Whether two functions have one name, where that is known.
+/// Whether two functions have one name, if that is known.
 pub(crate) fn pair_of(pairs: &[FuncPair], own: usize, other: usize) -> Option<&FuncPair>
     ensures own { IfSome result (λ pair. pair.now.met.own ≡ own) }
     ensures other { IfSome result (λ pair. pair.now.met.other ≡ other) }

@@ -13,7 +13,7 @@ use std::marker::Model;
 use step_maps::StepMap;
 use sym_edges::OutOfMemory;
 
-/// Two files, and what is found out once of them for one half. Contracts see the half and the records.
+/// Two files, and what is found out of them once for one half. Contracts see the half and the records.
 #[derive(Drop)]
 pub(crate) struct HalfComparison<'a, 'f> {
     half: Half,
@@ -35,7 +35,7 @@ impl<'a, 'f> Model for HalfComparison<'a, 'f> {
 }
 
 impl<'a, 'f> HalfComparison<'a, 'f> {
-    /// Two files that may differ at some addresses, and are compared at the stops.
+    /// Two files that may differ at some addresses; they will be compared at the stops.
     pub(crate) fn of(
         alloc: Global,
         half: Half,

@@ -1,4 +1,4 @@
-//! The forms of long rules, each made once.
+//! The forms of long rules, each computed once.
 ghost use Rattle.std.specs.Prelude.{◌≡◌, ◌<◌, ℕ, List, length, Some, IfOk, OnOk, IfSome};
 ghost use Rattle.sym_records.specs.declared.line.SymLine.{SymLine};
 ghost use Rattle.sym_rules.specs.declared.rules.Token.{Token};
@@ -14,7 +14,7 @@ use sym_edges::OutOfMemory;
 use sym_records::SymLine;
 use sym_rules::{RuleText, Token};
 
-/// The form of a rule, by the rule's place. `inside` says that it is the CFA's.
+/// The form of a rule, with the rule's place. `inside` says that the rule is the CFA's.
 #[derive(Clone, Copy)]
 pub struct HeldForm<'f> {
     pub place: RulePlace,
@@ -22,15 +22,15 @@ pub struct HeldForm<'f> {
     pub form: Form<'f>,
 }
 
-/// The number of words up to which the form of a rule is made where it is compared.
+/// The number of words up to which the form of a rule is computed at each comparison.
 const FEW: usize = 16;
 
-/// Whether there are too many words to make their form anew at each use.
+/// Whether there are too many words to compute their form at each use.
 pub(crate) fn are_many(words: &[Token]) -> bool {
     words.len() > FEW
 }
 
-/// Adds the form of a rule, where it is long.
+/// Adds the form of a rule, if the rule is long.
 fn push_form<'f>(
     alloc: Global,
     forms: &mut Vec<HeldForm<'f>>,
@@ -52,7 +52,7 @@ fn push_form<'f>(
     Ok(())
 }
 
-/// Adds those of the record at a place.
+/// Adds the forms of the long rules of the record at a place.
 fn push_forms<'f>(
     alloc: Global,
     forms: &mut Vec<HeldForm<'f>>,
@@ -81,7 +81,7 @@ pub(crate) fn held_forms<'f>(
     Ok(forms)
 }
 
-/// The form of the rule at a place, where it is held.
+/// The form of the rule at a place, if it is cached.
 #[tactic(auto, using(crate::proofs::HeldFormLemmas::form_there))]
 pub(crate) fn held_form<'f>(
     forms: &[HeldForm<'f>],

@@ -59,7 +59,7 @@ impl<'f> IndexedFile<'f> {
         self.index.init_at(address)
     }
 
-    /// The first block of a half that covers an address, and up to where it is the same.
+    /// The first block of a half that covers an address, and an end up to which it stays the first.
     pub(crate) fn run_at(&self, half: Half, address: u64) -> PlaceRun
         ensures { IsPlaceRun (block_place half self.now) address result }
     {
@@ -76,14 +76,14 @@ impl<'f> IndexedFile<'f> {
         self.index.func_at(address)
     }
 
-    /// The levels of the `FUNC` at a place, where the index holds them.
+    /// The levels of the `FUNC` at a place, if the index has them.
     pub(crate) fn levels(&self, func: usize) -> Option<&'f [StepMap<Option<FirstItem>>]>
         ensures { IfSome result (λ levels. (x : ℕ) → x < 2 ^ 64 → chain_in levels.now x ≡ chain_places self.now func x) }
     {
         self.index.levels(func)
     }
 
-    /// The place of the line record at an address under the `FUNC` at a place, where the index holds them.
+    /// The place of the line record at an address under the `FUNC` at a place, if the index has what is under it.
     pub(crate) fn line_at(&self, func: usize, address: u64) -> Option<Option<usize>>
         ensures { IfSome result (λ line. line ≡ line_place self.now func address) }
     {

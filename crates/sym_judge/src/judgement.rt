@@ -35,7 +35,7 @@ fn with_found(ruling: Ruling, address: u64, found: Option<Aspect>) -> Ruling
     }
 }
 
-/// What is known once an address is looked at. One above an address where the files differ is not looked at.
+/// The ruling after an address is looked at. If the files differ at an address below it, it is not looked at.
 #[tactic(auto, unfolding(crate::specs::internal::Stops::with_stop))]
 fn with_stop(
     alloc: Global,
@@ -53,7 +53,7 @@ fn with_stop(
     Ok(with_found(ruling, address, found))
 }
 
-/// What is known once some addresses are looked at.
+/// The ruling after some addresses are looked at.
 fn with_stops(
     alloc: Global,
     compared: &HalfComparison<'_, '_>,
@@ -69,7 +69,7 @@ fn with_stops(
     Ok(known)
 }
 
-/// The ruling of one half. The least address is looked at first, so at most one is found at which the files differ.
+/// The ruling of one half. The addresses are looked at in ascending order, so at most one is found at which the files differ.
 fn half_ruling(alloc: Global, half: Half, both: &FilePair<'_>) -> Result<Ruling, OutOfMemory>
     ensures { IfOk result (λ r. IsHalfRuling half both.now.own both.now.other r) }
 {
@@ -86,7 +86,7 @@ fn half_ruling(alloc: Global, half: Half, both: &FilePair<'_>) -> Result<Ruling,
     Ok(ruling)
 }
 
-/// Of two rulings the one with the lesser address; of equal ones the first.
+/// The ruling with the lesser address; if the addresses are equal, the first.
 fn sooner(a: Ruling, b: Ruling) -> Ruling
     ensures { result ≡ sooner a b }
 {
@@ -108,7 +108,7 @@ fn sooner(a: Ruling, b: Ruling) -> Ruling
     }
 }
 
-/// The index of a file. One of 2^32 records is longer than a symbol file may be.
+/// The index of a file. A file of 2^32 records is longer than a symbol file may be.
 fn index_of(alloc: Global, file: &SymFile) -> Result<Index, OutOfMemory>
     ensures { IfOk result (λ index. IsIndexOf file.now index) }
 {

@@ -1,4 +1,4 @@
-//! What holds of forms and of rulings. Each function does nothing: its contract is the law.
+//! Theorems about forms and rulings. Each function does nothing: its contract is the law.
 ghost use Rattle.std.specs.Prelude.{◌≡◌, ◌<◌, ◌^◌, ℕ, List, Option, None, Some};
 ghost use Rattle.cfi_eval.specs.declared.memory.MemRun.{MemRun};
 ghost use Rattle.cfi_eval.specs.declared.outcome.Outcome.{Outcome};
@@ -15,8 +15,8 @@ ghost use Rattle.sym_judge.specs.SameMeaning.{NameTheSame, UnwindTheSame};
 ghost use Rattle.sym_judge.specs.declared.ruling.Ruling.{Ruling};
 ghost use Rattle.sym_judge.specs.declared.ruling.Ruling.TheVariants.{Yes};
 
-/// What the rule of a target gives, or a missing rule, is what its form gives, for all memory, all registers of 64 bits and every CFA of the
-/// frame that is not undefined.
+/// The rule of a target, or a missing rule, gives what its form gives: for all memory, all registers of 64 bits and every CFA of the frame that is
+/// not undefined.
 #[tactic(auto, using(crate::proofs::FormLemmas::cfa_gives, crate::proofs::FormLemmas::ra_gives, crate::proofs::FormLemmas::register_gives))]
 pub fn rules_give_what_their_forms_give()
     ensures cfa { (regs : Regs) (memory : List MemRun) (rule : Option (List Token)) → AreWords regs → cfa_by regs memory rule ≡ form_value regs memory None (form_by target.Cfa rule) }
@@ -32,8 +32,8 @@ pub fn equal_forms_give_equal_outcomes()
     ensures register { (regs : Regs) (memory : List MemRun) (cfa : Outcome) (register : ℕ) (a b : Option (List Token)) → AreWords regs → IsKnown cfa → form_by (target.Reg register) a ≡ form_by (target.Reg register) b → register_by regs memory cfa register a ≡ register_by regs memory cfa register b }
 {}
 
-/// Where `judge` says yes, both files name the same at every address, and at each evaluating the frame rules of the second gives what those
-/// of the first give.
+/// If `judge` says yes, both files name the same at every address, and there evaluating the frame rules of the second gives what those of the first
+/// give.
 #[tactic(auto, using(crate::proofs::LawLemmas::yes_names, crate::proofs::LawLemmas::yes_frames))]
 pub fn yes_keeps_the_meaning()
     ensures names { (own other : List SymLine) (x : ℕ) → IsRuling own other Yes → x < 2 ^ 64 → NameTheSame own other x }

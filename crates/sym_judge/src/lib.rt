@@ -1,20 +1,21 @@
 //! Whether two symbol files say the same (Breakpad's symbol_files.md).
 //!
-//! [`judge`] answers yes where, at every address, both files name the same function, the same inlined calls and the same line, and have frame
-//! rules of the same forms; else the least address at which they differ, and the first [`Aspect`] there. Records may stand in another order and
-//! have other numbers, and what `PUBLIC`, `MODULE` and `INFO` say is not looked at.
+//! [`judge`] returns yes if, at every address, both files name the same function, the same inlined calls and the same line, and have frame rules of
+//! the same forms. Otherwise it returns the least address at which they differ, and the first [`Aspect`] in which they differ there. Records may have
+//! another order and other numbers. What `PUBLIC`, `MODULE` and `INFO` say is not compared.
 //!
-//! The form of a rule is what its words add up: a register, the CFA or nothing, and a number; or what memory holds there. So `16 $rsp +` has the
-//! form of `$rsp 16 +`, and a missing rule of a register that a call keeps that of the register. Other words are their own form: that files
-//! differ there does not say that their rules evaluate to other values. [`laws`] say that rules of one form give one outcome, what a yes means
-//! for look-up and unwinding, and that a file says the same as itself.
+//! The form of a rule is the sum that its words compute (a register, the CFA or nothing, plus a number), or what memory holds at such a sum. So
+//! `16 $rsp +` has the form of `$rsp 16 +`. If a register that a call keeps has no rule, the form is the register itself. Other words are their own
+//! form: if files differ in them, their rules may still evaluate to the same values. [`laws`] say that rules of one form give one outcome, what a yes
+//! means for look-up and unwinding, and that a file says the same as itself.
 //!
-//! To read: `specs/Forms.antt`, `specs/Alike.antt`, `specs/Rulings.antt` and `specs/SameMeaning.antt`; then `terms` and `forms`, `rule_tables`
-//! (the rules that count at an address), `rule_maps` (the same by halves, of an INIT with many), `held_forms` (those of long rules),
-//! `rule_aliases` (long rules in the same words), `file_rules` (a file with these) and `frames`; `aliases` (the numbers of one name) and `names`;
-//! `copies` (files of the same records), `blocks` and `doubtful_addresses` (where records say the same in both files, nothing else is looked at);
-//! `calls` (named by the numbers of the first file), `chain_numbers`, `chains` and `function_pairs` (what is found out once for a function and for
-//! two); and `record_stops` (the addresses at which both are looked up), `half_comparison` and `judgement`, on `indexed_files` and `file_pair`.
+//! To read: `specs/Forms.antt`, `specs/Alike.antt`, `specs/Rulings.antt` and `specs/SameMeaning.antt`; then `terms` and `forms`, `rule_tables` (the
+//! rules that count at an address), `rule_maps` (the same by binary search, for an INIT with many rules), `held_forms` (the forms of long rules),
+//! `rule_aliases` (long rules with the same words), `file_rules` (a file with these) and `frames`; `aliases` (the numbers of one name) and `names`;
+//! `copies` (files of the same records), `blocks` and `doubtful_addresses` (if records say the same in both files, nothing else is compared there);
+//! `calls` (named by the numbers of the first file), `chain_numbers`, `chains` and `function_pairs` (what is found out once for a function or for
+//! two); and `record_stops` (the addresses at which both are looked up), `half_comparison` and `judgement`, which use `indexed_files` and
+//! `file_pair`.
 #![tactic(auto)]
 
 mod aliases;

@@ -25,14 +25,14 @@ use sym_edges::OutOfMemory;
 use sym_lookup::Answer;
 use sym_records::SymLine;
 
-/// The number of a file, where there is one, and a line.
+/// The number of a file, if there is one, and a line.
 #[derive(Clone, Copy)]
 pub(crate) struct Spot {
     pub file: Option<u32>,
     pub line: u32,
 }
 
-/// An inlined call: the number of the function's origin, where there is one, and where the call is.
+/// An inlined call: the number of the function's origin, if there is one, and the file and line of the call.
 #[derive(Clone, Copy)]
 pub(crate) struct CallSpot {
     pub origin: Option<u32>,
@@ -110,7 +110,7 @@ fn is_same_spot(both: &FilePair<'_>, a: Spot, b: Spot) -> bool
     is_same_file(both, a.file, b.file) && a.line == b.line
 }
 
-/// Where a line record is.
+/// The file and line of a line record.
 fn spot_of(line: &SymLine) -> Spot
     ensures { (lines : List SymLine) → spot_view lines result ≡ path_and_line lines line.now }
 {
@@ -126,7 +126,7 @@ fn spot_of(line: &SymLine) -> Spot
     }
 }
 
-/// Where the line record at a place is.
+/// The file and line of the line record at a place.
 fn spot_at(side: &IndexedFile<'_>, place: Option<usize>) -> Option<Spot>
     ensures { option_map (spot_view side.now) result ≡ line_at side.now place }
 {
@@ -157,7 +157,7 @@ pub(crate) fn name_or_omitted(name: Option<&[u8]>) -> &[u8]
     }
 }
 
-/// The call that the INLINE at a place says.
+/// The call of the INLINE at a place.
 pub(crate) fn call_at(side: &IndexedFile<'_>, place: usize) -> CallSpot
     ensures name { option_and_then (text_origin side.now) result.origin ≡ (call_at side.now place).name }
     ensures spot { spot_view side.now result.spot ≡ call_spot_of (call_at side.now place) }
@@ -239,7 +239,7 @@ fn is_same_owner(both: &FilePair<'_>, a: &Answer, b: &Answer) -> bool
     )
 }
 
-/// What two answers name differently, where it is known whether their functions have one name.
+/// What two answers name differently, if it is known whether their functions have one name.
 #[tactic(auto, using(crate::proofs::NameLemmas::func_met, crate::proofs::NameLemmas::chain_met, crate::proofs::NameLemmas::line_met, crate::proofs::NameLemmas::none_met))]
 fn first_named(both: &FilePair<'_>, same_owner: bool, a: &Answer, b: &Answer) -> Option<Aspect>
     requires { same_owner ≡ same_option bytes_eq (owner_of both.now.own a.now) (owner_of both.now.other b.now) }
@@ -257,14 +257,14 @@ fn first_named(both: &FilePair<'_>, same_owner: bool, a: &Answer, b: &Answer) ->
     None
 }
 
-/// What differs where all but the line is the same.
+/// What differs if all but the line is the same.
 fn line_alone(same: bool) -> Option<Aspect>
     ensures { result ≡ (if same then None else Some Aspect.Line) }
 {
     if same { None } else { Some(Aspect::Line) }
 }
 
-/// What two functions of one chain name differently at an address, where the line records are known.
+/// What two functions with the same chain name differently at an address, given their line records.
 fn first_in_funcs(
     both: &FilePair<'_>,
     pair: &FuncPair,
@@ -302,7 +302,7 @@ fn have_one_chain(met: &FuncMeetings, pair: &FuncPair, address: u64) -> bool
     )
 }
 
-/// What two functions that are the first at an address name differently there, where their chains have one number.
+/// What two functions that are the first at an address name differently there, if their chains have one number.
 fn first_by_chains(
     both: &FilePair<'_>,
     met: &FuncMeetings,
@@ -323,7 +323,7 @@ fn first_by_chains(
     Some(first_in_funcs(both, pair, address, a, b))
 }
 
-/// What the files name differently at an address, where it may be known whether the functions have one name.
+/// What the files name differently at an address; it may be known whether the functions have one name.
 #[tactic(auto, using(crate::proofs::NameLemmas::names_differ))]
 fn first_by_answers(
     alloc: Global,

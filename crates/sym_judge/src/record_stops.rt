@@ -1,4 +1,4 @@
-//! The addresses at which records begin and have ended, where two files may differ: between two of them nothing changes.
+//! The addresses, at which two files may differ, where records begin or have ended: between two neighbours nothing changes.
 ghost use Rattle.std.specs.Prelude.{◌≡◌, ◌∷◌, [], ◌++◌, ℕ, IfOk, OnOk};
 ghost use Rattle.std.specs.List.{Contains, flat_map};
 ghost use Rattle.sym_judge.specs.internal.Stops.{run_stops, extent_stops, line_stops, stops_of, all_stops, doubted};
@@ -9,7 +9,7 @@ use step_maps::StepMap;
 use sym_edges::OutOfMemory;
 use sym_records::{Extent, SymLine};
 
-/// Adds an address, where the files may differ there.
+/// Adds an address, if the files may differ there.
 fn push_stop(stops: &mut Vec<u64>, doubts: &StepMap<bool>, address: u64) -> Result<(), OutOfMemory>
     ensures { OnOk result (stops.new.items ≡ stops.old.items ++ doubted doubts.now (address ∷ [])) }
 {
@@ -20,7 +20,7 @@ fn push_stop(stops: &mut Vec<u64>, doubts: &StepMap<bool>, address: u64) -> Resu
     Ok(())
 }
 
-/// Adds where a run of addresses begins and has ended.
+/// Adds the address at which a range begins, and the one after its last.
 #[tactic(auto, using(crate::proofs::StopListLemmas::start_kept))]
 fn push_run(
     stops: &mut Vec<u64>,
@@ -38,7 +38,7 @@ fn push_run(
     Ok(())
 }
 
-/// Adds where runs of addresses begin and have ended.
+/// Adds these addresses of several ranges.
 #[tactic(auto, using(crate::proofs::StopListLemmas::more, crate::proofs::StopListLemmas::all_of))]
 fn push_extents(
     stops: &mut Vec<u64>,
@@ -53,7 +53,7 @@ fn push_extents(
     Ok(())
 }
 
-/// Adds where a record begins and has ended.
+/// Adds these addresses of a record.
 fn push_line(
     stops: &mut Vec<u64>,
     half: Half,
@@ -76,7 +76,7 @@ fn push_line(
     }
 }
 
-/// Adds where records begin and have ended.
+/// Adds these addresses of records.
 #[tactic(auto, using(crate::proofs::StopListLemmas::more, crate::proofs::StopListLemmas::all_of))]
 fn push_lines(
     stops: &mut Vec<u64>,
@@ -92,7 +92,7 @@ fn push_lines(
     Ok(())
 }
 
-/// Those of two files in their order, each once: none where the files differ nowhere.
+/// These addresses of two files, sorted, each once; none if the files differ nowhere.
 pub(crate) fn half_stops(
     alloc: Global,
     half: Half,

@@ -1,4 +1,4 @@
-//! Which long rules are in the same words: each is compared once, and then the places.
+//! Which long rules have the same words. Each rule is compared once; after that only places are compared.
 ghost use Rattle.std.specs.Prelude.{◌≡◌, ◌<◌, List, length, IfOk, OnOk, IfSome};
 ghost use Rattle.std.specs.Bool.{OnTrue};
 ghost use Rattle.sym_records.specs.declared.line.SymLine.{SymLine};
@@ -14,21 +14,21 @@ use sym_edges::OutOfMemory;
 use sym_records::SymLine;
 use sym_rules::{RuleText, Token};
 
-/// Where a rule stands, and a rule of the first file in the same words.
+/// The place of a rule, and that of a rule of the first file with the same words.
 #[derive(Clone, Copy)]
 pub struct RuleAlias {
     pub place: RulePlace,
     pub first: RulePlace,
 }
 
-/// The long rules of both files that are in the words of a rule of the first one, in the order of their places.
+/// The long rules of both files that have the words of a rule of the first file, in the order of their places.
 #[derive(Drop)]
 pub struct RuleAliases {
     pub mine: Vec<RuleAlias>,
     pub theirs: Vec<RuleAlias>,
 }
 
-/// The first places of some lists of words, which are told by their numbers.
+/// The first places of some lists of words; the numbers of the words are the keys.
 type WordPlaces = BTreeMap<Vec<u64>, RulePlace>;
 
 /// The first place of the words of each long rule of a file.
@@ -56,7 +56,7 @@ fn numbers_of(word: &Token) -> (u64, u64) {
     }
 }
 
-/// Adds the numbers of a word, and behind those of a name its bytes.
+/// Adds the numbers of a word, and after those of a name its bytes.
 fn push_numbers(numbers: &mut Vec<u64>, word: &Token) -> Result<(), OutOfMemory> {
     let (kind, number) = numbers_of(word);
     numbers.push(kind)?;
@@ -69,7 +69,7 @@ fn push_numbers(numbers: &mut Vec<u64>, word: &Token) -> Result<(), OutOfMemory>
     Ok(())
 }
 
-/// The numbers of words, by which lists of words are told apart.
+/// The numbers of words, by which lists of words are distinguished.
 fn spelled(alloc: Global, words: &[Token]) -> Result<Vec<u64>, OutOfMemory> {
     let mut numbers = Vec::new(alloc);
     'words: for word in words {
@@ -78,7 +78,7 @@ fn spelled(alloc: Global, words: &[Token]) -> Result<Vec<u64>, OutOfMemory> {
     Ok(numbers)
 }
 
-/// Notes the long rules of the record at a place that are the first in their words.
+/// Notes the long rules of the record at a place that are the first with their words.
 fn note_firsts(
     alloc: Global,
     firsts: &mut WordPlaces,
@@ -108,7 +108,7 @@ fn firsts_of<'s>(alloc: Global, own: &'s [SymLine]) -> Result<Firsts<'s>, OutOfM
     Ok(Firsts { own, places })
 }
 
-/// Adds a rule, where the rule at the first place is in the same words.
+/// Adds a rule, if the rule at the first place has the same words.
 fn push_alias(
     aliases: &mut Vec<RuleAlias>,
     own: &[SymLine],
@@ -132,7 +132,7 @@ fn push_alias(
     Ok(())
 }
 
-/// Adds the long rules of the record at a place that are in the words of a rule of the first file.
+/// Adds the long rules of the record at a place that have the words of a rule of the first file.
 fn push_aliases(
     alloc: Global,
     aliases: &mut Vec<RuleAlias>,
@@ -157,7 +157,7 @@ fn push_aliases(
     Ok(())
 }
 
-/// The long rules of a file that are in the words of a rule of the first one.
+/// The long rules of a file that have the words of a rule of the first file.
 fn aliases_in(
     alloc: Global,
     firsts: &Firsts<'_>,
@@ -182,7 +182,7 @@ pub(crate) fn no_rule_aliases(alloc: Global) -> RuleAliases
     }
 }
 
-/// Those of two files.
+/// The long rules of two files that have the words of a rule of the first.
 pub(crate) fn rule_aliases(
     alloc: Global,
     own: &[SymLine],
@@ -196,7 +196,7 @@ pub(crate) fn rule_aliases(
     Ok(RuleAliases { mine, theirs })
 }
 
-/// The rule of the first file in the words of the rule at a place, by halves.
+/// The rule of the first file with the words of the rule at a place, by binary search.
 fn first_in(aliases: &[RuleAlias], place: RulePlace) -> Option<RulePlace>
     ensures { IfSome result (λ first. (own lines : List SymLine) → AreRuleAliases own lines aliases.now → words_at own first ≡ words_at lines place) }
 {
@@ -211,7 +211,7 @@ fn first_in(aliases: &[RuleAlias], place: RulePlace) -> Option<RulePlace>
     Some(alias.first)
 }
 
-/// Whether the rules at two places are in the same words, as far as their first places tell.
+/// Whether the rules at two places have the same words, as far as their first places show.
 pub(crate) fn have_one_text(
     aliases: &RuleAliases,
     a: Option<RulePlace>,

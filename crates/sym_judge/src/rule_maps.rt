@@ -1,4 +1,4 @@
-//! The last rule of each target at each address, of an INIT with many rules, so that it is found by halves.
+//! The last rule of each target at each address, for an INIT with many rules, so that binary search finds it.
 ghost use Rattle.std.specs.Prelude.{◌≡◌, ◌<◌, ◌^◌, ℕ, [], List, length, get_or, Some, slice_get, IfOk, OnOk, IfSome};
 ghost use Rattle.step_maps.specs.Covers.{AreStretches};
 ghost use Rattle.cfi_eval.specs.Inits.{init_place};
@@ -15,7 +15,7 @@ use sym_edges::OutOfMemory;
 use sym_records::SymLine;
 use sym_rules::{RuleText, Target};
 
-/// The last rule of a target at each address: its record is the index of an item, and its place in the record the item's class.
+/// The last rule of a target at each address: the index of an item is the rule's record, and its class the rule's place in that record.
 pub(crate) type RuleMap = StepMap<Option<FirstItem>>;
 
 /// The last rule of each target at each address, of the INIT at a place and its changes.
@@ -27,7 +27,7 @@ pub struct RuleMaps {
     registers: Vec<RuleMap>,
 }
 
-/// Adds a rule that counts from an address on, where it is one of the target.
+/// Adds a rule that counts from an address on, if it is one of the target.
 fn push_rule(
     items: &mut Vec<Stretch>,
     target: &Target,
@@ -53,7 +53,7 @@ fn push_rule(
     Ok(())
 }
 
-/// Adds those of the target of the record at a place, which count from an address on.
+/// Adds the rules of the target in the record at a place, which count from an address on.
 fn push_rules(
     items: &mut Vec<Stretch>,
     target: &Target,
@@ -110,7 +110,7 @@ fn rule_map(
     Ok(map)
 }
 
-/// Those of the registers.
+/// The maps of the registers.
 fn register_maps(alloc: Global, lines: &[SymLine], init: usize) -> Result<Vec<RuleMap>, OutOfMemory>
     requires within { init < length lines.now }
     requires few { length lines.now < 2 ^ 32 }
@@ -125,7 +125,7 @@ fn register_maps(alloc: Global, lines: &[SymLine], init: usize) -> Result<Vec<Ru
     Ok(maps)
 }
 
-/// Those of all targets.
+/// The maps of all targets.
 fn maps_of(alloc: Global, lines: &[SymLine], init: usize) -> Result<RuleMaps, OutOfMemory>
     requires within { init < length lines.now }
     requires few { length lines.now < 2 ^ 32 }
@@ -142,10 +142,10 @@ fn maps_of(alloc: Global, lines: &[SymLine], init: usize) -> Result<RuleMaps, Ou
     })
 }
 
-/// How many rules of an INIT and its changes are looked at one by one at most; nothing is held of them.
+/// The number of rules of an INIT and its changes up to which they are looked at one by one; no map is made of them.
 const FEW: usize = 32;
 
-/// Whether a record is an INIT that has, with the changes behind it, more than a few rules.
+/// Whether a record is an INIT that has, with the changes after it, more than a few rules.
 fn is_long(first: &SymLine, behind: &[SymLine]) -> bool {
     let SymLine::Init { rules, .. } = first else {
         return false;
@@ -160,7 +160,7 @@ fn is_long(first: &SymLine, behind: &[SymLine]) -> bool {
     count > FEW
 }
 
-/// Those of each INIT of many rules, in their order.
+/// The maps of each INIT with many rules, in their order.
 pub(crate) fn all_maps(alloc: Global, lines: &[SymLine]) -> Result<Vec<RuleMaps>, OutOfMemory>
     ensures { IfOk result (λ maps. AreAllRuleMaps lines.now maps.items) }
 {
@@ -176,7 +176,7 @@ pub(crate) fn all_maps(alloc: Global, lines: &[SymLine]) -> Result<Vec<RuleMaps>
     Ok(all)
 }
 
-/// Adds those of the INIT at a place.
+/// Adds the maps of the INIT at a place.
 fn push_maps(
     alloc: Global,
     all: &mut Vec<RuleMaps>,
@@ -193,7 +193,7 @@ fn push_maps(
     Ok(())
 }
 
-/// Those of the INIT at a place, where they are held.
+/// The maps of the INIT at a place, if there are any.
 pub(crate) fn maps_at(all: &[RuleMaps], init: usize) -> Option<&RuleMaps>
     ensures init { IfSome result (λ maps. maps.now.init ≡ init) }
     ensures maps { IfSome result (λ maps. (lines : List SymLine) → AreAllRuleMaps lines all.now → AreRuleMaps lines maps.now) }
@@ -244,7 +244,7 @@ fn registers_in(maps: &[RuleMap], address: u64) -> [Option<RulePlace>; 16]
     registers
 }
 
-/// The rules at an address that the INIT covers, the first that does.
+/// The rules at an address; the INIT of the maps is the first that covers it.
 pub(crate) fn table_in(maps: &RuleMaps, address: u64) -> RuleTable
     ensures { (lines : List SymLine) → AreRuleMaps lines maps.now → init_place lines address ≡ Some maps.now.init → IsTableAt lines address result }
 {

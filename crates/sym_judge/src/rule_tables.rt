@@ -9,14 +9,14 @@ ghost use Rattle.sym_judge.specs.internal.Tables.{rules_of, words_at, words_in, 
 use sym_records::SymLine;
 use sym_rules::{RuleText, Target, Token};
 
-/// Where a rule stands: the place of its record in the file, and its own place in the record.
+/// The place of a rule: that of its record in the file, and its own in the record.
 #[derive(Clone, Copy, Debug, PartialEq, Eq)]
 pub struct RulePlace {
     pub line: usize,
     pub rule: usize,
 }
 
-/// Whether a rule stands before another one.
+/// Whether a rule comes before another one.
 pub(crate) fn is_before(a: RulePlace, b: RulePlace) -> bool {
     a.line < b.line || (a.line == b.line && a.rule < b.rule)
 }
@@ -60,7 +60,7 @@ fn no_rules() -> RuleTable
     }
 }
 
-/// Puts a rule behind those of a table.
+/// Puts a rule after those of a table.
 fn put_rule(table: &mut RuleTable, rule: &RuleText, place: RulePlace)
     ensures { (lines : List SymLine) (rules : List RuleText) → words_at lines place ≡ Some rule.now.tokens → IsTable lines rules table.old → IsTable lines (rules ++ rule.now ∷ []) table.new }
 {
@@ -76,7 +76,7 @@ fn put_rule(table: &mut RuleTable, rule: &RuleText, place: RulePlace)
     }
 }
 
-/// Puts the rules of the record at a place behind those of a table.
+/// Puts the rules of the record at a place after those of a table.
 fn put_rules(table: &mut RuleTable, rules: &[RuleText], line: usize)
     ensures { (lines : List SymLine) (before : List RuleText) → rules_at lines line ≡ rules.now → IsTable lines before table.old → IsTable lines (before ++ rules.now) table.new }
 {
@@ -85,7 +85,7 @@ fn put_rules(table: &mut RuleTable, rules: &[RuleText], line: usize)
     }
 }
 
-/// The rules at an address that the INIT at a place covers, the first that does.
+/// The rules at an address; the INIT at the given place is the first that covers it.
 pub(crate) fn table_at(lines: &[SymLine], init: usize, address: u64) -> RuleTable
     requires within { init < length lines.now }
     requires first { init_place lines.now address ≡ Some init }

@@ -1,6 +1,6 @@
-//! What is said of two files.
+//! The result of comparing two files.
 
-/// What two files may say differently at an address.
+/// In what two files may differ at an address.
 #[derive(Clone, Copy, Debug, PartialEq, Eq)]
 pub enum Aspect {
     /// The function.
@@ -26,7 +26,7 @@ pub enum Ruling {
     No { address: u64, aspect: Aspect },
 }
 
-/// What a ruling is about.
+/// Which part of the files a ruling is about.
 #[derive(Clone, Copy, Debug, PartialEq, Eq)]
 pub enum Half {
     /// Functions, inlined copies and lines.

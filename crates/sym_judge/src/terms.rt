@@ -1,9 +1,9 @@
-//! What a rule adds up.
+//! The sums and fetches of rules.
 
-/// What a sum begins with.
+/// The base of a sum.
 #[derive(Clone, Copy, Debug, PartialEq, Eq)]
 pub enum Base {
-    /// The sum is a number.
+    /// No base: the sum is a number.
     Nothing,
     /// A register by its DWARF number.
     Register(u8),
@@ -17,7 +17,7 @@ pub struct Sum {
     pub offset: u64,
 }
 
-/// A sum, or the word that memory holds there.
+/// A sum, or the word that memory holds at it.
 #[derive(Clone, Copy, Debug, PartialEq, Eq)]
 pub enum Term {
     Plain(Sum),

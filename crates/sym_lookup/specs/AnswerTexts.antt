@@ -1,5 +1,5 @@
--- What the records of an answer say, and the text that shows it: a line `NAME at PATH:LINE` for each frame, the innermost first; `public
--- NAME`; or `none`.
+-- The names, paths and lines that the records of an answer give, and the text that shows an answer: a line `NAME at PATH:LINE` for each frame, the
+-- innermost first; or `public NAME`; or `none`.
 use Rattle.std.specs.Prelude.{ℕ, List, [], ◌∷◌, ◌++◌, reverse, map, codes, Option, None, Some, slice_get}
 use Rattle.std.specs.Fmt.{decimal}
 use Rattle.std.specs.Option.{option_map, option_map_or, option_and_then, unwrap_or}
@@ -9,7 +9,7 @@ use Rattle.sym_meaning.specs.TextNames.{func_name, Call, call_of, path_and_line}
 use Rattle.sym_lookup.specs.declared.answers.Answer.{Answer}
 use Rattle.sym_lookup.specs.declared.answers.Answer.TheVariants as answer
 
--- the name of the FUNC at a place, the call that the INLINE at a place says, and path and line of the line record at one
+-- the name of the FUNC at a place; below, the call of the INLINE at a place, and path and line of the line record at a place
 abbrev pub func_name_at : List SymLine → ℕ → List ℕ
 func_name_at lines place = option_map_or func_name (slice_get lines place) []
 
@@ -26,7 +26,7 @@ public_name _ = []
 abbrev pub public_name_at : List SymLine → ℕ → List ℕ
 public_name_at lines place = option_map_or public_name (slice_get lines place) []
 
--- path and line, or a question mark where there is no path
+-- path and line, or a question mark if there is no path
 abbrev pub spot_text : Option (List ℕ) → ℕ → List ℕ
 spot_text None line = codes "?"
 spot_text (Some path) line = path ++ codes ":" ++ decimal line
@@ -45,19 +45,19 @@ call_name call = unwrap_or call.name (codes "<name omitted>")
 abbrev pub frame_text : List ℕ → List ℕ → List ℕ
 frame_text name spot = name ++ codes " at " ++ spot ++ codes "\n"
 
--- the frames of some calls, the innermost first, and then the owner's. The first frame is at a given spot, and each further one where the
--- call says that gave the frame in front of it
+-- the frames of inlined calls, the innermost first, and then the frame of the function that contains them. The first frame is at a given path and
+-- line; each further frame is at the path and line of the call whose frame precedes it
 abbrev pub frames_text : List ℕ → List ℕ → List Call → List ℕ
 frames_text owner spot [] = frame_text owner spot
 frames_text owner spot (call ∷ calls) = frame_text (call_name call) spot ++ frames_text owner (call_spot call) calls
 
--- the text of an answer by places in the list. The INLINE records of an answer stand with the outermost first
+-- the text of an answer, whose records are given by their places in the list. An answer has its outermost INLINE record first
 unfoldable pub answer_text : List SymLine → Answer → List ℕ
 answer_text lines (answer.Function func chain line) = frames_text (func_name_at lines func) (line_spot (line_at lines line)) (map (call_at lines) (reverse chain))
 answer_text lines (answer.Public index) = codes "public " ++ public_name_at lines index ++ codes "\n"
 answer_text lines answer.Nothing = codes "none\n"
 
--- what an answer names: the function, the calls that are inlined there, the outermost first, and the line
+-- what an answer names: the function, the calls that are inlined at the address (the outermost first), and the line
 unfoldable pub owner_of : List SymLine → Answer → Option (List ℕ)
 owner_of lines (answer.Function func chain line) = Some (func_name_at lines func)
 owner_of lines _ = None

@@ -1,4 +1,4 @@
--- An index of a list of records: at each address of 64 bits it finds what the scans find.
+-- An index of a list of records: at each address of 64 bits it finds the records that the scans find.
 use Rattle.std.specs.Prelude.{◌≡◌, ℕ, List, length}
 use Rattle.std.specs.List.{position}
 use Rattle.std.specs.List.Sorted.{IsNonDecreasingBy}
@@ -14,21 +14,21 @@ use Rattle.sym_lookup.specs.internal.HeldUnders.{AreHeld}
 use Rattle.sym_lookup.specs.PlaceMaps.{IsPlaceMap}
 use Rattle.sym_lookup.specs.NearestMarks.{mark_at, public_of, numbered}
 
--- marks in the order of their keys, by which the PUBLIC in front of each address is found
+-- marks, sorted by their keys, that give the result of `public_place` at each address
 pub record AreMarksOf (lines : List SymLine) (starts publics : List Mark) : Type 0 where
   pub starts_sorted : IsNonDecreasingBy (λ m. m.key) starts
   pub publics_sorted : IsNonDecreasingBy (λ m. m.key) publics
   pub public : (x : ℕ) → public_of (mark_at publics x) (mark_at starts x) ≡ public_place lines x
 
--- marks in the order of their keys, by which the first FILE and the first INLINE_ORIGIN of each number are found
+-- marks, sorted by their keys, that give the first FILE and the first INLINE_ORIGIN of each number
 pub record AreNumbersOf (lines : List SymLine) (numbers : Numbers) : Type 0 where
   pub files_sorted : IsNonDecreasingBy (λ m. m.key) numbers.files.items
   pub origins_sorted : IsNonDecreasingBy (λ m. m.key) numbers.origins.items
   pub file : (n : ℕ) → numbered n (mark_at numbers.files.items n) ≡ position (is_file n) lines
   pub origin : (n : ℕ) → numbered n (mark_at numbers.origins.items n) ≡ position (is_origin n) lines
 
--- the places of the first records at each address, what stands under FUNC records, and the records of each number (which FUNC records these are is
--- a matter of speed: `held` says it)
+-- the places of the first records at each address, what is under FUNC records, and the records of each number. `held` says for which FUNC records the
+-- index stores what is under them; only speed depends on that
 pub record IsIndexOf (lines : List SymLine) (index : Index) : Type 0 where
   pub funcs : IsPlaceMap (func_place lines) index.funcs
   pub inits : IsPlaceMap (init_place lines) index.inits

@@ -1,4 +1,5 @@
--- What serves the functions and loops of the crate alone. Of public clauses only what says which FUNC records an index holds names it.
+-- Definitions for the functions and loops of the crate. Public clauses cite them only to say for which FUNC records an index stores what is under
+-- them.
 pub mod Scans
 pub mod Spots
 pub mod Kinds

@@ -1,4 +1,4 @@
-//! What a look-up answers.
+//! What a look-up returns.
 use sym_edges::ListOf;
 
 /// Places in a file's list of records, in order.
@@ -20,8 +20,8 @@ pub enum Answer {
     Nothing,
 }
 
-/// The place of the first record that covers an address, and the first address above it from which that may be another record; where there is
-/// none it is the same up to the last address.
+/// The place of the first record that covers an address, and the first address above it from which another record may be the first. Without an `end`
+/// the record is the same up to the last address.
 #[derive(Clone, Copy, Debug, PartialEq, Eq)]
 pub struct PlaceRun {
     pub place: Option<usize>,

@@ -36,7 +36,7 @@ pub struct Index {
     numbers: Numbers,
 }
 
-/// The `PUBLIC` in front of an address, by the nearest `PUBLIC` and the nearest `FUNC`.
+/// The `PUBLIC` before an address, given the nearest `PUBLIC` and the nearest `FUNC`.
 fn public_of(found: Option<Mark>, func: Option<Mark>) -> Option<usize>
     ensures { result ≡ public_of found func }
 {
@@ -52,7 +52,7 @@ fn public_of(found: Option<Mark>, func: Option<Mark>) -> Option<usize>
     }
 }
 
-/// What is answered where no `FUNC` covers the address.
+/// The answer if no `FUNC` covers the address.
 fn outside(starts: &[Mark], publics: &[Mark], address: u64) -> Answer
     requires starts { IsNonDecreasingBy (λ m. m.key) starts.now }
     requires publics { IsNonDecreasingBy (λ m. m.key) publics.now }
@@ -66,7 +66,7 @@ fn outside(starts: &[Mark], publics: &[Mark], address: u64) -> Answer
     }
 }
 
-/// The first `FUNC` that covers the address, by the map of them.
+/// The first `FUNC` that covers the address, by the map of `FUNC` records.
 #[tactic(auto, using(crate::proofs::IndexLemmas::func_within))]
 fn func_in(funcs: &PlaceMap, lines: &[SymLine], address: u64) -> Option<usize>
     requires { IsPlaceMap (func_place lines.now) funcs.now }
@@ -77,7 +77,7 @@ fn func_in(funcs: &PlaceMap, lines: &[SymLine], address: u64) -> Option<usize>
 }
 
 impl Index {
-    /// The index of a file of fewer than 2^32 records, in n log n turns for n records and ranges however they overlap.
+    /// The index of a file of fewer than 2^32 records, in n log n turns for n records and ranges, however they overlap.
     pub fn of(alloc: Global, file: &SymFile) -> Result<Index, OutOfMemory>
         requires { length file.now < 2 ^ 32 }
         ensures { IfOk result (λ index. IsIndexOf file.now index) }
@@ -106,14 +106,14 @@ impl Index {
         &self.funcs
     }
 
-    /// What stands under each `FUNC` that has more than a few ranges under it.
+    /// What is under each `FUNC` that has more than a few ranges under it.
     pub(crate) fn unders(&self) -> &[Under]
         ensures { result.now ≡ self.now.unders.items }
     {
         self.unders.as_slice()
     }
 
-    /// What a look-up of the address answers.
+    /// What a look-up of the address returns.
     pub fn answer_at(
         &self,
         alloc: Global,
@@ -137,14 +137,14 @@ impl Index {
         }
     }
 
-    /// The place of the first `INIT` that covers the address. Takes no memory.
+    /// The place of the first `INIT` that covers the address. Allocates no memory.
     pub fn init_at(&self, address: u64) -> Option<usize>
         ensures { (lines : List SymLine) → IsIndexOf lines self.now → result ≡ init_place lines address }
     {
         place_at(&self.inits, address)
     }
 
-    /// The place of the first `FUNC` that covers the address, and up to where it is the same. Takes no memory.
+    /// The place of the first `FUNC` that covers the address, and an end up to which it stays the first. Allocates no memory.
     #[tactic(auto, using(crate::proofs::IndexLemmas::run_of_map))]
     pub fn func_run(&self, address: u64) -> PlaceRun
         ensures { (lines : List SymLine) → IsIndexOf lines self.now → IsPlaceRun (func_place lines) address result }
@@ -152,7 +152,7 @@ impl Index {
         run_at(&self.funcs, address)
     }
 
-    /// The place of the first `INIT` that covers the address, and up to where it is the same. Takes no memory.
+    /// The place of the first `INIT` that covers the address, and an end up to which it stays the first. Allocates no memory.
     #[tactic(auto, using(crate::proofs::IndexLemmas::run_of_map))]
     pub fn init_run(&self, address: u64) -> PlaceRun
         ensures { (lines : List SymLine) → IsIndexOf lines self.now → IsPlaceRun (init_place lines) address result }

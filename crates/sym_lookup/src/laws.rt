@@ -1,4 +1,4 @@
-//! What holds of answers. Each function does nothing: its contract is the law.
+//! Theorems about answers. Each function does nothing: its contract is the law.
 ghost use Rattle.std.specs.Prelude.{◌≡◌, ℕ, List, reverse, Some};
 ghost use Rattle.sym_records.specs.declared.line.SymLine.{SymLine};
 ghost use Rattle.sym_meaning.specs.TextNames.{text_owner, text_line, text_chain};
@@ -14,7 +14,7 @@ pub fn answers_name_the_meaning()
     ensures calls { (lines : List SymLine) (x : ℕ) → text_chain lines x ≡ calls_of lines (answer_of lines x) }
 {}
 
-/// Where a function covers the address, the text of its answer shows the frames by their names, paths and lines.
+/// If a function covers the address, the text of the answer shows the frames by their names, paths and lines.
 #[tactic(auto, using(crate::proofs::ShownLemmas::frames_shown))]
 pub fn texts_show_the_meaning()
     ensures { (lines : List SymLine) (x : ℕ) (owner : List ℕ) → text_owner lines x ≡ Some owner → answer_text lines (answer_of lines x) ≡ frames_text owner (line_spot (text_line lines x)) (reverse (text_chain lines x)) }

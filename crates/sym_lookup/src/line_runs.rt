@@ -1,4 +1,4 @@
-//! Line records that stand one after the other, rise and do not meet.
+//! Consecutive line records that are ascending and disjoint.
 ghost use Rattle.std.specs.Prelude.{◌≡◌, ℕ, ◌+◌, ◌<◌, ◌≤◌, ◌^◌, nat_le, length, drop};
 ghost use Rattle.std.specs.Bool.{OnTrue};
 ghost use Rattle.std.specs.List.{position_from};
@@ -9,7 +9,7 @@ ghost use Rattle.sym_lookup.specs.UnderOf.{AreRising};
 use crate::scans::is_line_at;
 use sym_records::SymLine;
 
-/// The end of a line record that begins at or behind an address, where it is an address.
+/// The end of a line record that begins at or after an address, if the end is an address.
 #[inline]
 fn end_from(line: &SymLine, low: u64) -> Option<u64>
     ensures { RisesTo low line.now result }
@@ -20,7 +20,7 @@ fn end_from(line: &SymLine, low: u64) -> Option<u64>
     }
 }
 
-/// Whether the records are line records that rise and do not meet.
+/// Whether the records are line records that are ascending and disjoint.
 #[tactic(auto, using(crate::proofs::RisingLemmas::rising_more, crate::proofs::RisingLemmas::rising_all))]
 pub(crate) fn are_rising(records: &[SymLine]) -> bool
     ensures { OnTrue result (AreRising 0 records.now) }
@@ -41,7 +41,7 @@ fn is_inline(line: &SymLine) -> bool
     matches!(line, SymLine::Inline { .. })
 }
 
-/// How many `INLINE` records stand in front, which are no line records.
+/// The number of `INLINE` records before the first record of another kind.
 #[tactic(auto, using(crate::proofs::RisingLemmas::skip_more))]
 pub(crate) fn inlines_in_front(records: &[SymLine]) -> usize
     ensures within { result ≤ length records.now }
@@ -70,7 +70,7 @@ fn ends_by(line: &SymLine, address: u64) -> bool
     }
 }
 
-/// The place of the line record that covers an address, by halves.
+/// The place of the line record that covers an address, by binary search.
 pub(crate) fn line_by_halves(records: &[SymLine], first: usize, address: u64) -> Option<usize>
     requires rising { AreRising 0 records.now }
     requires fits { first + length records.now < 2 ^ 64 }

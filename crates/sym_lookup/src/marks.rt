@@ -1,5 +1,4 @@
-//! Records by a key, in the order of their keys: `FUNC` and `PUBLIC` records by the address at which they begin, `FILE` and `INLINE_ORIGIN`
-//! records by their number.
+//! Records sorted by a key: `FUNC` and `PUBLIC` records by the address at which they begin, `FILE` and `INLINE_ORIGIN` records by their number.
 ghost use Rattle.std.specs.Prelude.{◌≡◌, ℕ, ◌+◌, ◌<◌, ◌≤◌, ◌^◌, ◌++◌, length, IfOk, OnOk};
 ghost use Rattle.std.specs.List.Sorted.{IsNonDecreasingBy};
 ghost use Rattle.sym_lookup.specs.internal.Marks.{key_of, mark_of, marks_of};
@@ -61,7 +60,7 @@ fn marks_in(alloc: Global, marked: Marked, lines: &[SymLine]) -> Result<Vec<Mark
     Ok(marks)
 }
 
-/// The marks of records in the order of their keys; those of one key stay in their order.
+/// The marks of records, sorted by their keys; marks with one key stay in their order.
 pub(crate) fn sorted_marks(
     alloc: Global,
     marked: Marked,
@@ -76,7 +75,7 @@ pub(crate) fn sorted_marks(
     Ok(marks)
 }
 
-/// The mark at or below a key that is the nearest, the first of equals, by halves.
+/// The mark with the greatest key at or below a key, the first if several are equal, by binary search.
 pub(crate) fn mark_at(marks: &[Mark], key: u64) -> Option<Mark>
     requires { IsNonDecreasingBy (λ m. m.key) marks.now }
     ensures { result ≡ mark_at marks.now key }

@@ -1,4 +1,4 @@
-//! The records that others name by a number: by a scan, or by their numbers.
+//! The records that others name by a number, found by a scan or by the sorted numbers.
 ghost use Rattle.std.specs.Prelude.{◌≡◌, slice_get};
 ghost use Rattle.std.specs.List.{find};
 ghost use Rattle.std.specs.Option.{option_copied, option_and_then};
@@ -9,7 +9,7 @@ use crate::numbers::{Numbers, place_of};
 use std::marker::Model;
 use sym_records::SymLine;
 
-/// The records of a file, with their numbers where these are known. Contracts see the list.
+/// The records of a file, with their numbers if these are known. Contracts see the list of records.
 #[derive(Drop)]
 pub(crate) struct Records<'f> {
     lines: &'f [SymLine],
@@ -60,7 +60,7 @@ fn first_origin(lines: &[SymLine], number: u32) -> Option<&SymLine>
     lines.iter().find(|line| is_origin(line, number))
 }
 
-/// The record at a place, where there is one.
+/// The record at a place, if there is one.
 fn line_at(lines: &[SymLine], place: Option<usize>) -> Option<&SymLine>
     ensures { option_copied result ≡ option_and_then (slice_get lines.now) place }
 {
@@ -70,7 +70,7 @@ fn line_at(lines: &[SymLine], place: Option<usize>) -> Option<&SymLine>
     }
 }
 
-/// The first `FILE` of a number, by their numbers.
+/// The first `FILE` of a number, by the sorted numbers.
 fn numbered_file<'f>(lines: &'f [SymLine], numbers: &Numbers, number: u32) -> Option<&'f SymLine>
     requires { AreNumbersOf lines.now numbers.now }
     ensures { option_copied result ≡ find (is_file number) lines.now }
@@ -78,7 +78,7 @@ fn numbered_file<'f>(lines: &'f [SymLine], numbers: &Numbers, number: u32) -> Op
     line_at(lines, place_of(numbers.files.as_slice(), number))
 }
 
-/// The first `INLINE_ORIGIN` of a number, by their numbers.
+/// The first `INLINE_ORIGIN` of a number, by the sorted numbers.
 fn numbered_origin<'f>(lines: &'f [SymLine], numbers: &Numbers, number: u32) -> Option<&'f SymLine>
     requires { AreNumbersOf lines.now numbers.now }
     ensures { option_copied result ≡ find (is_origin number) lines.now }

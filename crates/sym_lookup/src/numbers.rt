@@ -1,4 +1,4 @@
-//! Where `FILE` and `INLINE_ORIGIN` records stand, by their numbers.
+//! The places of `FILE` and `INLINE_ORIGIN` records, by their numbers.
 ghost use Rattle.std.specs.Prelude.{◌≡◌, ◌<◌, ◌^◌, length, IfOk};
 ghost use Rattle.std.specs.List.Sorted.{IsNonDecreasingBy};
 ghost use Rattle.sym_lookup.specs.IndexOf.{AreNumbersOf};
@@ -9,7 +9,7 @@ use std::alloc::Global;
 use sym_edges::OutOfMemory;
 use sym_records::SymLine;
 
-/// The `FILE` and the `INLINE_ORIGIN` records in the order of their numbers; of equal numbers in their own.
+/// The `FILE` and the `INLINE_ORIGIN` records, sorted by their numbers; records with one number stay in their order.
 #[derive(Drop)]
 pub struct Numbers {
     pub files: Vec<Mark>,

@@ -1,4 +1,4 @@
-//! The parts of what a look-up answers where a `FUNC` has more than a few ranges under it: its levels as maps, and its line.
+//! The parts of an answer for a `FUNC` that has more than a few ranges under it: its levels as maps, and its line.
 ghost use Rattle.std.specs.Prelude.{◌≡◌, ◌<◌, ◌^◌, ℕ, List, IfSome};
 ghost use Rattle.std.specs.Option.{is_some};
 ghost use Rattle.sym_lookup.specs.Answers.{func_place, chain_places, line_place};
@@ -14,7 +14,7 @@ use crate::stretches::{PlaceMap, run_at};
 use crate::under::{level_maps, line_in, under_at};
 use sym_records::SymFile;
 
-/// The place of the first record at an address, and up to where it is the same.
+/// The place of the first record at an address, and an end up to which it stays the first.
 pub fn place_run(map: &PlaceMap, address: u64) -> PlaceRun
     ensures { IsPlaceRun (place_in map.now) address result }
 {
@@ -22,15 +22,15 @@ pub fn place_run(map: &PlaceMap, address: u64) -> PlaceRun
 }
 
 impl Index {
-    /// The place of the first `FUNC` that covers the address. Takes no memory.
+    /// The place of the first `FUNC` that covers the address. Allocates no memory.
     pub fn func_at(&self, address: u64) -> Option<usize>
         ensures { (lines : List SymLine) → IsIndexOf lines self.now → result ≡ func_place lines address }
     {
         crate::stretches::place_at(self.funcs(), address)
     }
 
-    /// Which `INLINE` of each level under the `FUNC` at a place is the first at each address, where the index holds that: exactly of each `FUNC`
-    /// with more than 32 ranges under it, where a record without a range counts as one.
+    /// Which `INLINE` of each level under the `FUNC` at a place is the first at each address, if the index stores that: it does so exactly for each
+    /// `FUNC` with more than 32 ranges under it. A record without a range counts as one range.
     pub fn levels(&self, func: usize) -> Option<&[PlaceMap]>
         ensures held { (lines : List SymLine) → IsIndexOf lines self.now → is_some result ≡ is_held lines func }
         ensures chain { IfSome result (λ levels. (lines : List SymLine) (x : ℕ) → IsIndexOf lines self.now → x < 2 ^ 64 → chain_in levels.now x ≡ chain_places lines func x) }
@@ -41,8 +41,8 @@ impl Index {
         }
     }
 
-    /// The place of the first line record under the `FUNC` at a place that covers the address, or of none; nothing where the index does not hold
-    /// what stands under it, as for [`Index::levels`].
+    /// The place of the first line record under the `FUNC` at a place that covers the address, or that there is none; nothing if the index does not
+    /// store what is under the `FUNC` ([`Index::levels`]).
     pub fn line_at(&self, file: &SymFile, func: usize, address: u64) -> Option<Option<usize>>
         requires { IsIndexOf file.now self.now }
         ensures held { is_some result ≡ is_held file.now func }

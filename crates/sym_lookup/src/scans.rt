@@ -13,7 +13,7 @@ use std::alloc::Global;
 use sym_edges::OutOfMemory;
 use sym_records::{Extent, SymFile, SymLine};
 
-/// Whether the address is one of `size` from a first one on.
+/// Whether the address is one of the `size` addresses from a first one on.
 #[inline]
 pub(crate) fn is_within(start: u64, size: u64, address: u64) -> bool
     ensures { result ≡ is_within start size address }
@@ -36,7 +36,7 @@ pub(crate) fn is_func_at(line: &SymLine, address: u64) -> bool
     }
 }
 
-/// Whether it is a line record that covers it.
+/// Whether the record is a line record that covers the address.
 #[inline]
 pub(crate) fn is_line_at(line: &SymLine, address: u64) -> bool
     ensures { result ≡ is_line_at address line.now }
@@ -60,7 +60,7 @@ fn has_address(ranges: &[Extent], address: u64) -> bool
         .any(|range| is_within(range.address, range.size, address))
 }
 
-/// Whether it is an `INLINE` of the level that covers it.
+/// Whether the record is an `INLINE` of the level that covers the address.
 pub(crate) fn is_inline_at(line: &SymLine, level: u64, address: u64) -> bool
     ensures { result ≡ is_inline_at level address line.now }
 {
@@ -80,7 +80,7 @@ fn is_under(line: &SymLine) -> bool
     matches!(line, SymLine::Inline { .. } | SymLine::Line { .. })
 }
 
-/// The records directly under a `FUNC`, of those behind it.
+/// The records directly under a `FUNC`, given the records after it.
 #[tactic(auto, using(crate::proofs::UnderLemmas::under_begins, crate::proofs::UnderLemmas::under_more, crate::proofs::UnderLemmas::under_stops, crate::proofs::UnderLemmas::under_all))]
 pub(crate) fn under(lines: &[SymLine]) -> &[SymLine]
     ensures under { result.now ≡ under lines.now }
@@ -94,7 +94,7 @@ pub(crate) fn under(lines: &[SymLine]) -> &[SymLine]
     lines
 }
 
-/// One more than the level of an `INLINE`, and 0 of another record.
+/// One more than the level of an `INLINE`; 0 for other records.
 fn level_end(line: &SymLine) -> u64
     ensures result { result ≡ level_end line.now }
     ensures small { result < 2 ^ 33 }
@@ -119,7 +119,7 @@ pub(crate) fn level_count(records: &[SymLine]) -> u64
     count
 }
 
-/// The place of the first line record that covers the address, where the first record has a place.
+/// The place of the first line record that covers the address; the first of the records has a given place.
 #[tactic(auto, using(crate::proofs::PlaceLemmas::placed_more, crate::proofs::PlaceLemmas::placed_found, crate::proofs::PlaceLemmas::placed_none))]
 fn line_from(records: &[SymLine], first: usize, address: u64) -> Option<usize>
     requires { first + length records.now < 2 ^ 64 }
@@ -133,7 +133,7 @@ fn line_from(records: &[SymLine], first: usize, address: u64) -> Option<usize>
     None
 }
 
-/// The place of the first `INLINE` of the level that covers it.
+/// The place of the first `INLINE` of the level that covers the address.
 #[tactic(auto, using(crate::proofs::PlaceLemmas::placed_more, crate::proofs::PlaceLemmas::placed_found, crate::proofs::PlaceLemmas::placed_none))]
 fn inline_from(records: &[SymLine], first: usize, level: u64, address: u64) -> Option<usize>
     requires { first + length records.now < 2 ^ 64 }
@@ -147,7 +147,7 @@ fn inline_from(records: &[SymLine], first: usize, level: u64, address: u64) -> O
     None
 }
 
-/// An `INLINE` that covers the address becomes the first of its level, where that is one of those that are held.
+/// If an `INLINE` covers the address, it becomes the first of its level, if the list has that level.
 fn note_inline(firsts: &mut Vec<Option<usize>>, place: usize, line: &SymLine, address: u64)
     ensures { (level : ℕ) → slice_get firsts.new.items level ≡ option_map (sooner level address place line.now) (slice_get firsts.old.items level) }
 {
@@ -163,7 +163,7 @@ fn note_inline(firsts: &mut Vec<Option<usize>>, place: usize, line: &SymLine, ad
     }
 }
 
-/// No place at each level below a number.
+/// A list with no place for each level below a number.
 fn no_places(alloc: Global, count: usize) -> Result<Vec<Option<usize>>, OutOfMemory>
     ensures { IfOk result (λ places. places.items ≡ replicate count None) }
 {
@@ -192,8 +192,8 @@ fn firsts_at(
     Ok(firsts)
 }
 
-/// The place of the first `INLINE` of a level that covers the address. Where each level that is held has one, no record is left for a further
-/// level, and this is seen by a pass.
+/// The place of the first `INLINE` of a level that covers the address. If each level of the list has one, no record is left for a further level; a
+/// pass over the records checks this.
 fn first_of_level(
     firsts: &[Option<usize>],
     records: &[SymLine],
@@ -245,7 +245,7 @@ pub(crate) fn under_func(lines: &[SymLine], func: usize) -> &[SymLine]
     under(lines.split_at(func + 1).1)
 }
 
-/// What a `FUNC` that covers the address answers.
+/// The answer for a `FUNC` that covers the address.
 #[tactic(auto, unfolding(crate::specs::Answers::chain_places, crate::specs::Answers::line_place))]
 pub(crate) fn in_function(
     alloc: Global,
@@ -280,7 +280,7 @@ fn greater(a: u64, other: Option<u64>) -> Option<u64>
     }
 }
 
-/// A `PUBLIC` that is not above the asked address counts.
+/// The greater of `other` and the address of a `PUBLIC`; one above the address looked up does not count.
 fn nearer(line: &SymLine, address: u64, other: Option<u64>) -> Option<u64>
     ensures { result ≡ nearer address line.now other }
 {
@@ -290,7 +290,7 @@ fn nearer(line: &SymLine, address: u64, other: Option<u64>) -> Option<u64>
     }
 }
 
-/// The greatest address of a `PUBLIC` that is not above the asked one.
+/// The greatest address of a `PUBLIC` that is not above the address looked up.
 #[tactic(auto, using(crate::proofs::PublicLemmas::nearest_more, crate::proofs::PublicLemmas::nearest_end, crate::proofs::PublicLemmas::nearest_all))]
 fn nearest_public(lines: &[SymLine], address: u64) -> Option<u64>
     ensures { result ≡ nearest_public lines.now address }
@@ -311,7 +311,7 @@ fn is_public_of(line: &SymLine, a: u64) -> bool
     }
 }
 
-/// Whether it is a `FUNC` that begins from one address to another.
+/// Whether the record is a `FUNC` that begins from one address to another.
 fn begins_between(line: &SymLine, a: u64, last: u64) -> bool
     ensures { result ≡ begins_between a last line.now }
 {
@@ -321,21 +321,21 @@ fn begins_between(line: &SymLine, a: u64, last: u64) -> bool
     }
 }
 
-/// Whether some `FUNC` does.
+/// Whether some `FUNC` begins from one address to another.
 fn begins(lines: &[SymLine], a: u64, last: u64) -> bool
     ensures { result ≡ list_any (begins_between a last) lines.now }
 {
     lines.iter().any(|line| begins_between(line, a, last))
 }
 
-/// The first `PUBLIC` of an address.
+/// The first `PUBLIC` at an address.
 fn first_public(lines: &[SymLine], a: u64) -> Option<usize>
     ensures { result ≡ position (is_public_of a) lines.now }
 {
     lines.iter().position(|line| is_public_of(line, a))
 }
 
-/// The same, unless a `FUNC` begins from there to another address.
+/// The first `PUBLIC` at an address, unless a `FUNC` begins from there to another address.
 fn public_from(lines: &[SymLine], a: u64, address: u64) -> Option<usize>
     ensures { result ≡ (if list_any (begins_between a address) lines.now then None else position (is_public_of a) lines.now) }
 {
@@ -345,7 +345,7 @@ fn public_from(lines: &[SymLine], a: u64, address: u64) -> Option<usize>
     first_public(lines, a)
 }
 
-/// The `PUBLIC` in front of the address.
+/// The `PUBLIC` before the address.
 #[tactic(auto, unfolding(crate::specs::Answers::public_place))]
 fn public_at(lines: &[SymLine], address: u64) -> Option<usize>
     ensures { result ≡ public_place lines.now address }
@@ -356,7 +356,7 @@ fn public_at(lines: &[SymLine], address: u64) -> Option<usize>
     }
 }
 
-/// What a look-up of the address answers.
+/// What a look-up of the address returns.
 #[tactic(auto, unfolding(crate::specs::Answers::answer_of))]
 pub fn answer_at(alloc: Global, file: &SymFile, address: u64) -> Result<Answer, OutOfMemory>
     ensures { IfOk result (λ found. found ≡ answer_of file.now address) }

@@ -17,7 +17,7 @@ use step_maps::{FirstItem, StepMap, Stretch, first_items};
 use sym_edges::OutOfMemory;
 use sym_records::{Extent, SymLine};
 
-/// Records that have addresses.
+/// The kinds of records that have addresses.
 #[derive(Clone, Copy)]
 pub enum Kind {
     Functions,
@@ -30,7 +30,7 @@ pub enum Kind {
 /// Which record is the first at an address.
 pub type PlaceMap = StepMap<Option<FirstItem>>;
 
-/// Adds the stretch of a range, where it is not empty.
+/// Adds the stretch of a range, if the range is not empty.
 #[tactic(auto, using(step_maps::proofs::StretchLemmas::stretches_push))]
 fn push_extent(stretches: &mut Vec<Stretch>, index: u32, extent: Extent) -> Result<(), OutOfMemory>
     requires { AreStretches stretches.old.items }
@@ -49,7 +49,7 @@ fn push_extent(stretches: &mut Vec<Stretch>, index: u32, extent: Extent) -> Resu
     Ok(())
 }
 
-/// Adds those of some ranges.
+/// Adds the stretches of ranges.
 fn push_extents(
     stretches: &mut Vec<Stretch>,
     index: u32,
@@ -67,7 +67,7 @@ fn push_extents(
     Ok(())
 }
 
-/// Adds that of one range.
+/// Adds the stretch of one range.
 fn push_run(
     stretches: &mut Vec<Stretch>,
     index: u32,
@@ -81,7 +81,7 @@ fn push_run(
     push_extent(stretches, index, Extent { address, size })
 }
 
-/// Adds those of a record, where it is of the kind.
+/// Adds the stretches of a record, if it is of the kind.
 fn push_record(
     stretches: &mut Vec<Stretch>,
     kind: Kind,
@@ -110,7 +110,7 @@ fn push_record(
     }
 }
 
-/// Those of some records, the first of which has a place.
+/// The stretches of records; the first record has a given place.
 fn stretches_of(
     alloc: Global,
     kind: Kind,
@@ -128,7 +128,7 @@ fn stretches_of(
     Ok(stretches)
 }
 
-/// Which record of a kind is the first at each address, in n log n turns for n ranges however they overlap.
+/// Which record of a kind is the first at each address, in n log n turns for n ranges, however they overlap.
 #[tactic(auto, using(step_maps::proofs::StretchLemmas::stretches_push))]
 pub(crate) fn place_map(
     alloc: Global,
@@ -144,7 +144,7 @@ pub(crate) fn place_map(
     Ok(map)
 }
 
-/// No stretch of each level below a number.
+/// An empty list of stretches for each level below a number.
 fn no_stretches(alloc: Global, count: usize) -> Result<Vec<Vec<Stretch>>, OutOfMemory>
     ensures { IfOk result (λ leveled. AreEmpty leveled.items) }
 {
@@ -155,7 +155,7 @@ fn no_stretches(alloc: Global, count: usize) -> Result<Vec<Vec<Stretch>>, OutOfM
     Ok(leveled)
 }
 
-/// Adds the stretches of an `INLINE` to those of its level, where that is one of them.
+/// Adds the stretches of an `INLINE` to those of its level, if the list has that level.
 fn push_inline(
     leveled: &mut Vec<Vec<Stretch>>,
     index: u32,
@@ -175,7 +175,7 @@ fn push_inline(
     push_extents(&mut leveled[level], index, ranges.as_slice())
 }
 
-/// The stretches of the `INLINE` records of each level below a number, the first record having a place.
+/// The stretches of the `INLINE` records of each level below a number; the first record has a given place.
 pub(crate) fn by_level(
     alloc: Global,
     records: &[SymLine],
@@ -192,7 +192,7 @@ pub(crate) fn by_level(
     Ok(leveled)
 }
 
-/// Which of the `INLINE` records of a level is the first at each address, by their stretches; nothing where there is none.
+/// Which of the `INLINE` records of a level is the first at each address, given their stretches; nothing if there are no stretches.
 fn stretch_map(alloc: Global, stretches: &[Stretch]) -> Result<Option<PlaceMap>, OutOfMemory>
     requires { AreStretches stretches.now }
     ensures { (level first : ℕ) (records : List SymLine) → stretches.now ≡ stretches_of (kind.Level level) first records → IfOk result (λ map. IsLevelMap level first records map) }
@@ -204,7 +204,7 @@ fn stretch_map(alloc: Global, stretches: &[Stretch]) -> Result<Option<PlaceMap>,
     Ok(Some(map))
 }
 
-/// The same by a pass over the records.
+/// The same map, by a pass over the records.
 fn scanned_map(
     alloc: Global,
     level: u64,
@@ -218,8 +218,8 @@ fn scanned_map(
     stretch_map(alloc, stretches.as_slice())
 }
 
-/// Which of the `INLINE` records of a level is the first at each address; nothing where there is none. Where no level below it has none, there
-/// are fewer records than levels, and those of further levels are looked for.
+/// Which of the `INLINE` records of a level is the first at each address; nothing if there is none. If the list does not have the level, a pass over
+/// the records finds them.
 pub(crate) fn level_map(
     alloc: Global,
     leveled: &[Vec<Stretch>],
@@ -263,7 +263,7 @@ fn stop_at(stops: &[u64], index: usize) -> Option<u64>
     stops.get(index).copied()
 }
 
-/// The place of the first record at an address, and up to where it is the same.
+/// The place of the first record at an address, and an end up to which it stays the first.
 pub(crate) fn run_at(map: &PlaceMap, address: u64) -> PlaceRun
     ensures { IsPlaceRun (place_in map.now) address result }
 {

@@ -67,7 +67,7 @@ fn add_spot(
     }
 }
 
-/// Adds where a line record is.
+/// Adds the path and line of a line record.
 fn add_line_spot(text: &mut Vec<u8>, lines: &Records<'_>, spot: &SymLine) -> Result<(), OutOfMemory>
     ensures { OnOk result (text.new.items ≡ text.old.items ++ line_spot (Some (path_and_line lines.now spot.now))) }
 {
@@ -77,7 +77,7 @@ fn add_line_spot(text: &mut Vec<u8>, lines: &Records<'_>, spot: &SymLine) -> Res
     }
 }
 
-/// Adds where the line record at a place is.
+/// Adds the path and line of the line record at a place.
 fn add_line_spot_at(
     text: &mut Vec<u8>,
     lines: &Records<'_>,
@@ -94,7 +94,7 @@ fn add_line_spot_at(
     }
 }
 
-/// Adds where the call of an `INLINE` is.
+/// Adds the path and line of the call of an `INLINE`.
 fn add_call_spot(text: &mut Vec<u8>, lines: &Records<'_>, spot: &SymLine) -> Result<(), OutOfMemory>
     ensures { OnOk result (text.new.items ≡ text.old.items ++ call_spot (call_of lines.now spot.now)) }
 {
@@ -108,7 +108,7 @@ fn add_call_spot(text: &mut Vec<u8>, lines: &Records<'_>, spot: &SymLine) -> Res
     }
 }
 
-/// Adds where that of the `INLINE` at a place is.
+/// Adds the path and line of the call of the `INLINE` at a place.
 fn add_call_spot_at(
     text: &mut Vec<u8>,
     lines: &Records<'_>,
@@ -122,12 +122,12 @@ fn add_call_spot_at(
     }
 }
 
-/// The record that says where a frame is, by its place.
+/// The place of the record that has the path and line of a frame.
 #[derive(Clone, Copy)]
 enum Spot {
-    /// The line record, where there is one.
+    /// The line record, if there is one.
     OfLine(Option<usize>),
-    /// The `INLINE` of the frame inside.
+    /// The `INLINE` of the next inner frame.
     OfCall(usize),
 }
 
@@ -151,7 +151,7 @@ fn add_origin(text: &mut Vec<u8>, lines: &Records<'_>, number: u32) -> Result<()
     }
 }
 
-/// Adds the name of what an `INLINE` inlines.
+/// Adds the name of the function that an `INLINE` inlines.
 fn add_call_name(
     text: &mut Vec<u8>,
     lines: &Records<'_>,
@@ -165,7 +165,7 @@ fn add_call_name(
     }
 }
 
-/// Adds that of the `INLINE` at a place.
+/// Adds the name of the function that the `INLINE` at a place inlines.
 fn add_call_name_at(
     text: &mut Vec<u8>,
     lines: &Records<'_>,
@@ -290,10 +290,10 @@ pub(crate) fn shown_text(
     Ok(ByteText::of(text))
 }
 
-/// The number of calls up to which their frames are named by scans.
+/// The number of inlined calls up to which scans find the names of the frames.
 const FEW: usize = 8;
 
-/// Whether more calls were inlined than a few.
+/// Whether an answer has more than a few inlined calls.
 fn are_many(answer: &Answer) -> bool {
     match answer {
         Answer::Function { chain, .. } => chain.len() > FEW,

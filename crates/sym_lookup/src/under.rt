@@ -1,4 +1,4 @@
-//! What stands under a `FUNC`, so that the records at an address are found by halves.
+//! What is under a `FUNC`, stored so that the records at an address are found by binary search.
 ghost use Rattle.std.specs.Prelude.{◌≡◌, ℕ, ◌+◌, ◌<◌, ◌^◌, nat_le, true, List, length, IfOk, OnOk, IfSome};
 ghost use Rattle.std.specs.List.{sum_by};
 ghost use Rattle.std.specs.Option.{is_some};
@@ -20,13 +20,13 @@ use sym_records::SymLine;
 /// How the line record at an address is found.
 #[derive(Drop)]
 pub enum LineFinder {
-    /// By halves, since the line records from a place up to an end rise and do not meet.
+    /// By binary search, since the line records from a place up to an end are ascending and disjoint.
     Rising { first: u32, end: u32 },
-    /// By a map of them.
+    /// By a map of the line records.
     Map { map: PlaceMap },
 }
 
-/// What stands under the `FUNC` at a place: a map of the `INLINE` records of each level, and how its line records are found.
+/// What is under the `FUNC` at a place: a map of the `INLINE` records of each level, and how its line records are found.
 #[derive(Drop)]
 pub struct Under {
     func: u32,
@@ -34,7 +34,7 @@ pub struct Under {
     lines: LineFinder,
 }
 
-/// A map of the `INLINE` records of each level, until a level has none.
+/// A map of the `INLINE` records of each level, up to the first level that has none.
 fn levels_of(alloc: Global, records: &[SymLine], first: usize) -> Result<Vec<PlaceMap>, OutOfMemory>
     requires { first + length records.now < 2 ^ 32 }
     ensures { IfOk result (λ levels. (x : ℕ) → x < 2 ^ 64 → chain_in levels.items x ≡ chain_from first x 0 (level_count records.now) records.now) }
@@ -52,7 +52,7 @@ fn levels_of(alloc: Global, records: &[SymLine], first: usize) -> Result<Vec<Pla
     Ok(levels)
 }
 
-/// The places that maps have at an address, one after the other until one has none.
+/// The places that the maps have at an address, in order, up to the first map that has none.
 fn chain_at(alloc: Global, levels: &[PlaceMap], address: u64) -> Result<PlaceList, OutOfMemory>
     ensures { IfOk result (λ chain. chain ≡ chain_in levels.now address) }
 {
@@ -66,7 +66,7 @@ fn chain_at(alloc: Global, levels: &[PlaceMap], address: u64) -> Result<PlaceLis
     Ok(PlaceList::of(chain))
 }
 
-/// How the line records under a `FUNC` are found: by halves where they are the last under it, rise and do not meet.
+/// How the line records under a `FUNC` are found: by binary search if they are the last under it, ascending and disjoint.
 fn line_finder(alloc: Global, lines: &[SymLine], func: usize) -> Result<LineFinder, OutOfMemory>
     requires within { func < length lines.now }
     requires few { length lines.now < 2 ^ 32 }
@@ -98,7 +98,7 @@ pub(crate) fn line_in(under: &Under, lines: &[SymLine], address: u64) -> Option<
     }
 }
 
-/// What stands under the `FUNC` at a place.
+/// What is under the `FUNC` at a place.
 fn under_of(alloc: Global, lines: &[SymLine], func: usize) -> Result<Under, OutOfMemory>
     requires within { func < length lines.now }
     requires few { length lines.now < 2 ^ 32 }
@@ -120,10 +120,10 @@ fn is_func(line: &SymLine) -> bool
     matches!(line, SymLine::Func { .. })
 }
 
-/// The number of ranges under a `FUNC` up to which they are scanned; nothing is held of them.
+/// The number of ranges under a `FUNC` up to which they are scanned; the index stores nothing of them.
 const FEW: usize = 32;
 
-/// How many ranges a record under a `FUNC` has, and at least one.
+/// The number of ranges of a record under a `FUNC`, but at least one.
 fn range_count(line: &SymLine) -> usize
     ensures { result ≡ range_count line.now }
 {
@@ -156,7 +156,7 @@ fn is_held(lines: &[SymLine], func: usize) -> bool
     is_func(&lines[func]) && !are_few(under_func(lines, func))
 }
 
-/// Adds what stands under the `FUNC` at a place, the next that has more than a few ranges under it.
+/// Adds what is under the `FUNC` at a place, the next that has more than a few ranges under it.
 #[tactic(auto, using(crate::proofs::UnderOfLemmas::unders_joined, crate::proofs::HeldLemmas::held_joined))]
 fn push_under(
     alloc: Global,
@@ -177,7 +177,7 @@ fn push_under(
     Ok(())
 }
 
-/// What stands under each `FUNC` that has more than a few ranges under it, in their order.
+/// What is under each `FUNC` that has more than a few ranges under it, in their order.
 #[tactic(auto, using(crate::proofs::HeldLemmas::held_skipped))]
 pub(crate) fn unders_of(alloc: Global, lines: &[SymLine]) -> Result<Vec<Under>, OutOfMemory>
     requires { length lines.now < 2 ^ 32 }
@@ -194,7 +194,7 @@ pub(crate) fn unders_of(alloc: Global, lines: &[SymLine]) -> Result<Vec<Under>, 
     Ok(unders)
 }
 
-/// What stands under the `FUNC` at a place, by halves.
+/// What is under the `FUNC` at a place, by binary search.
 #[tactic(auto, using(crate::proofs::UnderOfLemmas::under_there))]
 pub(crate) fn under_at(unders: &[Under], func: usize) -> Option<&Under>
     ensures func { IfSome result (λ under. under.now.func ≡ func) }
@@ -212,14 +212,14 @@ pub(crate) fn under_at(unders: &[Under], func: usize) -> Option<&Under>
     Some(under)
 }
 
-/// Its maps of the `INLINE` records of each level.
+/// The maps of the `INLINE` records of each level.
 pub(crate) fn level_maps(under: &Under) -> &[PlaceMap]
     ensures { result.now ≡ under.now.levels.items }
 {
     under.levels.as_slice()
 }
 
-/// What the `FUNC` that stands over some records answers.
+/// The answer for a `FUNC`, given what is under it.
 fn in_under(
     alloc: Global,
     under: &Under,
@@ -238,7 +238,7 @@ fn in_under(
     })
 }
 
-/// What a `FUNC` that covers the address answers, by what is held of it.
+/// The answer for a `FUNC` that covers the address, given what the index has of it.
 pub(crate) fn held_in_function(
     alloc: Global,
     unders: &[Under],

@@ -1,5 +1,4 @@
-//! Small ELF files, put together field by field: the file header, the program headers, the bytes of the sections, and last
-//! the section headers.
+//! Small ELF files, made field by field: the file header, the program headers, the bytes of the sections, and last the section headers.
 
 use std::alloc::{AllocError, Global};
 
@@ -28,24 +27,24 @@ pub const LONG_CODE: Section<'static> = (".text", [1, 6, 0x1000, 0], NOPS);
 /// 32 bytes of code.
 pub const NOPS: &[u8] = &[0x90; 32];
 
-/// The usual first entry of a symbol table, and the function of the name at 1 at 1000.
+/// The first entry of each symbol table, and a function at 1000 whose name is at 1.
 pub const ENTRIES: [u8; 48] =
     *b"\0\0\0\0\0\0\0\0\0\0\0\0\0\0\0\0\0\0\0\0\0\0\0\0\x01\0\0\0\x12\0\x02\0\0\x10\0\0\0\0\0\0\x04\0\0\0\0\0\0\0";
 
-/// Abbreviations of a compile unit with a language: at 0 in eight bytes, at 8 in four.
+/// Abbreviations of a compile unit with a language: at 0 one with eight bytes, at 8 one with four.
 pub const EIGHT_OR_FOUR: &[u8] = b"\x01\x11\0\x13\x07\0\0\0\x01\x11\0\x13\x06\0\0\0";
 
 /// A unit of version 4 and 16 bytes: a header of 11 bytes, code 1 and four bytes.
 pub const UNIT: &[u8] = b"\x0c\0\0\0\x04\0\x08\0\0\0\x08\x01\0\0\0\0";
 
-/// The same, where the language has eight bytes.
+/// The same with the abbreviation at 0, whose language has eight bytes: the unit is too short.
 pub const CUT_UNIT: &[u8] = b"\x0c\0\0\0\x04\0\0\0\0\0\x08\x01\0\0\0\0";
 
 /// A unit of version 3, which is not read.
 pub const VERSION_3: &[u8] = b"\x07\0\0\0\x03\0\0\0\0\0\x08";
 
-/// Abbreviations: 1 a compile unit with a line table and a directory, 2 a function by name, 3 an inlined copy, 4 a function with
-/// children, 5 a function without a name, 6 an inlined copy with children, 7 one that does not say where it is called.
+/// Abbreviations: 1 a compile unit with a line table and a directory, 2 a function with a name, 3 an inlined copy, 4 a function with children, 5 a
+/// function without a name, 6 an inlined copy with children, 7 an inlined copy without the place of its call.
 pub const FUNCTIONS: &[u8] =
     b"\x01\x11\x01\x10\x17\x1b\x08\0\0\x02\x2e\0\x03\x08\x11\x01\x12\x06\0\0\
     \x03\x1d\0\x03\x08\x11\x01\x12\x06\x58\x0b\x59\x0b\0\0\x04\x2e\x01\x03\x08\x11\x01\x12\x06\0\0\
@@ -59,11 +58,11 @@ pub const LINES: &[u8] = b"\x01\x01\x01\xfb\x0e\x0d\0\x01\x01\x01\x01\0\0\0\x01\
 /// The file `a.c` of a line table.
 pub const A_C: &[u8] = b"a.c\0\0\0\0\0";
 
-/// Lines of one file: 1000 line 3, 1004 line 9, 100c line 4, up to 1020.
+/// Rows of one file: line 3 at 1000, line 9 at 1004, line 4 at 100c, end at 1020.
 pub const THREE_ROWS: &[u8] =
     b"\0\x09\x02\0\x10\0\0\0\0\0\0\x03\x02\x01\x02\x04\x03\x06\x01\x02\x08\x03\x7b\x01\x02\x14\0\x01\x01";
 
-/// Lines of two files: 1000 line 1 of the first, 1008 line 2 of the second, 1010 none, up to 1018.
+/// Rows of two files: line 1 of the first at 1000, line 2 of the second at 1008, no line at 1010, end at 1018.
 pub const TWO_FILES: &[u8] =
     b"\0\x09\x02\0\x10\0\0\0\0\0\0\x01\x02\x08\x04\x02\x03\x01\x01\x02\x08\x03\x7e\x01\x02\x08\0\x01\x01";
 
@@ -94,7 +93,7 @@ pub fn unit_of(alloc: Global, lines: u64, entries: &[u8]) -> Result<Vec<u8>, All
     Ok(unit)
 }
 
-/// An entry by its code, its name, its first address and its length.
+/// An entry, given its code, its name, its first address and its length.
 pub fn entry_of(
     alloc: Global,
     code: u8,
@@ -110,7 +109,7 @@ pub fn entry_of(
     Ok(entry)
 }
 
-/// A file with a build id, code, symbols whose names stand after them, and one section more.
+/// A file with a build id, code, symbols followed by their names, and one more section.
 pub fn file_with<'a>(
     alloc: Global,
     programs: &[(u64, u64)],
@@ -123,12 +122,12 @@ pub fn file_with<'a>(
     file_of(alloc, programs, &[NULL, ID, CODE, symbols, names, more])
 }
 
-/// The file of the function `main` at 1000, with one section more.
+/// The file of the function `main` at 1000, with one more section.
 pub fn small_and(alloc: Global, more: Section<'_>) -> Result<Vec<u8>, AllocError> {
     file_with(alloc, &[(1, 0)], &ENTRIES, b"\0main\0", more)
 }
 
-/// A file with a build id, code from 1000 on, units over the abbreviations `FUNCTIONS`, and line tables.
+/// A file with a build id, code from 1000 on, units with the abbreviations `FUNCTIONS`, and line tables.
 pub fn with_functions<'a>(
     alloc: Global,
     code: &'a [u8],
@@ -143,7 +142,7 @@ pub fn with_functions<'a>(
     file_of(alloc, &[(1, 0)], &sections)
 }
 
-/// Numbers of a width, the lowest byte first.
+/// Adds numbers of a width, the lowest byte first.
 pub fn put(bytes: &mut Vec<u8>, width: usize, numbers: &[u64]) -> Result<(), AllocError> {
     for number in numbers {
         for byte in number.to_le_bytes().iter().take(width) {
@@ -153,7 +152,7 @@ pub fn put(bytes: &mut Vec<u8>, width: usize, numbers: &[u64]) -> Result<(), All
     Ok(())
 }
 
-/// A section header, by the offsets of the name and of the bytes.
+/// Adds a section header, given the offsets of the name and of the bytes.
 fn put_header(
     headers: &mut Vec<u8>,
     section: Section<'_>,
@@ -167,7 +166,7 @@ fn put_header(
     put(headers, 8, &[1, 0])
 }
 
-/// A shared object of program headers (p_type and p_vaddr) and of sections, after which that of the names stands.
+/// A shared object with these program headers (p_type and p_vaddr) and sections, and after them the section of their names.
 pub fn file_of(
     alloc: Global,
     programs: &[(u64, u64)],

@@ -3,10 +3,10 @@ use std::sync::atomic::AtomicU64;
 use std::sync::atomic::Ordering::SeqCst;
 use unit_workers::Gate;
 
-/// How often a held unit looks whether the others were reached.
+/// How often a held worker checks whether the others were reached.
 const TURNS: u64 = 200_000_000;
 
-/// Holds one unit until so many others were reached; where the turns run out before, it lets it go, and is late.
+/// Holds one unit until a number of others were reached. If the checks run out before that, it lets the unit go, and is late.
 #[derive(Drop)]
 pub struct Holding {
     held: usize,
@@ -25,7 +25,7 @@ impl Holding {
         }
     }
 
-    /// How many units were reached, and 1 where the held one was let go before the others were.
+    /// How many of the others were reached, and 1 if the unit was let go before that, else 0.
     pub fn seen(&self) -> [u64; 2] {
         [self.reached.load(SeqCst), self.late.load(SeqCst)]
     }

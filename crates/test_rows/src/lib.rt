@@ -1,5 +1,5 @@
-//! What the crates of tests share, and nothing else uses: [`elf`] makes small ELF files, a [`Holding`] gate holds a unit,
-//! and a [`Recording`] one counts how often each was reached.
+//! What the test crates share, and no other crate uses: [`elf`] makes small ELF files, a [`Holding`] gate holds a unit, and a [`Recording`] gate
+//! counts how often each unit was reached.
 #![tactic(auto)]
 
 pub mod elf;

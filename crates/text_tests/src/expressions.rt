@@ -1,4 +1,4 @@
-//! DWARF expressions as words of rules (`expr_postfix`), and the size of the place of one (`expr_steps`).
+//! DWARF expressions as words of rules (`expr_postfix`), and the size of an expression's place (`expr_steps`).
 use crate::comparison::same;
 use expr_postfix::{rule_tokens, tokens};
 use expr_steps::Place;
@@ -11,7 +11,7 @@ use sym_rules::{ByteText, RuleText, Target, Tokens};
 
 const _: () = prove!(size_of::<Place>() == 12);
 
-/// No words in place of a refusal.
+/// The words, or none if there is a refusal.
 fn words_or_none(alloc: Global, words: Result<Tokens, Stop<Reason>>) -> Tokens {
     match words {
         Ok(words) => words,

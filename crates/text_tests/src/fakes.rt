@@ -1,4 +1,4 @@
-//! A stream and files whose every turn is set, in the place of the system's.
+//! A stream and files that replace those of the system; what each call does is set.
 use std::alloc::{Allocator, Global};
 use std::fs::{Files, Metadata, OpenFile, OpenOptions};
 use std::io::{self, Error, ErrorKind, Read, Seek, SeekFrom, Write};
@@ -6,14 +6,15 @@ use std::io::{self, Error, ErrorKind, Read, Seek, SeekFrom, Write};
 /// What a call does.
 #[derive(Clone, Copy)]
 pub enum Turn {
-    /// It moves at most so many bytes.
+    /// It moves at most this many bytes.
     Moves(usize),
-    /// A signal interrupts it, and the next so many less one.
+    /// A signal interrupts this many calls, of which it is the first.
     Interrupted(u32),
     Fails,
 }
 
-/// A stream that gives the bytes of `source`, and takes all bytes: by the first call, by the second, and then all at once.
+/// A stream that gives the bytes of `source` and takes all bytes. `turns` says what the first call does, and then the second; the calls after these
+/// move all bytes at once.
 #[derive(Drop)]
 pub struct Fake {
     pub turns: (Turn, Turn),
@@ -101,7 +102,7 @@ fn unsupported<T>() -> io::Result<T> {
     Err(Error::from(ErrorKind::Unsupported))
 }
 
-/// Files of which each opens as one stream.
+/// Files that each open as one stream.
 #[derive(Drop)]
 pub struct FakeFiles {
     pub alloc: Global,

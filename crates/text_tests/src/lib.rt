@@ -1,9 +1,9 @@
 //! Tests of the lowest crates and of those that make records.
 //!
-//! They use public calls alone and nothing stands on them, so each of those crates is proved without them. There is no code here. A
-//! test shows what no clause says: that calls answer with ample memory, what files and streams do that are slow, interrupted or
-//! broken, that threads meet, that half a million look-ups come to their end, and the sizes of types. The crates that read, check and
-//! evaluate records are also tested by what the commands answer on long texts (scripts/long_texts.py).
+//! They use only public calls and no crate depends on them, so each tested crate is proved without them. There is no product code here. A test shows
+//! what no clause says: that calls succeed with ample memory, what happens with files and streams that are slow, interrupted or broken, that threads
+//! meet, that half a million look-ups finish, and the sizes of types. The crates that read, check and evaluate records are also tested by what the
+//! commands print for long texts (scripts/long_texts.py).
 #![tactic(auto)]
 
 #[cfg(test)]

@@ -1,4 +1,4 @@
-//! What look-ups answer by a scan and by an index, also in many functions (`sym_lookup`), and records that are spelled as they were read
+//! What look-ups return by a scan and by an index, also for many functions (`sym_lookup`), and records that are spelled as they were read
 //! (`sym_grammar`, `sym_records`).
 ghost use Rattle.std.specs.Prelude.{◌<◌, ◌^◌, length};
 
@@ -11,7 +11,7 @@ use sym_edges::OutOfMemory;
 use sym_lookup::{Answer, Index, answer_at};
 use sym_records::{SymFile, render};
 
-/// A function with a copy that is inlined in it.
+/// A function with an inlined copy in it.
 const INLINED: &[u8] = b"MODULE Linux x86_64 0 a\nFILE 0 /s/a.c\nINLINE_ORIGIN 0 g\n\
     FUNC 1000 20 0 _Z1fv\nINLINE 0 4 0 0 1004 8\n1000 4 3 0\n1004 8 9 0\n100c 14 4 0\n";
 
@@ -31,8 +31,8 @@ const MAIN: &[u8] = b"MODULE Linux x86_64 030201000504070608090A0B0C0D0E0F0 a.ou
 
 type AnswerRow = (&'static str, &'static [u8], u64, &'static [usize]);
 
-/// A text, an address, and what is answered there: of a function its place, that of the line counted from 1, or 0, and those of the copies; the
-/// place of a symbol alone; or nothing.
+/// A text, an address, and the answer there: for a function its place, that of the line counted from 1 (or 0), and those of the copies; for a symbol
+/// its place alone; or nothing.
 const ANSWERS: [AnswerRow; 8] = [
     ("main", MAIN, 0x1000, &[2]),
     ("in a copy", INLINED, 0x1005, &[3, 7, 4]),
@@ -97,10 +97,10 @@ fn texts_have_their_answers(rt: HostRuntime) -> Result<(), Fail> {
     Ok(())
 }
 
-/// How many functions there are.
+/// The number of functions.
 const MANY: u64 = 500_000;
 
-/// Functions of eight bytes, sixteen apart.
+/// Functions of eight bytes, at every sixteenth address.
 fn functions(alloc: Global) -> Result<Vec<u8>, AllocError> {
     let mut text = Vec::from_slice(alloc, b"MODULE Linux x86_64 0 a\n")?;
     for k in 0..MANY {
@@ -120,7 +120,7 @@ fn is_bare(answer: &Answer, place: u64) -> bool {
     }
 }
 
-/// How many of the functions are answered at their first address.
+/// For how many of the functions the look-up of their first address finds them.
 fn answered(alloc: Global, file: &SymFile) -> Result<u64, OutOfMemory>
     requires { length file.now < 2 ^ 32 }
 {
@@ -135,7 +135,7 @@ fn answered(alloc: Global, file: &SymFile) -> Result<u64, OutOfMemory>
     Ok(answered)
 }
 
-/// A look-up that scans does not come to its end here.
+/// A look-up by scans would not finish here.
 #[test]
 fn each_of_many_functions_is_looked_up(rt: HostRuntime) -> Result<(), Fail> {
     let alloc = rt.alloc();

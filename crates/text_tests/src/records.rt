@@ -55,7 +55,7 @@ fn module(alloc: Global) -> Result<SymLine, OutOfMemory> {
     })
 }
 
-/// The record of a kind, in the order in which they may stand.
+/// The record of a kind; the kinds are in an order in which a file may have them.
 fn record(alloc: Global, kind: u32) -> Result<SymLine, OutOfMemory> {
     Ok(match kind {
         0 => module(alloc)?,
@@ -120,7 +120,7 @@ fn each_record(alloc: Global) -> Result<Vec<SymLine>, OutOfMemory> {
 const WHOLE: &[u8] =
     b"MODULE Linux x86_64 0F0 a.out\nINFO CODE_ID 00\nFILE 4294967295 /s/a.c\nINLINE_ORIGIN 0 g\nFUNC m 1000 20 0 _Z1fv\nINLINE 0 4 0 0 1004 8 2000 10\n1004 8 9 0\nPUBLIC ffffffffffffffff 0 main \nSTACK CFI INIT 1000 20 .cfa: $rsp 8 +\nSTACK CFI 1001 .cfa: $rsp 16 +\n";
 
-/// What a sink held after `write_file`, and whether all was written.
+/// What a sink has after `write_file`, and whether everything was written.
 fn write(
     alloc: Global,
     file: &SymFile,
@@ -134,7 +134,7 @@ fn write(
 
 type WriteRow = (&'static str, (usize, usize, u64), usize);
 
-/// The room of a sink, how many bytes it takes at once, and the number of the call that fails; how many bytes it takes of `WHOLE`.
+/// The room of a sink, how many bytes it takes in one call, and the number of the call that fails; then how many bytes of `WHOLE` it takes.
 const WRITES: [WriteRow; 6] = [
     ("in one piece", (500, 500, 0), 252),
     ("byte by byte", (500, 1, 0), 252),
@@ -160,13 +160,13 @@ fn rendered(alloc: Global, records: &[SymLine]) -> Result<Vec<u8>, OutOfMemory> 
     Ok(text)
 }
 
-/// The records as a file, and none where they are not valid.
+/// The records as a file; none if they are not valid.
 fn whole_file(alloc: Global) -> Result<Option<SymFile>, OutOfMemory> {
     let records = each_record(alloc)?;
     Ok(file_of(records).ok())
 }
 
-/// A sink that is used in this way takes so many bytes of `WHOLE`.
+/// A sink of this room, used in this way, takes this many bytes of `WHOLE`.
 fn expect_write(
     rt: &impl Abort,
     alloc: Global,
@@ -215,7 +215,7 @@ fn a_text_grows_in_pieces(rt: HostRuntime) -> Result<(), Fail> {
     Ok(())
 }
 
-/// Whether a PUBLIC record with a name of so many bytes is valid.
+/// Whether a PUBLIC record is valid, given the number of bytes of its name.
 fn is_public(alloc: Global, length: usize) -> Result<bool, OutOfMemory> {
     Ok(is_valid(&SymLine::Public {
         many: false,
@@ -230,7 +230,7 @@ const NOWHERE: Extent = Extent {
     size: 0,
 };
 
-/// Whether an INLINE record of many ranges is valid, whose last one has this size.
+/// Whether an INLINE record with many ranges is valid, given the size of the last range.
 fn is_inline(alloc: Global, size: u64) -> Result<bool, OutOfMemory> {
     let mut ranges = Vec::from_elem(alloc, NOWHERE, 262_139)?;
     ranges.push(Extent {

@@ -11,7 +11,7 @@ const _: () = prove!(size_of::<RangeSet>() == 32);
 
 const _: () = prove!(size_of::<Span>() == 16);
 
-/// A thousand spans from `from` to `to` after each tenth address, the highest first or last.
+/// A thousand spans from `from` to `to` after each tenth address, in ascending or descending order.
 fn thousand(alloc: Global, from: u64, to: u64, rising: bool) -> Result<Vec<Span>, AllocError> {
     let mut spans = Vec::new(alloc);
     for k in 0..1000 {
@@ -35,7 +35,7 @@ fn ends_of(alloc: Global, spans: &[Span]) -> Result<Vec<u64>, AllocError> {
     Ok(ends)
 }
 
-/// How two sets are put together.
+/// How a set is made.
 #[derive(Clone, Copy)]
 enum Form {
     Alone,
@@ -87,7 +87,7 @@ fn sets_of_a_thousand_spans(rt: HostRuntime) -> Result<(), Fail> {
     Ok(())
 }
 
-/// Spans by where they begin and end.
+/// Spans, given where they begin and end.
 fn spans_of(alloc: Global, ends: &[(u64, u64)]) -> Result<Vec<Span>, AllocError> {
     let mut spans = Vec::new(alloc);
     for (start, end) in ends {
@@ -103,7 +103,7 @@ fn set_of(alloc: Global, ends: &[(u64, u64)]) -> Result<RangeSet, OutOfMemory> {
     of_ranges(alloc, spans_of(alloc, ends)?.as_slice())
 }
 
-/// A set of spans that touch, in no order, what is left of it without a hole, a part of that, and both together.
+/// A set of spans that touch, given in no order; the rest of it without a hole; a part of the rest; and the rest joined with the hole.
 fn four_sets(alloc: Global) -> Result<[RangeSet; 4], OutOfMemory> {
     let whole = set_of(alloc, &[(5, 9), (1, 3), (3, 5)])?;
     let hole = set_of(alloc, &[(4, 6)])?;

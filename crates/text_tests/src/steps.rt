@@ -20,7 +20,7 @@ fn stretch(first: u64, last: u64, index: u32, class: u32) -> Stretch
     }
 }
 
-/// Stretches that fall, each of four addresses and overlapping the one after it by one.
+/// Stretches in descending order, each of four addresses, that overlap by one address.
 #[tactic(auto, using(step_maps::proofs::StretchLemmas::stretches_push))]
 fn falling(alloc: Global, count: u32) -> Result<Vec<Stretch>, AllocError>
     ensures { IfOk result (λ items. AreStretches items.items) }
@@ -33,7 +33,7 @@ fn falling(alloc: Global, count: u32) -> Result<Vec<Stretch>, AllocError>
     Ok(items)
 }
 
-/// Stretches of four addresses in no order: the first 70 are apart, and each of the next 70 lies on one of them.
+/// Stretches of four addresses in no order: the first 70 are disjoint, and each of the next 70 has the addresses of one of them.
 #[tactic(auto, using(step_maps::proofs::StretchLemmas::stretches_push))]
 fn scattered(alloc: Global, count: u32) -> Result<Vec<Stretch>, AllocError>
     ensures { IfOk result (λ items. AreStretches items.items) }
@@ -69,7 +69,7 @@ fn thousands_of_stretches_are_covered(rt: HostRuntime) -> Result<(), Fail> {
     Ok(())
 }
 
-/// Ten times the number of an item, counted from 1, and 1 where it is shared; 0 where there is none.
+/// Ten times the number of an item, counted from 1, plus 1 if the item is shared; 0 if there is no item.
 fn mark(item: Option<FirstItem>) -> u64 {
     match item {
         None => 0,
@@ -98,7 +98,7 @@ fn stretches_that_are_apart_need_no_order(rt: HostRuntime) -> Result<(), Fail> {
     Ok(())
 }
 
-/// The first items at addresses of the map that is laid over itself.
+/// The first items at addresses, from a map that was overlaid with itself.
 fn marks(alloc: Global, places: &[u64]) -> Result<Vec<u64>, OutOfMemory> {
     let items = falling(alloc, 5000)?;
     let steps = first_items(alloc, items.as_slice())?;

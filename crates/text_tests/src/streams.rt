@@ -1,5 +1,4 @@
-//! What the system's edge does with files and streams that are slow, interrupted or broken, and stores and sinks over memory
-//! (`sym_edges`).
+//! What `sym_edges` does with files and streams of the system that are slow, interrupted or broken, and with stores and sinks in memory.
 use crate::comparison::same;
 use crate::fakes::{Fake, FakeFiles, Turn};
 use std::alloc::{AllocError, Global};
@@ -28,7 +27,7 @@ const READINGS: [(&str, (Turn, Turn), &[u8]); 6] = [
     ("an error at once", (Turn::Fails, Turn::Fails), NOT_READ),
 ];
 
-/// A name in a store over memory, the numbers of the calls that fail, and what is read.
+/// A name in a store in memory, the numbers of the calls that fail, and what is read.
 const MEMORY: [(&str, &[u64], &[u8]); 5] = [
     ("a", &[], b"abcd"),
     ("b", &[], b"(too long)"),
@@ -37,7 +36,7 @@ const MEMORY: [(&str, &[u64], &[u8]); 5] = [
     ("a", &[3], NOT_READ),
 ];
 
-/// How four bytes are written, what is taken of them, and whether that is all.
+/// How four bytes are written, which of them are taken, and whether that is all of them.
 const WRITINGS: [(&str, (Turn, Turn), &[u8], bool); 5] = [
     (
         "a byte at once",
@@ -75,7 +74,7 @@ const NOT_OPENED: &[u8] = b"(not opened)";
 
 const NOT_READ: &[u8] = b"(not read)";
 
-/// The bytes that were read, or the word of the end of their reading.
+/// The bytes that were read, or a word for why the reading ended.
 fn end_word(found: &Result<ByteRun, Stop<ReadEnd>>) -> &[u8] {
     match found {
         Ok(bytes) => bytes.as_slice(),
@@ -86,7 +85,7 @@ fn end_word(found: &Result<ByteRun, Stop<ReadEnd>>) -> &[u8] {
     }
 }
 
-/// A file of these files.
+/// What is read of one of these files.
 fn read_from<R: Files>(alloc: Global, files: &R, name: &str) -> Result<ByteRun, Stop<ReadEnd>> {
     read_all(alloc, &mut FileStore::new(alloc, files), name, 100_000)
 }
@@ -98,7 +97,7 @@ fn file(alloc: Global, name: &str, bytes: &[u8]) -> Result<NamedFile, AllocError
     })
 }
 
-/// A store over memory whose calls of these numbers fail.
+/// A store in memory whose calls with these numbers fail.
 fn store_of(alloc: Global, fail: &[u64]) -> Result<MemStore, AllocError> {
     let mut files = Vec::new(alloc);
     files.push(file(alloc, "a", b"abcd")?)?;

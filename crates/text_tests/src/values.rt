@@ -8,7 +8,7 @@ use sym_edges::{ByteRun, OutOfMemory};
 use sym_records::SymLine;
 use sym_rules::{RuleText, Target};
 
-/// The rules behind a push of rbp, and of one cause each.
+/// The rules after a push of rbp, and a rule for each cause.
 const RULES: &[u8] = b"MODULE Linux x86_64 0 a\nSTACK CFI INIT 1001 3 \
     .cfa: $rsp 16 + .ra: .cfa -8 + ^ $rbp: .cfa -16 + ^ \
     a: 1023 16 @ b: 7 0 / c: 1 2 d: 1 10 @ e: -8 f: $rip g: $rax h: $nothing i: .undef\n";
@@ -41,7 +41,7 @@ fn init_rules(lines: &[SymLine]) -> &[RuleText] {
     &[]
 }
 
-/// The values of rules, where rsp is 7ffe0010 and these bytes are saved there.
+/// The values of rules, if rsp is 7ffe0010 and these bytes are saved there.
 fn values_of(alloc: Global, rules: &[RuleText], saved: &[u8]) -> Result<Vec<Outcome>, OutOfMemory> {
     let mut regs = Regs {
         values: [None; 16],

@@ -36,7 +36,7 @@ impl UnitJob for Squares {
     }
 }
 
-/// The squares of so many numbers by so many workers.
+/// The squares of a number of numbers, by a number of workers.
 fn squares_by<R: Threads + Sync, G: Gate + Sync>(
     rt: &R,
     alloc: Global,
@@ -120,7 +120,7 @@ fn each_unit_is_reached_once_and_holds_up_no_other(rt: HostRuntime) -> Result<()
     Ok(())
 }
 
-/// What two hands draw of no ticket.
+/// What two hands draw if there is no ticket.
 fn draws_of_none(alloc: Global) -> Result<[Option<usize>; 2], OutOfMemory> {
     let (tickets, mut hand) = open_tickets(alloc, 0, 2)?;
     let mut other = hand.split(&tickets);
@@ -134,7 +134,7 @@ fn draws_of_none(alloc: Global) -> Result<[Option<usize>; 2], OutOfMemory> {
     Ok([first, second])
 }
 
-/// What one hand draws of one ticket.
+/// What one hand draws if there is one ticket.
 fn draws_of_one(alloc: Global) -> Result<[Option<usize>; 2], OutOfMemory> {
     let (tickets, mut hand) = open_tickets(alloc, 1, 1)?;
     let Some(first) = hand.draw(&tickets) else {

@@ -1,4 +1,4 @@
--- Which numbers of two files have one name.
+-- Which numbers of two files stand for the same name.
 use Rattle.std.specs.Prelude.{◌≡◌, ℕ, List, Option}
 use Rattle.std.specs.List.{All}
 use Rattle.sym_records.specs.declared.line.SymLine.{SymLine}
@@ -13,7 +13,7 @@ abbrev pub name_of : Numbered → List SymLine → ℕ → Option (List ℕ)
 name_of Files = text_path
 name_of Origins = text_origin
 
--- the number has the name that the first file has under the other
+-- the name under `a.number` is the name that the first file has under `a.first`
 abbrev pub IsAlias : Numbered → List SymLine → List SymLine → Alias → Type 0
 IsAlias numbered own lines a = name_of numbered own a.first ≡ name_of numbered lines a.number
 

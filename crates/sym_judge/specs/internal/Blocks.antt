@@ -1,5 +1,5 @@
--- Blocks of records: a FUNC with the INLINE and line records directly under it, or an INIT with the changes directly behind it. Where two files
--- have blocks that say the same they do not differ.
+-- Blocks of records: a FUNC with the INLINE and line records directly under it, or an INIT with the changes directly after it. If the blocks of two
+-- files at an address say the same, the files do not differ there.
 use Rattle.std.specs.Prelude.{◌≡◌, ℕ, ◌+◌, ◌<◌, ◌^◌, ◌==◌, ◌&&◌, Bool, true, false, List, [], ◌∷◌, drop, get_or, Option, None, Some, slice_get}
 use Rattle.std.specs.Str.{bytes_eq}
 use Rattle.sym_records.specs.declared.line.Extent.{Extent}
@@ -24,13 +24,13 @@ abbrev pub block_place : Half → List SymLine → ℕ → Option ℕ
 block_place Names lines = func_place lines
 block_place Frames lines = init_place lines
 
--- the changes at the front of some records
+-- the changes at the start of some records
 abbrev pub changes : List SymLine → List SymLine
 changes [] = []
 changes (record_line.Change address rules ∷ lines) = record_line.Change address rules ∷ changes lines
 changes (_ ∷ lines) = []
 
--- the records of a block, of those behind its first
+-- the records of a block after its first, given all records after its first
 abbrev pub inside : Half → List SymLine → List SymLine
 inside Names lines = under lines
 inside Frames lines = changes lines
@@ -53,7 +53,7 @@ same_path own other a b = same_option bytes_eq (text_path own a) (text_path othe
 abbrev pub same_origin : List SymLine → List SymLine → ℕ → ℕ → Bool
 same_origin own other a b = same_option bytes_eq (text_origin own a) (text_origin other b)
 
--- the names of files, or those of inlined functions
+-- whether numbers name the same file, or the same inlined function
 abbrev pub same_name : Numbered → List SymLine → List SymLine → ℕ → ℕ → Bool
 same_name Files = same_path
 same_name Origins = same_origin
@@ -63,14 +63,14 @@ pub record TwoFiles : Type 0 where
   pub own : List SymLine
   pub other : List SymLine
 
--- what a list tells of a number, which is a place in it
+-- the entry of a number in a list; false if the list has none
 abbrev pub is_told : List Bool → ℕ → Bool
 is_told told n = get_or told n false
 
 abbrev pub are_told : List Bool → ℕ → ℕ → Bool
 are_told told a b = (a == b) && is_told told a
 
--- under each number that is told two files have the same
+-- if the list is true at a number, both files have the same under it
 pub record AreTold (same : List SymLine → List SymLine → ℕ → ℕ → Bool) (own other : List SymLine) (told : List Bool) : Type 0 where
   pub holds : (n : ℕ) → is_told told n ≡ true → same own other n n ≡ true
 
@@ -87,14 +87,14 @@ same_ranges level ranges depth extents = (level == depth) && same_list same_exte
 abbrev pub same_site : List SymLine → List SymLine → ℕ → ℕ → ℕ → ℕ → ℕ → ℕ → Bool
 same_site own other line file origin number path name = same_source own other line file number path && same_origin own other origin name
 
--- records that say the same of the same addresses
+-- whether two records say the same of the same addresses
 abbrev pub same_record : List SymLine → List SymLine → SymLine → SymLine → Bool
 same_record own other (record_line.Inline level line file origin ranges) (record_line.Inline depth number path name extents) = same_ranges level ranges depth extents && same_site own other line file origin number path name
 same_record own other (record_line.Line address size line file) (record_line.Line start many number path) = same_run address size start many && same_source own other line file number path
 same_record own other (record_line.Change address rules) (record_line.Change start others) = (address == start) && same_list same_rule_text rules others
 same_record own other _ _ = false
 
--- first records of blocks that say the same
+-- whether the first records of two blocks say the same
 abbrev pub same_head : SymLine → SymLine → Bool
 same_head (record_line.Func many address size params name) (record_line.Func more start length others called) = bytes_eq name called
 same_head (record_line.Init address size rules) (record_line.Init start length others) = same_list same_rule_text rules others
@@ -112,6 +112,6 @@ pub record AreSameBlocks (half : Half) (own other : List SymLine) (i j : ℕ) : 
   pub heads : same_head first second ≡ true
   pub insides : same_inside half own other (drop (i + 1) own) (drop (j + 1) other) ≡ true
 
--- a map of addresses that is false only where two files do not differ
+-- a map that is false at an address only if two files do not differ there
 pub record AreDoubts (half : Half) (own other : List SymLine) (doubts : Stepping Bool) : Type 0 where
   pub clear : (x : ℕ) → x < 2 ^ 64 → value_at false doubts x ≡ false → first_in half own other x ≡ None

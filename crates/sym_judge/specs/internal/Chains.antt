@@ -1,4 +1,4 @@
--- Chains of inlined calls by numbers, and what is known of two functions.
+-- Chains of inlined calls, stored by numbers, and what is known of two functions.
 use Rattle.std.specs.Prelude.{◌≡◌, ℕ, ◌<◌, ◌^◌, ◌++◌, Bool, true, false, List, [], ◌∷◌, map, codes, Option, Some, slice_get}
 use Rattle.std.specs.List.{All}
 use Rattle.std.specs.Option.{option_and_then, option_map_or, unwrap_or}
@@ -21,18 +21,18 @@ use Rattle.sym_judge.specs.declared.function_pairs.FuncPair.{FuncPair}
 use Rattle.sym_judge.specs.declared.function_pairs.FuncMeetings.{FuncMeetings}
 use Rattle.sym_judge.specs.internal.Spots.{spot_view, call_spot_of}
 
--- what is compared of a call: the name that is shown, and where it is
+-- what is compared of a call: the name that is shown, and its path and line
 abbrev pub Shown : Type 0
 Shown = List ℕ × (Option (List ℕ) × ℕ)
 
 abbrev pub shown : Call → Shown
 shown call = (call_name call, call_spot_of call)
 
--- the same of a call that is named by a file's numbers
+-- the same for a call that is given by a file's numbers
 abbrev pub shown_call : List SymLine → CallSpot → Shown
 shown_call own call = (unwrap_or (option_and_then (text_origin own) call.origin) (codes "<name omitted>"), spot_view own call.spot)
 
--- a chain as it is put together
+-- a chain: one call, or two chains joined
 pub data ChainTree : Type 0 where
   One : (call : CallSpot) → ChainTree
   Two : (front back : ChainTree) → ChainTree
@@ -41,12 +41,12 @@ abbrev pub calls_of_tree : List SymLine → ChainTree → List Shown
 calls_of_tree own (One call) = shown_call own call ∷ []
 calls_of_tree own (Two front back) = calls_of_tree own front ++ calls_of_tree own back
 
--- the entry of a number, and those of the numbers in it, put a chain together so
+-- the entry of a number, with the entries of the numbers in it, stores the chain of a tree
 abbrev pub IsNumberOf : List Entry → ChainTree → ℕ → Type 0
 IsNumberOf entries (One call) n = slice_get entries n ≡ Some (entry.Call call)
 IsNumberOf entries (Two front back) n = (i : ℕ) × (j : ℕ) × (slice_get entries n ≡ Some (entry.Joined i j)) × IsNumberOf entries front i × IsNumberOf entries back j
 
--- a number stands for some calls
+-- a number stands for a chain of calls
 pub record Means (own : List SymLine) (entries : List Entry) (n : ℕ) (calls : List Shown) : Type 0 where
   pub tree : ChainTree
   pub number : IsNumberOf entries tree n
@@ -56,14 +56,14 @@ pub record Means (own : List SymLine) (entries : List Entry) (n : ℕ) (calls : 
 abbrev pub Keeps : List Entry → List Entry → Type 0
 Keeps old new = (n : ℕ) (e : Entry) → slice_get old n ≡ Some e → slice_get new n ≡ Some e
 
--- what is told of the calls of some levels, and of whether each level has one
+-- what a part says of the calls of some levels, and whether each level has one
 abbrev pub IsPart : List SymLine → List Entry → List Shown → Bool → ChainPart → Type 0
 IsPart own entries calls full Nothing = (calls ≡ []) × (full ≡ false)
 IsPart own entries calls full (Whole n) = Means own entries n calls × (full ≡ true)
 IsPart own entries calls full (Ended n) = Means own entries n calls × (full ≡ false)
 IsPart own entries calls full Unlike = Unit {0}
 
--- the call of the INLINE at a place, where there is one, and those at some places
+-- the call of the INLINE at a place, if there is one; below, the calls at some places
 abbrev pub calls_there : List SymLine → Option ℕ → List Shown
 calls_there lines place = option_map_or (λ place. shown (call_at lines place) ∷ []) place []
 
@@ -75,30 +75,30 @@ abbrev pub is_full : List (Stepping (Option FirstItem)) → ℕ → Bool
 is_full [] x = true
 is_full (level ∷ levels) x = option_map_or (λ place. is_full levels x) (place_in level x) false
 
--- a map tells of the calls of some levels at each address
+-- at each address the map has the part for the calls of some levels
 pub record AreMapped (own lines : List SymLine) (entries : List Entry) (levels : List (Stepping (Option FirstItem))) (map : Stepping ChainPart) : Type 0 where
   pub parts : (x : ℕ) → x < 2 ^ 64 → IsPart own entries (shown_calls lines (chain_in levels x)) (is_full levels x) (value_at Nothing map x)
 
--- the same, whichever levels each have a call
+-- the same, whether or not each level has a call
 pub record IsPartOf (own : List SymLine) (entries : List Entry) (calls : List Shown) (part : ChainPart) : Type 0 where
   pub full : Bool
   pub is : IsPart own entries calls full part
 
--- a map tells of the chain of a FUNC at each address
+-- at each address the map has the part for the chain of a FUNC
 pub record IsChainMap (own lines : List SymLine) (entries : List Entry) (func : ℕ) (map : Stepping ChainPart) : Type 0 where
   pub parts : (x : ℕ) → x < 2 ^ 64 → IsPartOf own entries (shown_calls lines (chain_places lines func x)) (value_at Nothing map x)
 
 abbrev pub AreFuncChains : List SymLine → List SymLine → List Entry → List FuncChains → Type 0
 AreFuncChains own lines entries funcs = All (λ f. IsChainMap own lines entries f.func f.chains) funcs
 
--- two functions have one name, or they do not
+-- the pair says whether its two functions have one name
 pub record IsFuncPair (own other : List SymLine) (pair : FuncPair) : Type 0 where
   pub named : pair.same_name ≡ bytes_eq (func_name_at own pair.met.own) (func_name_at other pair.met.other)
 
 abbrev pub AreFuncPairs : List SymLine → List SymLine → List FuncPair → Type 0
 AreFuncPairs own other pairs = All (IsFuncPair own other) pairs
 
--- the chains of functions of both files, by one numbering
+-- the chains of functions of both files, numbered by the same entries
 pub record AreNumbered (own other : List SymLine) (mine theirs : List FuncChains) : Type 0 where
   pub entries : List Entry
   pub first : AreFuncChains own own entries mine

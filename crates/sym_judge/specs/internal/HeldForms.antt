@@ -8,7 +8,7 @@ use Rattle.sym_judge.specs.declared.held_forms.HeldForm.{HeldForm}
 use Rattle.sym_judge.specs.internal.Stacks.{form_view}
 use Rattle.sym_judge.specs.internal.Tables.{words_at}
 
--- the words at the place have the form
+-- the words at the place have the stored form
 abbrev pub IsHeldForm : List SymLine → HeldForm → Type 0
 IsHeldForm lines held = (words : List Token) → words_at lines held.place ≡ Some words → form_view held.form ≡ form_of held.inside words
 

@@ -1,4 +1,4 @@
--- The numbers under which two files have one name, those that are told by their places and others.
+-- The numbers under which two files have one name: the same number in both (`told`), or two numbers (`aliases`).
 use Rattle.std.specs.Prelude.{List}
 use Rattle.sym_records.specs.declared.line.SymLine.{SymLine}
 use Rattle.sym_judge.specs.declared.aliases.Numbered.{Numbered}

@@ -1,4 +1,4 @@
--- Which rules of two files are in the same words.
+-- Which rules of two files have the same words.
 use Rattle.std.specs.Prelude.{◌≡◌, List}
 use Rattle.std.specs.List.{All}
 use Rattle.sym_records.specs.declared.line.SymLine.{SymLine}
@@ -6,7 +6,7 @@ use Rattle.sym_judge.specs.declared.rule_aliases.RuleAlias.{RuleAlias}
 use Rattle.sym_judge.specs.declared.rule_aliases.RuleAliases.{RuleAliases}
 use Rattle.sym_judge.specs.internal.Tables.{words_at}
 
--- the place has the words that the first file has at the other
+-- the words at `a.place` are those that the first file has at `a.first`
 abbrev pub IsRuleAlias : List SymLine → List SymLine → RuleAlias → Type 0
 IsRuleAlias own lines a = words_at own a.first ≡ words_at lines a.place
 

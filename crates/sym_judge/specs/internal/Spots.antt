@@ -1,4 +1,4 @@
--- Places in sources as the code keeps them, and what two answers name differently.
+-- Paths and lines of sources as the code stores them, and in what two answers differ.
 use Rattle.std.specs.Prelude.{ℕ, List, Option, None, Some, if◌then◌else◌}
 use Rattle.std.specs.Option.{option_and_then}
 use Rattle.std.specs.Str.{bytes_eq}
@@ -11,7 +11,7 @@ use Rattle.sym_judge.specs.declared.names.Spot.{Spot}
 use Rattle.sym_judge.specs.declared.ruling.Aspect.{Aspect}
 use Rattle.sym_judge.specs.declared.ruling.Aspect.TheVariants.{Func, Chain, Line}
 
--- the path under a file's number, where there is one, and the line
+-- the path under a file's number, if there is one, and the line
 abbrev pub spot_view : List SymLine → Spot → Option (List ℕ) × ℕ
 spot_view lines spot = (option_and_then (text_path lines) spot.file, spot.line)
 

@@ -1,4 +1,4 @@
--- Stacks of terms as the code keeps them, the last term at the end; and forms as it keeps them.
+-- Stacks of terms as the code stores them, with the top at the end; and forms as it stores them.
 use Rattle.std.specs.Prelude.{◌≡◌, Bool, true, false, List, [], ◌∷◌, reverse, Option, Some, None}
 use Rattle.sym_rules.specs.declared.rules.Token.{Token}
 use Rattle.sym_rules.specs.declared.rules.Token.TheVariants as token
@@ -12,15 +12,15 @@ use Rattle.sym_judge.specs.Forms as forms
 abbrev pub HasNoSum : List Term → Type 0
 HasNoSum stack = forms.fetched (reverse stack) ≡ None
 
--- there are no two
+-- there are no two sums on top
 abbrev pub HasNoTwo : List Term → Type 0
 HasNoTwo stack = (sign : Sum → Sum → Option Sum) → forms.of_two sign (reverse stack) ≡ None
 
--- the one term of a stack
+-- the term of a stack, if it has only one
 abbrev pub one_of : List Term → Option Term
 one_of terms = forms.one_term (Some terms)
 
--- `.undef` alone
+-- whether the words are `.undef` alone
 abbrev pub is_undefined : List Token → Bool
 is_undefined (token.Undef ∷ []) = true
 is_undefined _ = false

@@ -1,4 +1,4 @@
--- The addresses at which records begin and end: between two of them nothing changes.
+-- The addresses at which records begin and end: between two neighbours nothing changes.
 use Rattle.std.specs.Prelude.{◌≡◌, ◌<◌, ℕ, ◌+◌, ◌^◌, Bool, false, nat_lt, nat_le, if◌then◌else◌, List, [], ◌∷◌, ◌++◌, Option, None, Some}
 use Rattle.std.specs.List.{find, flat_map, filter}
 use Rattle.sym_records.specs.declared.line.Extent.{Extent}
@@ -12,14 +12,14 @@ use Rattle.sym_judge.specs.declared.ruling.Ruling.TheVariants.{Yes, No}
 use Rattle.sym_judge.specs.declared.ruling.Half.{Half}
 use Rattle.sym_judge.specs.declared.ruling.Half.TheVariants.{Names, Frames}
 
--- where some addresses begin, and where they have ended; an end above all addresses of 64 bits is none
+-- the first address of a range, and the address after its last, if that has 64 bits
 unfoldable pub run_stops : ℕ → ℕ → List ℕ
 run_stops address size = if nat_lt (address + size) (2 ^ 64) then address ∷ (address + size) ∷ [] else address ∷ []
 
 abbrev pub extent_stops : Extent → List ℕ
 extent_stops e = run_stops e.address e.size
 
--- the stops of a record of one half
+-- the stops of a record in one half
 abbrev pub line_stops : Half → SymLine → List ℕ
 line_stops Names (record_line.Func many address size params name) = run_stops address size
 line_stops Names (record_line.Inline level line file origin ranges) = flat_map extent_stops ranges
@@ -45,7 +45,7 @@ pub record Compared : Type 0 where
   pub own : List SymLine
   pub other : List SymLine
 
--- what is known once an address is looked at: an address above one where the files differ tells nothing
+-- an address at or above one at which the files differ is not looked at; for any other, the ruling takes what is found there
 abbrev pub is_settled : Ruling → ℕ → Bool
 is_settled Yes x = false
 is_settled (No address aspect) x = nat_le address x
@@ -65,15 +65,15 @@ with_stops half own other ruling (x ∷ stops) = with_stops half own other (with
 abbrev pub all_stops : Half → List SymLine → List SymLine → List ℕ
 all_stops half own other = 0 ∷ (stops_of half own ++ stops_of half other)
 
--- the ruling of one half, by all stops
+-- the ruling of one half, by all its stops
 unfoldable pub half_ruling : Half → List SymLine → List SymLine → Ruling
 half_ruling half own other = with_stops half own other Yes (all_stops half own other)
 
--- the stops at which files may differ
+-- the stops at which the files may differ
 abbrev pub doubted : Stepping Bool → List ℕ → List ℕ
 doubted doubts stops = filter (value_at false doubts) stops
 
--- of two rulings the one with the lesser address; of equal ones the first
+-- the ruling with the lesser address; if the addresses are equal, the first
 abbrev pub sooner : Ruling → Ruling → Ruling
 sooner Yes b = b
 sooner (No x p) Yes = No x p

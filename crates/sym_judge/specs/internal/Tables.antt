@@ -36,13 +36,13 @@ pub record IsTable (lines : List SymLine) (rules : List RuleText) (table : RuleT
   pub many : length table.registers ≡ 16
   pub registers : (k : ℕ) → k < 16 → words_in lines (get_or table.registers k None) ≡ rule_for (target.Reg k) rules
 
--- the same of the rules at an address, where there are some
+-- a table of the rules at an address that has rules
 pub record IsTableAt (lines : List SymLine) (x : ℕ) (table : RuleTable) : Type 0 where
   pub rules : List RuleText
   pub is : text_rules lines x ≡ Some rules
   pub table_is : IsTable lines rules table
 
--- the same of a front of the changes behind an INIT; the rest stands at a place
+-- a table of the rules of an INIT and a prefix of its changes; the other changes start at a place
 pub record IsTableUpTo (lines : List SymLine) (x place : ℕ) (table : RuleTable) : Type 0 where
   pub done : List RuleText
   pub is : text_rules lines x ≡ Some (done ++ changes_until x (drop place lines))

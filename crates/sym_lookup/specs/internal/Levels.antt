@@ -13,7 +13,7 @@ use Rattle.sym_lookup.specs.declared.stretches.Kind.TheVariants as kind
 use Rattle.sym_lookup.specs.PlaceMaps.{IsPlaceMap}
 use Rattle.sym_lookup.specs.internal.Kinds.{is_at, stretches_of}
 
--- the stretches of a level, where it is one of those that are held
+-- the stretches of a level, if the list has that level
 abbrev pub bucket : List (Vec Stretch) → ℕ → Option (List Stretch)
 bucket leveled level = option_map (λ (v : Vec Stretch). v.items) (slice_get leveled level)
 
@@ -23,12 +23,12 @@ pub record AreEmpty (leveled : List (Vec Stretch)) : Type 0 where
 pub record HaveStretches (leveled : List (Vec Stretch)) : Type 0 where
   pub some : (level : ℕ) → IfSome (bucket leveled level) AreStretches
 
--- each level that is held has those of the records of that level
+-- each level of the list has the stretches of the INLINE records of that level
 pub record AreLeveled (first : ℕ) (records : List SymLine) (leveled : List (Vec Stretch)) : Type 0 where
   pub have : HaveStretches leveled
   pub same : (level : ℕ) → IfSome (bucket leveled level) (λ s. s ≡ stretches_of (kind.Level level) first records)
 
--- a map of the records of a level; nothing where no record of the level has an address
+-- a map of the INLINE records of a level; no map only if no record of the level covers an address
 abbrev pub IsLevelMap : ℕ → ℕ → List SymLine → Option (Stepping (Option FirstItem)) → Type 0
 IsLevelMap level first records None = (x : ℕ) → x < 2 ^ 64 → position_from (is_inline_at level x) first records ≡ None
 IsLevelMap level first records (Some map) = IsPlaceMap (λ x. position_from (is_at (kind.Level level) x) first records) map

@@ -1,4 +1,4 @@
--- Marks: records by a key, the address at which they begin or their number.
+-- The marks of records: a record's place with a key, which is the address at which it begins or its number.
 use Rattle.std.specs.Prelude.{ℕ, ◌+◌, List, [], ◌∷◌, ◌++◌, Option, None, Some}
 use Rattle.sym_records.specs.declared.line.SymLine.{SymLine}
 use Rattle.sym_records.specs.declared.line.SymLine.TheVariants.{File, Origin, Func, Public}
@@ -32,7 +32,7 @@ abbrev pub mark_of : ℕ → Option ℕ → List Mark
 mark_of place None = []
 mark_of place (Some key) = record { key = key; place = place } ∷ []
 
--- the marks of records, the first of which has a place
+-- the marks of records; the first record has a given place
 abbrev pub marks_of : Marked → ℕ → List SymLine → List Mark
 marks_of kind place [] = []
 marks_of kind place (s ∷ lines) = mark_of place (key_of kind s) ++ marks_of kind (place + 1) lines
