@@ -1,12 +1,16 @@
--- The length in front of an identifier (short_length, any_length).
-use Rattle.std.proofs.Common.{◌≡◌, ℕ, ◌-◌, ◌≤◌, ◌==◌, suc, cond, true, false, List, [], ◌∷◌, length, take, drop, get_or, Option, Some, None, refl, sym, ◌∙◌, ap, arith}
+-- The length in front of an identifier, and its bytes (short_length, any_length, are_identifier_bytes).
+use Rattle.std.proofs.Common.{◌≡◌, ℕ, ◌-◌, ◌≤◌, ◌==◌, suc, cond, true, false, List, [], ◌∷◌, length, take, drop, get_or, Option, Some, None, refl, sym, ◌∙◌, ap, arith, ◌+◌, ◌<◌, ◌&&◌, Bool, zero}
+use Rattle.std.specs.List.{list_all}
 use Rattle.std.specs.Option.{option_map}
+use Rattle.std.proofs.lemmas.List.{take_all}
+use Rattle.sym_rules.proofs.BoolLemmas.{elim_bool}
+use Rattle.rust_names.proofs.FrontLemmas.{every_more}
 use Rattle.rust_names.specs.Digits.{digits_in_front, number_upto}
 use Rattle.std.specs.Str.Parse.{digits_value}
 use Rattle.std.proofs.lemmas.Bool.Decides.{nat_tests}
 use Rattle.rust_names.specs.Legacy.{is_digit, is_number}
 use Rattle.rust_names.specs.V0Numbers.{front, eat}
-use Rattle.rust_names.specs.V0Identifiers.{length_by, length_in_front}
+use Rattle.rust_names.specs.V0Identifiers.{is_identifier_byte, length_by, length_in_front}
 use Rattle.rust_names.proofs.DigitLemmas.{front_digits, one_digit, no_digits, number_more, number_by}
 
 length_at : (bytes : List ℕ) (n : ℕ) → None ≡ eat 48 bytes → n ≡ length (digits_in_front bytes) → length_in_front bytes ≡ option_map (λ k. (k, drop n bytes)) (number_upto (length bytes) (take n bytes))
@@ -41,3 +45,19 @@ one_digit_length (a ∷ b ∷ bytes) n some low high other is within =
     length_found (a ∷ b ∷ bytes) (a ∷ []) (b ∷ bytes) 1 (Some n) (no_zero a (b ∷ bytes) low)
     (sym (one_digit a (b ∷ bytes) digit ∙ ap suc (no_digits b bytes other))) refl refl
     (ap Some value ∙ sym (number_by (length (a ∷ b ∷ bytes)) (a ∷ []) (let e : is_number (a ∷ []) ≡ true = grind (arith, nat_tests) in e) (omega (arith, value, within))))
+
+-- its bytes
+
+other_by : (p : ℕ → Bool) (bytes : List ℕ) (i : ℕ) → i < length bytes → p (get_or bytes i 0) ≡ false → list_all p bytes ≡ false
+other_by p [] i within other = absurd (omega arith)
+other_by p (b ∷ bytes) zero within other = ap (λ t. t && list_all p bytes) other
+other_by p (b ∷ bytes) (suc i) within other = elim_bool (p b) (λ t. (t && list_all p bytes) ≡ false) (λ _. other_by p bytes i (omega arith) other) (λ _. refl)
+
+pub letters_more : (bytes : List ℕ) (i : ℕ) → i < length bytes → list_all is_identifier_byte (take i bytes) ≡ true → is_identifier_byte (get_or bytes i 0) ≡ true → list_all is_identifier_byte (take (i + 1) bytes) ≡ true
+letters_more = every_more is_identifier_byte
+
+pub letters_stop : (bytes : List ℕ) (i : ℕ) → i < length bytes → is_identifier_byte (get_or bytes i 0) ≡ false → false ≡ list_all is_identifier_byte bytes
+letters_stop bytes i within other = sym (other_by is_identifier_byte bytes i within other)
+
+pub letters_end : (bytes : List ℕ) (i : ℕ) → length bytes ≤ i → list_all is_identifier_byte (take i bytes) ≡ true → true ≡ list_all is_identifier_byte bytes
+letters_end bytes i past all = sym (ap (list_all is_identifier_byte) (sym (take_all i bytes past)) ∙ all)

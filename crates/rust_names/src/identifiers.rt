@@ -44,6 +44,7 @@ fn are_many_identifier_bytes(bytes: &[u8]) -> bool
 }
 
 /// Whether bytes are letters, digits and `_`.
+#[tactic(auto, using(crate::proofs::IdentifierLemmas::letters_more, crate::proofs::IdentifierLemmas::letters_stop, crate::proofs::IdentifierLemmas::letters_end))]
 #[inline(always)]
 fn are_identifier_bytes(bytes: &[u8]) -> bool
     ensures { result ≡ list_all v0.is_identifier_byte bytes.now }
@@ -51,7 +52,12 @@ fn are_identifier_bytes(bytes: &[u8]) -> bool
     if bytes.len() > SHORT {
         return are_many_identifier_bytes(bytes);
     }
-    bytes.iter().all(|b| is_identifier_byte(*b))
+    for b in bytes {
+        if !is_identifier_byte(*b) {
+            return false;
+        }
+    }
+    true
 }
 
 /// Whether bytes are digits of Punycode.
