@@ -1,5 +1,5 @@
--- The name for a name, as a function: the law `names_are_shown` says of it `IsNameFor name (named name)`, and `IsNameFor` (`ShownRecords`) leaves
--- one name alone. So it is what the name shows, where it shows something, and the name itself elsewhere; how `shown_of` finds it needs no reading.
+-- The name for a name, as a function. The law `names_are_shown` says `IsNameFor name (named name)`, and `IsNameFor` (`ShownRecords`) allows only one
+-- name. So `named name` is the readable form of the name if it has one, and otherwise the name itself. How `shown_of` finds it need not be read.
 use Rattle.std.specs.Prelude.{ℕ, List}
 use Rattle.std.specs.Option.{option_map_or}
 use Rattle.rust_names.specs.internal.Finding.{shown_of}

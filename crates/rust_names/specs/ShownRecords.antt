@@ -1,4 +1,4 @@
--- Records with the names that they show: those of FUNC, INLINE_ORIGIN and PUBLIC (Breakpad's symbol_files.md); all else stays.
+-- Records whose names are replaced by their readable forms: FUNC, INLINE_ORIGIN and PUBLIC (Breakpad's symbol_files.md). All else stays.
 use Rattle.std.specs.Prelude.{◌≡◌, ◌⊎◌, ℕ, List, map}
 use Rattle.std.specs.Option.{option_map}
 use Rattle.sym_records.specs.declared.line.SymLine.{SymLine}
@@ -13,7 +13,7 @@ renamed f (Origin number name) = Origin number (f name)
 renamed f (Public many address params name) = Public many address params (f name)
 renamed f s = s
 
--- the name for a name: what it shows, or itself where it shows nothing else
+-- the name for `name`: its readable form or, if it has none, itself
 abbrev pub IsNameFor : List ℕ → List ℕ → Type 0
 IsNameFor name new = IsShown name new ⊎ (IsPlainName name × (new ≡ name))
 
@@ -23,7 +23,7 @@ pub record HaveShownNames (lines new : List SymLine) : Type 0 where
   pub shown : (name : List ℕ) → IsNameFor name (names name)
   pub all : new ≡ map (renamed names) lines
 
--- what a look-up finds, with another name: a FUNC and the records after it, and a call that was inlined
+-- what a look-up finds, with other names: a FUNC with the records after it, and an inlined call
 abbrev pub renamed_found : (List ℕ → List ℕ) → Found → Found
 renamed_found f found = record { func = renamed f found.func; behind = map (renamed f) found.behind }
 

@@ -1,5 +1,5 @@
--- The grammar of v0 names (RFC 2603), production by production: by the byte in front, the symbols that a symbol is made of, with the words that
--- are shown between them, and what stands after that byte.
+-- The grammar of v0 names (RFC 2603), production by production. Given a symbol's first byte, a production gives the parts that the symbol is made of,
+-- with the words that are shown between them, and the bytes that are left.
 use Rattle.std.specs.Prelude.{ℕ, ◌+◌, ◌-◌, ◌^◌, ◌==◌, ◌&&◌, ◌||◌, nat_le, nat_lt, Bool, true, false, not, if◌then◌else◌, List, [], ◌∷◌, ◌++◌, length, Option, Some, None}
 use Rattle.std.specs.Option.{option_map, option_and_then}
 use Rattle.rust_names.specs.declared.words.Word.{Word}
@@ -38,14 +38,14 @@ list_of i = Made (phrase.Items i Zero)
 abbrev pub is_namespace : ℕ → Bool
 is_namespace b = nat_le 65 b && nat_le b 90 || nat_le 97 b && nat_le b 122
 
--- a path in a namespace, and its name
+-- a nested path: its outer path, and its name in a namespace
 abbrev pub nested_by : Kind → ℕ × List ℕ → Option (List Part × List ℕ)
 nested_by outer x = if is_namespace x.0 then Some (Deep outer ∷ Made (phrase.Named x.0) ∷ [], x.1) else None
 
 unfoldable pub nested_parts : Kind → List ℕ → Option (List Part × List ℕ)
 nested_parts outer bytes = option_and_then (nested_by outer) (front bytes)
 
--- <T>, and <T as Trait>; in an impl its path stands in front
+-- <T>, and <T as Trait>; in an impl the path of the impl stands first
 abbrev pub inherent : List Part
 inherent = Read leaf.Disambiguator ∷ Within inner.ImplPath ∷ say word.Less ∷ any_type ∷ say word.Greater ∷ []
 
@@ -55,7 +55,7 @@ of_trait = say word.Less ∷ any_type ∷ say word.As ∷ Deep kind.Path ∷ say
 abbrev pub of_impl : List Part
 of_impl = Read leaf.Disambiguator ∷ Within inner.ImplPath ∷ of_trait
 
--- <path>, where `outer` is a path of the same sort, and `opening` stands before generic arguments
+-- <path>: `outer` is the kind of the outer path in it, and `opening` the word before generic arguments
 unfoldable pub path_parts : Kind → Word → ℕ → List ℕ → Option (List Part × List ℕ)
 path_parts outer opening b bytes =
     -- C: a crate
@@ -74,7 +74,7 @@ path_parts outer opening b bytes =
     else if b == 66 then Some (Back outer ∷ [], bytes)
     else None
 
--- the path of a trait: generic arguments are left open for bindings
+-- the path of a trait: its generic arguments stay open (without `>`), since bindings may follow
 abbrev pub closed : Option (List Part × List ℕ) → Option (List Part × List ℕ)
 closed found = option_map (λ x. (x.0 ++ Opened false ∷ [], x.1)) found
 
@@ -88,7 +88,7 @@ trait_parts b bytes =
 abbrev pub array : List Part
 array = say word.OpenBracket ∷ any_type ∷ say word.Semicolon ∷ Deep kind.Value ∷ say word.CloseBracket ∷ []
 
--- <type>, where it is not basic: `whole` is the byte in front and those after it
+-- <type>, if it is not basic: `whole` is the first byte with the bytes after it
 unfoldable pub type_parts : List ℕ → ℕ → List ℕ → Option (List Part × List ℕ)
 type_parts whole b bytes =
     -- A: an array, and S: a slice
@@ -111,14 +111,14 @@ type_parts whole b bytes =
     -- a path
     else Some (Deep kind.Path ∷ [], whole)
 
--- the unsigned integers h t m y o j, and the signed ones a s l x n i
+-- the letters of the unsigned integers (h t m y o j), and of the signed ones (a s l x n i)
 abbrev pub is_unsigned : ℕ → Bool
 is_unsigned b = b == 104 || b == 116 || b == 109 || b == 121 || b == 111 || b == 106
 
 abbrev pub is_signed : ℕ → Bool
 is_signed b = b == 97 || b == 115 || b == 108 || b == 120 || b == 110 || b == 105
 
--- a reference, where that to a text is the text
+-- a reference to a constant: one to a text shows no `&`
 abbrev pub reference_by : List ℕ → Option (List ℕ) → List Part × List ℕ
 reference_by bytes (Some after) = (Read leaf.Text ∷ [], after)
 reference_by bytes None = (say word.Ampersand ∷ Deep kind.Value ∷ [], bytes)
@@ -126,7 +126,7 @@ reference_by bytes None = (say word.Ampersand ∷ Deep kind.Value ∷ [], bytes)
 unfoldable pub reference_parts : List ℕ → List Part × List ℕ
 reference_parts bytes = reference_by bytes (eat 101 bytes)
 
--- <const>, where `again` is a constant of the same sort
+-- <const>: `again` is the kind of constant to which a backreference leads
 unfoldable pub value_parts : Kind → ℕ → List ℕ → Option (List Part × List ℕ)
 value_parts again b bytes =
     -- p: a placeholder
@@ -151,7 +151,7 @@ value_parts again b bytes =
     else if b == 66 then Some (Back again ∷ [], bytes)
     else None
 
--- among generic arguments these constants stand in braces, and of the references those to something else than a text
+-- the constants that stand in braces among generic arguments; an `R` reference only if it leads to no text
 abbrev pub is_none : Option (List ℕ) → Bool
 is_none None = true
 is_none (Some bytes) = false
@@ -165,7 +165,7 @@ braced found = option_map (λ x. (say word.OpenBrace ∷ x.0 ++ say word.CloseBr
 unfoldable pub constant_parts : ℕ → List ℕ → Option (List Part × List ℕ)
 constant_parts b bytes = if is_braced b bytes then braced (value_parts kind.Constant b bytes) else value_parts kind.Constant b bytes
 
--- what a level of nesting is made of, by the byte in front
+-- what a level of nesting is made of; `b` is its first byte
 unfoldable pub deep_by : Kind → List ℕ → ℕ → List ℕ → Option (List Part × List ℕ)
 deep_by kind.Path whole b bytes = path_parts kind.Path word.Less b bytes
 deep_by kind.ValuePath whole b bytes = path_parts kind.ValuePath word.Turbofish b bytes
@@ -177,12 +177,12 @@ deep_by kind.Value whole b bytes = value_parts kind.Value b bytes
 unfoldable pub deep_parts : Kind → List ℕ → Option (List Part × List ℕ)
 deep_parts k bytes = option_and_then (λ x. deep_by k bytes x.0 x.1) (front bytes)
 
--- what is read at the place of a backreference: for a type any type
+-- what is read at the place of a backreference: for a type any type, basic or not
 abbrev pub target : Kind → Part
 target kind.Type = any_type
 target k = Deep k
 
--- <backref>: a place before its own `B`, counted behind `_R`. What stands there is read again, unless nothing is shown.
+-- <backref>: a place before its own `B`, counted from the first byte after `_R`. What stands there is read again, unless nothing is shown.
 abbrev pub back_by : ℕ → Kind → Bool → List ℕ → ℕ × List ℕ → Option (List Part × List ℕ)
 back_by size k visible bytes x =
     if not (nat_lt (x.0 + 1 + length bytes) size) then None
@@ -192,7 +192,7 @@ back_by size k visible bytes x =
 unfoldable pub back_parts : ℕ → Kind → Bool → List ℕ → Option (List Part × List ℕ)
 back_parts size k visible bytes = option_and_then (back_by size k visible bytes) (base_62 bytes)
 
--- <type>: basic types are no level
+-- <type>: a basic type is no level of nesting
 abbrev pub type_by : List ℕ → ℕ × List ℕ → List Part × List ℕ
 type_by bytes x = elim (basic_type x.0) [
   | None ↦ (Deep kind.Type ∷ [], bytes)
@@ -202,7 +202,7 @@ type_by bytes x = elim (basic_type x.0) [
 unfoldable pub any_type_parts : List ℕ → Option (List Part × List ℕ)
 any_type_parts bytes = option_map (type_by bytes) (front bytes)
 
--- the symbols of an item
+-- the parts of an item of a list
 unfoldable pub item_parts : Item → List Part
 item_parts item.Argument = Made phrase.Argument ∷ []
 item_parts item.Parameter = any_type ∷ []
@@ -212,18 +212,18 @@ item_parts item.Component = Deep kind.Value ∷ []
 item_parts item.Field = Read leaf.Disambiguator ∷ Read leaf.Identifier ∷ say word.FieldColon ∷ Deep kind.Value ∷ []
 item_parts item.Bound = Deep kind.TraitPath ∷ Made phrase.Bindings ∷ []
 
--- what stands between two
+-- what stands between two items
 abbrev pub separator : Item → Word
 separator item.Bound = word.Plus
 separator i = word.CommaSpace
 
--- a tuple of one has a comma at its end
+-- what stands after the last item: in a tuple of one a comma
 unfoldable pub ending : Item → Count → List Part
 ending item.Member One = sign 44 ∷ []
 ending item.Component One = sign 44 ∷ []
 ending i n = []
 
--- an item and those after it
+-- an item, and the list of those after it
 unfoldable pub items_from : Item → Count → List Part
 items_from i Zero = item_parts i ++ Made (phrase.Items i One) ∷ []
 items_from i n = (say (separator i) ∷ []) ++ item_parts i ++ Made (phrase.Items i Many) ∷ []
@@ -250,7 +250,7 @@ argument_by bytes None = Some (argument_else bytes (eat 75 bytes))
 unfoldable pub argument_parts : List ℕ → Option (List Part × List ℕ)
 argument_parts bytes = argument_by bytes (eat 76 bytes)
 
--- <dyn-trait-assoc-binding>: the first opens the trait's arguments where they are not open, and after the last they are closed
+-- <dyn-trait-assoc-binding>: `<` stands before the first if the trait's arguments are not open, and open arguments end with `>`
 abbrev pub binding_opening : Bool → Word
 binding_opening opened = if opened then word.CommaSpace else word.Less
 
@@ -264,7 +264,7 @@ bindings_by opened bytes None = (bindings_end opened, bytes)
 unfoldable pub bindings_parts : Bool → List ℕ → List Part × List ℕ
 bindings_parts opened bytes = bindings_by opened bytes (eat 112 bytes)
 
--- the name of a path in a namespace: those in upper case have a number, and those in lower case show nothing where the identifier is empty
+-- the name of a nested path: it has a number if the namespace is in upper case, and otherwise shows nothing if the identifier is empty
 abbrev pub space_part : ℕ → Part
 space_part space = if space == 67 then say word.Closure else if space == 83 then say word.Shim else Read (leaf.Letter space)
 
@@ -277,7 +277,7 @@ named_parts space x =
     if nat_le 97 space then (unless_empty (say word.Scope) (eat 48 x.1) ++ Read leaf.Identifier ∷ [], x.1)
     else ((say word.OpenSpace ∷ space_part space ∷ []) ++ unless_empty (sign 58) (eat 48 x.1) ++ Read leaf.Identifier ∷ sign 35 ∷ Read (leaf.Index x.0) ∷ say word.CloseBrace ∷ [], x.1)
 
--- lifetimes of a reference, where it has one, and of a `dyn` type: that of number 0 is not shown
+-- the lifetime of a reference, if it has one, and the lifetime of a `dyn` type; lifetime 0 is not shown
 abbrev pub borrow_lifetime : ℕ × List ℕ → List Part × List ℕ
 borrow_lifetime x = if x.0 == 0 then ([], x.1) else (Read (leaf.Lifetime x.0) ∷ sign 32 ∷ [], x.1)
 
@@ -310,7 +310,7 @@ convention_by bytes None = ([], bytes)
 unfoldable pub convention_parts : List ℕ → List Part × List ℕ
 convention_parts bytes = convention_by bytes (eat 75 bytes)
 
--- the fields of a value: U none, T like a tuple, S with names
+-- the fields of a value: U has none, T has them like a tuple, S with names
 abbrev pub fields_by : ℕ × List ℕ → Option (List Part × List ℕ)
 fields_by x =
     if x.0 == 85 then Some ([], x.1)
@@ -321,7 +321,7 @@ fields_by x =
 unfoldable pub fields_parts : List ℕ → Option (List Part × List ℕ)
 fields_parts bytes = option_and_then fields_by (front bytes)
 
--- one part, where a letter stands in front
+-- one part if bytes begin with the letter, otherwise none
 abbrev pub part_by : Part → List ℕ → Option (List ℕ) → List Part × List ℕ
 part_by p bytes (Some after) = (p ∷ [], after)
 part_by p bytes None = ([], bytes)
@@ -337,7 +337,7 @@ returned_by bytes None = (say word.Arrow ∷ any_type ∷ [], bytes)
 unfoldable pub returned_parts : List ℕ → List Part × List ℕ
 returned_parts bytes = returned_by bytes (eat 117 bytes)
 
--- what a symbol within a level is made of, where `opened` says whether the last trait's arguments are left open
+-- what a symbol within a level is made of; `opened` is whether the last trait's generic arguments are open
 unfoldable pub phrase_parts : Phrase → Bool → List ℕ → Option (List Part × List ℕ)
 phrase_parts phrase.AnyType opened bytes = any_type_parts bytes
 phrase_parts (phrase.Items i n) opened bytes = Some (items_parts i n bytes)
@@ -353,7 +353,7 @@ phrase_parts phrase.Returned opened bytes = Some (returned_parts bytes)
 phrase_parts phrase.Fields opened bytes = fields_parts bytes
 phrase_parts phrase.Sign opened bytes = Some (part_after 110 (sign 45) bytes)
 
--- the scope of what a binder binds lifetimes in: they count where they are shown (2^64 could not be shown)
+-- the scope within a binder of `n` lifetimes: they are counted if they are shown (2^64 could not be shown)
 abbrev pub bound_in : Scope → ℕ → Option Scope
 bound_in scope n = if scope.visible then (if nat_lt (scope.bound + n) (2 ^ 64) then Some (record scope { bound = scope.bound + n }) else None) else Some scope
 
@@ -366,7 +366,7 @@ binder_by parts scope x = option_map (with_lifetimes x.0 parts x.1) (bound_in sc
 unfoldable pub binder_parts : List Part → Scope → List ℕ → Option (List Part × Scope × List ℕ)
 binder_parts parts scope bytes = option_and_then (binder_by parts scope) (after_letter 71 bytes)
 
--- the paths of an impl and of an instance are not shown
+-- the path of an impl and an instantiating path are not shown
 abbrev pub hidden : Scope → Scope
 hidden scope = record scope { visible = false }
 

@@ -1,4 +1,4 @@
--- The symbols of v0 names that are made of bytes alone: what each shows, and what stands after it.
+-- The symbols of v0 names that are made of bytes alone: what each shows, and the bytes after it.
 use Rattle.std.specs.Prelude.{ℕ, ◌==◌, ◌&&◌, not, nat_lt, Bool, true, false, if◌then◌else◌, List, [], ◌∷◌, length, map, decimal, Option, Some, None}
 use Rattle.std.specs.Option.{option_map, option_and_then}
 use Rattle.rust_names.specs.declared.grammar.Leaf.{Leaf}
@@ -9,24 +9,24 @@ use Rattle.rust_names.specs.V0Identifiers.{identifier, identifier_text, dashed}
 use Rattle.rust_names.specs.V0Texts.{say, lifetime_text, for_all_text, integer_text, boolean_by, character_by, bytes_of, string_by}
 use Rattle.rust_names.specs.V0Words.{word_text}
 
--- an identifier and what it shows, and a calling convention
+-- an identifier; a calling convention, not empty and not marked
 abbrev pub named_by : Bool × List ℕ × List ℕ → Option (Option (List ℕ) × List ℕ)
 named_by x = Some (identifier_text x.0 x.1, x.2)
 
 abbrev pub convention_by : Bool × List ℕ × List ℕ → Option (Option (List ℕ) × List ℕ)
 convention_by x = if not x.0 && nat_lt 0 (length x.1) then Some (Some (map dashed x.1), x.2) else None
 
--- the value of a constant, where it is one of its type
+-- a constant, if its value is one of its type
 abbrev pub valued : Option (List ℕ) → List ℕ → Option (Option (List ℕ) × List ℕ)
 valued None after = None
 valued (Some text) after = Some (Some text, after)
 
--- a suffix begins with a dot
+-- the end of a name, or a suffix, which begins with a dot
 abbrev pub is_end : List ℕ → Bool
 is_end [] = true
 is_end (b ∷ bytes) = b == 46
 
--- what a leaf shows, if that can be shown, and what stands after it, where bytes begin so
+-- if bytes begin with the leaf: what it shows, if that can be shown, and the bytes after it
 unfoldable pub leaf_of : Leaf → ℕ → List ℕ → Option (Option (List ℕ) × List ℕ)
 leaf_of (leaf.Say word) bound bytes = Some (Some (word_text word), bytes)
 leaf_of (leaf.Letter b) bound bytes = Some (Some (b ∷ []), bytes)
@@ -42,16 +42,16 @@ leaf_of leaf.Character bound bytes = option_and_then (λ x. valued (character_by
 leaf_of leaf.Text bound bytes = option_and_then (λ x. valued (string_by (bytes_of x.0)) x.1) (hex_digits bytes)
 leaf_of leaf.End bound bytes = if is_end bytes then Some (Some [], bytes) else None
 
--- the text with what is shown of it
+-- the text with what a leaf shows, if it is shown
 abbrev pub shown_on : Bool → List ℕ → Option (List ℕ) → Option (List ℕ)
 shown_on false text more = Some text
 shown_on true text None = None
 shown_on true text (Some more) = say text more
 
--- what stands after a leaf, and the text with it
+-- the bytes after a leaf, and the text with what it shows
 unfoldable pub read_leaf : Leaf → Scope → List ℕ → List ℕ → Option (List ℕ × List ℕ)
 read_leaf part scope bytes text = option_and_then (λ x. option_map (λ t. (x.1, t)) (shown_on scope.visible text x.0)) (leaf_of part scope.bound bytes)
 
--- what stands after a leaf, where all of it was added
+-- the bytes after a leaf, if all of it was added
 abbrev pub after_if : Bool → List ℕ → Option (List ℕ)
 after_if said bytes = if said then Some bytes else None

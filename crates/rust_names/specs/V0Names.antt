@@ -1,5 +1,5 @@
--- What names in Rust's v0 mangling show (RFC 2603), in the short form of the Rust project's demangler: without the disambiguators of crates and
--- the types of constants.
+-- What names in Rust's v0 mangling show (RFC 2603), in the short form of the Rust project's demangler: without the disambiguators of crates and the
+-- types of constants.
 use Rattle.std.specs.Prelude.{ℕ, zero, suc, ◌+◌, ◌&&◌, nat_eq, nat_le, Bool, true, false, if◌then◌else◌, List, [], ◌∷◌, length, drop, codes, Option, Some, None}
 use Rattle.std.specs.List.{starts_with}
 use Rattle.std.specs.Option.{option_map, option_and_then}
@@ -13,13 +13,13 @@ use Rattle.rust_names.specs.declared.grammar.Scope.{Scope}
 use Rattle.rust_names.specs.V0Leaves.{read_leaf}
 use Rattle.rust_names.specs.V0Grammar.{deep_parts, back_parts, phrase_parts, inner_parts}
 
--- how far a name is read: the bytes that are left, the text so far, and whether the last trait's arguments are left open
+-- how far a name is read: the bytes that are left, the text so far, and whether the last trait's arguments are open (without their `>`)
 pub record State : Type 0 where
   pub rest : List ℕ
   pub text : List ℕ
   pub opened : Bool
 
--- one part after the other
+-- parts, read one after the other
 abbrev pub all : (Part → State → Option State) → List Part → State → Option State
 all read [] state = Some state
 all read (part ∷ parts) state = option_and_then (all read parts) (read part state)
@@ -27,8 +27,8 @@ all read (part ∷ parts) state = option_and_then (all read parts) (read part st
 abbrev pub after_leaf : State → List ℕ × List ℕ → State
 after_leaf state x = record state { rest = x.0; text = x.1 }
 
--- A part within a level, where `down` reads one that is a level. Symbols within a level nest at most `width` deep: a list is an item and the list
--- after it, so that is no more than the name has bytes, and some.
+-- Reads a part within a level; `down` reads a part that is a level itself. Symbols within a level nest at most `width` deep. A list is an item and
+-- the list after it, so they nest no deeper than the name has bytes, and a few more.
 abbrev pub read_within : (Part → Scope → State → Option State) → List ℕ → ℕ → Scope → Part → State → Option State
 read_within down name width scope (Deep k) state = down (Deep k) scope state
 read_within down name width scope (Back k) state = down (Back k) scope state
@@ -45,30 +45,30 @@ read_within down name (suc width) scope (Within part) state =
 abbrev pub most_width : List ℕ → ℕ
 most_width name = length name + 8
 
--- what a level is made of
+-- the parts of a level, and the bytes that are left
 abbrev pub level_parts : List ℕ → Part → Scope → List ℕ → Option (List Part × List ℕ)
 level_parts name (Deep k) scope bytes = deep_parts k bytes
 level_parts name (Back k) scope bytes = back_parts (length name) k scope.visible bytes
 level_parts name part scope bytes = None
 
--- a part that is a level, where so many levels may be nested
+-- a part that is a level, given how many levels may nest
 unfoldable pub read_level : List ℕ → ℕ → Part → Scope → State → Option State
 read_level name zero part scope state = None
 read_level name (suc levels) part scope state =
     option_and_then (λ x. all (read_within (read_level name levels) name (most_width name) scope) x.0 (record state { rest = x.1 })) (level_parts name part scope state.rest)
 
--- a path, an instantiating path where there is one, and the end
+-- a path, an instantiating path if there is one, and the end
 abbrev pub whole : List Part
 whole = Deep kind.ValuePath ∷ Within inner.Instance ∷ Read leaf.End ∷ []
 
 abbrev pub outermost : Scope
 outermost = record { bound = 0; visible = true }
 
--- what is shown of the bytes behind `_R`, where at most so many levels are nested
+-- what the bytes after `_R` show, if at most `levels` levels nest
 unfoldable pub text_within : ℕ → List ℕ → Option (List ℕ)
 text_within levels name = option_map (λ (s : State). s.text) (all (read_within (read_level name levels) name (most_width name) outermost) whole (record { rest = name; text = []; opened = false }))
 
--- a text that a record may have as a name
+-- a text, if a record may have it as a name
 abbrev pub if_name : List ℕ → Option (List ℕ)
 if_name text = if is_name text && nat_le (length text) 65536 then Some text else None
 

@@ -1,5 +1,4 @@
--- The numbers of v0 names (RFC 2603): in base 62, in decimal, and in hexadecimal. Numbers of base 62 are below 2^64, as the Rust project's
--- demangler has them.
+-- The numbers of v0 names (RFC 2603) in base 62 and in hexadecimal. Numbers in base 62 are below 2^64, as in the Rust project's demangler.
 use Rattle.std.specs.Prelude.{ℕ, ◌+◌, ◌-◌, ◌*◌, ◌^◌, ◌==◌, nat_lt, nat_le, ◌&&◌, true, false, if◌then◌else◌, List, [], ◌∷◌, Option, Some, None}
 use Rattle.std.specs.Option.{option_map, option_and_then}
 
@@ -8,7 +7,7 @@ unfoldable pub front : List ℕ → Option (ℕ × List ℕ)
 front [] = None
 front (b ∷ bytes) = Some (b, bytes)
 
--- what stands after a byte, where bytes begin with it
+-- the bytes after the first one, if that is `wanted`
 abbrev pub if_first : ℕ → Option (ℕ × List ℕ) → Option (List ℕ)
 if_first wanted None = None
 if_first wanted (Some x) = if x.0 == wanted then Some x.1 else None
@@ -16,7 +15,7 @@ if_first wanted (Some x) = if x.0 == wanted then Some x.1 else None
 unfoldable pub eat : ℕ → List ℕ → Option (List ℕ)
 eat wanted bytes = if_first wanted (front bytes)
 
--- 0 to 9, then a to z, then A to Z
+-- the value of a digit: 0 to 9, then a to z, then A to Z
 abbrev pub base_62_digit : ℕ → Option ℕ
 base_62_digit b =
     if nat_le 48 b && nat_le b 57 then Some (b - 48)
@@ -24,7 +23,7 @@ base_62_digit b =
     else if nat_le 65 b && nat_le b 90 then Some (b - 29)
     else None
 
--- a number that fits
+-- a number, if it is below 2^64
 abbrev pub below_64 : ℕ → Option ℕ
 below_64 n = if nat_lt n (2 ^ 64) then Some n else None
 
@@ -32,7 +31,7 @@ abbrev pub next_62 : ℕ → Option ℕ → Option ℕ
 next_62 value None = None
 next_62 value (Some digit) = below_64 (value * 62 + digit)
 
--- digits up to `_`, after digits of a value; and what stands after them
+-- digits up to `_`, after digits of the value `value`: one more than all these digits write, and the bytes after the `_`
 unfoldable pub base_62_from : ℕ → List ℕ → Option (ℕ × List ℕ)
 base_62_from value [] = None
 base_62_from value (b ∷ bytes) = elim (b == 95) [
@@ -40,7 +39,7 @@ base_62_from value (b ∷ bytes) = elim (b == 95) [
   | false ↦ option_and_then (λ more. base_62_from more bytes) (next_62 value (base_62_digit b))
 ]
 
--- <base-62-number>: `_` is 0, and digits and `_` are one more than what they write
+-- <base-62-number>: `_` is 0, and digits and `_` are one more than the digits write
 abbrev pub base_62_by : List ℕ → Option (List ℕ) → Option (ℕ × List ℕ)
 base_62_by bytes (Some after) = Some (0, after)
 base_62_by bytes None = base_62_from 0 bytes
@@ -53,7 +52,7 @@ abbrev pub raised : Option (ℕ × List ℕ) → Option (ℕ × List ℕ)
 raised None = None
 raised (Some (n, bytes)) = option_map (λ more. (more, bytes)) (below_64 (n + 1))
 
--- <disambiguator> (`s`) and <binder> (`G`): one more than the number after the letter, and 0 where the letter is missing
+-- <disambiguator> (`s`) and <binder> (`G`): one more than the number after the letter, or 0 if the letter is missing
 abbrev pub after_letter_by : List ℕ → Option (List ℕ) → Option (ℕ × List ℕ)
 after_letter_by bytes (Some after) = raised (base_62 after)
 after_letter_by bytes None = Some (0, bytes)
@@ -72,7 +71,7 @@ abbrev pub with_digit : ℕ → Option ℕ → Option (List ℕ × List ℕ) →
 with_digit b None later = None
 with_digit b (Some digit) later = option_map (λ x. (b ∷ x.0, x.1)) later
 
--- <const-data>: the hexadecimal digits up to `_`, and what stands after it
+-- <const-data>: the hexadecimal digits up to `_`, and the bytes after the `_`
 unfoldable pub hex_digits : List ℕ → Option (List ℕ × List ℕ)
 hex_digits [] = None
 hex_digits (b ∷ bytes) = elim (b == 95) [
@@ -84,7 +83,7 @@ abbrev pub next_hex : ℕ → Option ℕ → Option ℕ
 next_hex value None = None
 next_hex value (Some digit) = below_64 (value * 16 + digit)
 
--- the value of hexadecimal digits, where it is below 2^64
+-- the value of hexadecimal digits, if it is below 2^64
 unfoldable pub hex_from : ℕ → List ℕ → Option ℕ
 hex_from value [] = Some value
 hex_from value (b ∷ digits) = option_and_then (λ more. hex_from more digits) (next_hex value (hex_digit b))

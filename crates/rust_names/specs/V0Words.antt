@@ -3,7 +3,7 @@ use Rattle.std.specs.Prelude.{ℕ, List, codes, ◌==◌, if◌then◌else◌, O
 use Rattle.rust_names.specs.declared.words.Word.{Word}
 use Rattle.rust_names.specs.declared.words.Word.TheVariants as word
 
--- its text
+-- the text of a word
 abbrev pub word_text : Word → List ℕ
 word_text word.Bool = codes "bool"
 word_text word.Char = codes "char"

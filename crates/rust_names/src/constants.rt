@@ -1,5 +1,5 @@
-//! Constants of v0 names by a value: integers, `bool` and `char`. Backreferences may lead to one many times. One of many digits is read once, and
-//! then known by its place: only zeros in front are passed without being shown.
+//! Constants of v0 names that are given by a value: integers, `bool` and `char`. Backreferences may lead to the same constant many times. If it has
+//! many digits, it is read once and then known by its place: only leading zeros are read without being shown.
 ghost use Rattle.std.specs.Prelude.{◌≡◌, ◌<◌, [], ◌∷◌, length, take, true, None, IfOk, OnOk, IfSome, MatchOption};
 ghost use Rattle.std.specs.Option.{option_map};
 ghost use Rattle.std.specs.Ordering.{nat_cmp};
@@ -24,11 +24,11 @@ const SHORT: usize = 64;
 pub struct Constant {
     /// How many digits it has.
     pub count: usize,
-    /// Its value, where that is below 2^64.
+    /// Its value, if that is below 2^64.
     pub value: Option<u64>,
 }
 
-/// The constant whose digits stand in front.
+/// The constant with whose digits bytes begin.
 pub(crate) fn constant_of(bytes: &[u8]) -> Option<Constant>
     ensures { MatchOption result (hex_digits bytes.now ≡ None) (IsConstant bytes.now) }
 {
@@ -51,7 +51,7 @@ fn find(known: &BTreeMap<u64, Constant>, place: usize) -> Option<Constant>
     }
 }
 
-/// The constant whose digits stand at a place of a name. One of many digits is then known.
+/// The constant whose digits stand at a place of a name. If it has many digits, it is known from then on.
 #[tactic(auto, using(crate::proofs::EndLemmas::shorter))]
 pub(crate) fn constant_at(
     known: &mut BTreeMap<u64, Constant>,
@@ -76,7 +76,7 @@ pub(crate) fn constant_at(
     Ok(Some(constant))
 }
 
-/// Whether a leaf is a constant by a value.
+/// Whether a leaf is a constant given by a value.
 pub(crate) fn is_constant(leaf: Leaf) -> bool
     ensures { result ≡ is_constant leaf }
 {
@@ -163,7 +163,7 @@ fn read_character<'a>(
     }
 }
 
-/// Reads a constant that is found, and adds what it shows; what stands after it.
+/// Reads a constant that was found, adds what it shows, and returns the bytes after it.
 pub(crate) fn read_constant<'a>(
     text: &mut Vec<u8>,
     leaf: Leaf,

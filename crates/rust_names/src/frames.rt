@@ -38,7 +38,7 @@ fn begins_path(bytes: &[u8]) -> bool
     }
 }
 
-/// How parts nest that are not shown.
+/// How parts nest if they are not shown.
 fn hidden(nest: &Nest) -> Nest
     ensures { result ≡ record nest.now { scope = v0.hidden nest.now.scope } }
 {
@@ -137,7 +137,7 @@ fn level_parts<'a>(
     }
 }
 
-/// Puts the frames that a level is made of onto the stack, and gives what stands after its first bytes.
+/// Puts the frames that a level is made of onto the stack, and returns the bytes after its first ones.
 #[tactic(auto, using(crate::proofs::FrameLemmas::level_over, crate::proofs::FrameLemmas::level_none, crate::proofs::FrameLemmas::level_some))]
 #[inline(always)]
 fn expand_level<'a>(
@@ -163,7 +163,7 @@ fn expand_level<'a>(
     }
 }
 
-/// The same of a symbol within a level.
+/// The same for a symbol within a level.
 #[tactic(auto, using(crate::proofs::FrameLemmas::phrase_over, crate::proofs::FrameLemmas::phrase_none, crate::proofs::FrameLemmas::phrase_some))]
 #[inline(always)]
 fn expand_phrase<'a>(
@@ -189,7 +189,7 @@ fn expand_phrase<'a>(
     }
 }
 
-/// The same of a symbol with a scope of its own.
+/// The same for a symbol with a scope of its own.
 #[tactic(auto, using(crate::proofs::FrameLemmas::inner_over, crate::proofs::FrameLemmas::inner_none, crate::proofs::FrameLemmas::inner_some))]
 #[inline(always)]
 fn expand_inner<'a>(
@@ -214,7 +214,7 @@ fn expand_inner<'a>(
     }
 }
 
-/// Puts the frames that a frame is made of onto the stack, and gives what stands after its first bytes.
+/// Puts the frames that a frame is made of onto the stack, and returns the bytes after its first ones.
 #[tactic(auto, unfolding(crate::specs::internal::Running::expand))]
 #[inline(always)]
 pub(crate) fn expand<'a>(

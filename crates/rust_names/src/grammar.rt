@@ -18,7 +18,7 @@ pub enum Kind {
     Value,
 }
 
-/// What a list that ends with `E` holds.
+/// What the items of a list are; a list ends with `E`.
 #[derive(Clone, Copy)]
 pub enum Item {
     /// Generic arguments.
@@ -56,7 +56,7 @@ pub enum Phrase {
     Argument,
     /// The bindings of a trait.
     Bindings,
-    /// Those after the first.
+    /// The bindings after the first.
     LaterBindings,
     /// The name of a nested path, in a namespace.
     Named(u8),
@@ -100,7 +100,7 @@ pub enum Leaf {
     Index(u64),
     /// No bytes, and a lifetime.
     Lifetime(u64),
-    /// No bytes, and so many lifetimes, which are bound last.
+    /// No bytes, and this many of the lifetimes bound last.
     ForAll(u64),
     /// A disambiguator, which is not shown.
     Disambiguator,
@@ -130,9 +130,9 @@ pub enum Part {
     Phrase(Phrase),
     Inner(Inner),
     Leaf(Leaf),
-    /// What follows is read at a place.
+    /// What follows is read from this place on.
     Goto(usize),
-    /// Whether the arguments of the last trait are left open.
+    /// Whether the arguments of the last trait are open.
     Opened(bool),
 }
 

@@ -1,5 +1,5 @@
-//! Paths of v0 names that are not shown: those of impls. Backreferences may lead to one many times, and to other places of its lists. Once a few times
-//! as many bytes as the name has are read so, each part is read once.
+//! Paths of v0 names that are not shown: the paths of impls. Backreferences may lead to the same path many times, and to other places of its lists.
+//! Once such paths have taken a few times as many bytes as the name has, each part is read only once.
 ghost use Rattle.std.specs.Prelude.{◌≡◌, ℕ, true, List, IfOk, OnOk, IfSome};
 ghost use Rattle.std.specs.Option.{option_map};
 ghost use Rattle.rust_names.specs.declared.grammar.Kind.TheVariants as kind;
@@ -15,7 +15,7 @@ use crate::turns::{Room, from_place, read_frames};
 use std::alloc::Global;
 use sym_edges::OutOfMemory;
 
-/// So many times the bytes of a name are read anew.
+/// How many times the bytes of a name are read anew.
 const TIMES: usize = 4;
 
 /// What is still to be read, and whether the last trait's arguments are left open.
@@ -29,7 +29,7 @@ pub(crate) struct Ahead<'a> {
 #[derive(Drop)]
 pub(crate) struct HiddenPaths {
     parts: HiddenParts,
-    /// How many bytes were read of them.
+    /// How many bytes of these paths were read.
     spent: usize,
 }
 
@@ -50,7 +50,7 @@ impl HiddenPaths {
     }
 }
 
-/// Reads a path that is not shown, where at most so many levels nest.
+/// Reads a path that is not shown, if at most `levels` levels nest.
 fn read_hidden<'a>(
     alloc: Global,
     room: &mut Room,
@@ -84,7 +84,7 @@ fn read_hidden<'a>(
     }
 }
 
-/// Passes a path by steps; none where it is no path, and may be where it is one.
+/// Passes a path by steps. Returns none if it is no path, and may do so if it is one.
 #[tactic(auto, using(crate::proofs::EndLemmas::shorter))]
 fn pass_steps<'a>(
     alloc: Global,
@@ -117,7 +117,7 @@ fn pass_steps<'a>(
     }))
 }
 
-/// Passes a path that is not shown, where at most so many levels nest.
+/// Passes a path that is not shown, if at most `levels` levels nest.
 fn pass_path<'a>(
     alloc: Global,
     hidden: &mut HiddenPaths,

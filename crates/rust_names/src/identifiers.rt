@@ -13,10 +13,10 @@ use idna::{Errors, punycode};
 use std::alloc::Global;
 use sym_edges::OutOfMemory;
 
-/// The length in bytes up to which an identifier is mostly read.
+/// The length in bytes up to which an identifier is checked byte by byte.
 const SHORT: usize = 64;
 
-/// Whether a byte is a letter, a digit or `_`; most are small letters.
+/// Whether a byte is a letter, a digit or `_`; most are lower-case letters.
 #[inline(always)]
 fn is_identifier_byte(b: u8) -> bool
     ensures { result ≡ v0.is_identifier_byte b }
@@ -27,7 +27,7 @@ fn is_identifier_byte(b: u8) -> bool
     (b'0' <= b && b <= b'9') || (b'A' <= b && b <= b'Z') || b == b'_'
 }
 
-/// Whether many bytes are letters, digits and `_`. All are looked at, since a loop without a way out takes many at once.
+/// Whether many bytes are letters, digits and `_`. All are looked at, since a loop without an early exit handles many at once.
 #[inline(never)]
 fn are_many_identifier_bytes(bytes: &[u8]) -> bool
     ensures { result ≡ list_all v0.is_identifier_byte bytes.now }
@@ -67,7 +67,7 @@ fn are_punycode_digits(bytes: &[u8]) -> bool
     bytes.iter().all(|b| (b'0' <= *b && *b <= b'9') || (b'a' <= *b && *b <= b'z'))
 }
 
-/// What stands before the last `_`, and what stands behind it.
+/// The bytes before the last `_`, and the bytes after it.
 fn split_at_mark(bytes: &[u8]) -> (&[u8], &[u8])
     ensures plain { result.0.now ≡ v0.punycode_plain bytes.now }
     ensures digits { result.1.now ≡ v0.punycode_digits bytes.now }
@@ -99,7 +99,7 @@ fn is_identifier(marked: bool, bytes: &[u8]) -> bool
     !digits.is_empty() && are_punycode_digits(digits)
 }
 
-/// The length that one digit writes alone, as most are written; none may be where there is a length.
+/// A length of one digit, as most are. May return none although there is a length.
 #[tactic(auto, using(crate::proofs::IdentifierLemmas::one_digit_length))]
 #[inline(always)]
 fn short_length(bytes: &[u8]) -> Option<usize>
@@ -116,7 +116,7 @@ fn short_length(bytes: &[u8]) -> Option<usize>
     Some(number)
 }
 
-/// A length, and what stands after it.
+/// A length, and the bytes after it.
 #[inline(always)]
 fn length_in_front(bytes: &[u8]) -> Option<(usize, &[u8])>
     ensures { option_map (λ x. (x.0, x.1.now)) result ≡ v0.length_in_front bytes.now }
@@ -127,7 +127,7 @@ fn length_in_front(bytes: &[u8]) -> Option<(usize, &[u8])>
     }
 }
 
-/// A length of any number of digits, and what stands after it.
+/// A length of any number of digits, and the bytes after it.
 #[tactic(auto, unfolding(crate::specs::V0Identifiers::length_in_front))]
 fn any_length(bytes: &[u8]) -> Option<(usize, &[u8])>
     ensures { option_map (λ x. (x.0, x.1.now)) result ≡ v0.length_in_front bytes.now }
@@ -144,7 +144,7 @@ fn any_length(bytes: &[u8]) -> Option<(usize, &[u8])>
     }
 }
 
-/// What stands after a `_` that may stand in front.
+/// The bytes after an optional `_`.
 #[tactic(auto, unfolding(crate::specs::V0Identifiers::after_separator))]
 #[inline(always)]
 fn after_separator(bytes: &[u8]) -> &[u8]
@@ -156,7 +156,7 @@ fn after_separator(bytes: &[u8]) -> &[u8]
     }
 }
 
-/// So many bytes as an identifier.
+/// The first `count` bytes as an identifier.
 #[inline(always)]
 fn identifier_cut(marked: bool, count: usize, bytes: &[u8]) -> Option<(bool, &[u8], &[u8])>
     ensures { option_map (λ x. (x.0, x.1.now, x.2.now)) result ≡ v0.identifier_cut marked count bytes.now }
@@ -182,7 +182,7 @@ fn identifier_from(marked: bool, bytes: &[u8]) -> Option<(bool, &[u8], &[u8])>
     }
 }
 
-/// An identifier: whether it is marked as Punycode, its bytes, and what stands after it.
+/// An identifier: whether it is marked as Punycode, its bytes, and the bytes after it.
 #[tactic(auto, unfolding(crate::specs::V0Identifiers::identifier))]
 #[inline(always)]
 pub(crate) fn identifier(bytes: &[u8]) -> Option<(bool, &[u8], &[u8])>
@@ -208,7 +208,7 @@ fn hyphened(alloc: Global, bytes: &[u8]) -> Result<Vec<u8>, OutOfMemory>
     Ok(text)
 }
 
-/// Adds the characters that Punycode stands for; false where it stands for none.
+/// Adds the characters that Punycode stands for; false if it stands for none.
 fn add_decoded(alloc: Global, text: &mut Vec<u8>, input: &str) -> Result<bool, OutOfMemory>
     ensures { IfOk result (λ said. shown_on true text.old.items (v0.decoded input.now) ≡ kept said text.new.items) }
 {
@@ -222,7 +222,7 @@ fn add_decoded(alloc: Global, text: &mut Vec<u8>, input: &str) -> Result<bool, O
     }
 }
 
-/// Adds what an identifier shows; false where that cannot be shown.
+/// Adds what an identifier shows; false if that cannot be shown.
 #[tactic(auto, unfolding(crate::specs::V0Identifiers::identifier_text))]
 #[inline(always)]
 pub(crate) fn add_identifier(

@@ -11,19 +11,19 @@ ghost use Rattle.rust_names.specs.Shown.{IsShown};
 ghost use Rattle.rust_names.specs.ShownRecords.{renamed, renamed_found, renamed_call, IsNameFor, HaveShownNames};
 ghost use Rattle.rust_names.specs.Named.{named};
 
-/// A name has at most one shown text, and records have one list with the names that they show.
+/// A name has at most one shown text, and records have at most one list with the names that they show.
 pub fn shown_texts_are_one()
     ensures text { (name a b : List ℕ) → IsShown name a → IsShown name b → a ≡ b }
     ensures records { (lines a b : List SymLine) → HaveShownNames lines a → HaveShownNames lines b → a ≡ b }
 {}
 
-/// The function `named` gives the name for a name.
+/// The function `named` gives the name for each name.
 pub fn names_are_shown()
     ensures { (name : List ℕ) → IsNameFor name (named name) }
 {}
 
-/// Records with other names say what they said, but for the names: at each address a look-up finds the same `FUNC`, the same inlined
-/// calls and the same line, the frame rules give the same, and a checker finds the same.
+/// If names are replaced in records, only the names change: at each address a look-up finds the same `FUNC`, the same inlined calls and the same
+/// line, the frame rules give the same, and a checker finds the same.
 pub fn names_alone_change()
     ensures func { (f : List ℕ → List ℕ) (lines : List SymLine) (x : ℕ) → text_func (map (renamed f) lines) x ≡ option_map (renamed_found f) (text_func lines x) }
     ensures owner { (f : List ℕ → List ℕ) (lines : List SymLine) (x : ℕ) → text_owner (map (renamed f) lines) x ≡ option_map f (text_owner lines x) }

@@ -100,7 +100,7 @@ fn read_convention<'a>(
     Ok(after_if(said, after))
 }
 
-/// The byte that two digits write, and the digits after them.
+/// The byte that the first two digits write, and the digits after them.
 #[tactic(auto, using(crate::proofs::LeafLemmas::byte_some, crate::proofs::LeafLemmas::one_digit, crate::proofs::LeafLemmas::no_high, crate::proofs::LeafLemmas::no_low))]
 fn byte_in_front(a: u8, digits: &[u8]) -> Option<(u8, &[u8])>
     ensures byte { MatchOption result (shows.bytes_of (a ∷ digits.now) ≡ None) (λ x. shows.bytes_of (a ∷ digits.now) ≡ option_map (λ later. x.0 ∷ later) (shows.bytes_of x.1.now)) }
@@ -196,7 +196,7 @@ fn is_end(bytes: &[u8]) -> bool
     }
 }
 
-/// Reads a leaf and adds what it shows; what stands after it.
+/// Reads a leaf, adds what it shows, and returns the bytes after it.
 #[tactic(auto, unfolding(crate::specs::V0Leaves::read_leaf, crate::specs::V0Leaves::leaf_of))]
 #[inline(always)]
 pub(crate) fn read_leaf<'a>(

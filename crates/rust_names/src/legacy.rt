@@ -19,7 +19,7 @@ fn are_low_hex(bytes: &[u8]) -> bool
     bytes.iter().all(|b| (b'0' <= *b && *b <= b'9') || (b'a' <= *b && *b <= b'f'))
 }
 
-/// Whether the 20 bytes are a hash with its length, and `E`.
+/// Whether 20 bytes are a hash after its length, and `E`.
 #[tactic(auto, unfolding(crate::specs::internal::Reading::is_tail))]
 fn is_tail(bytes: &[u8]) -> bool
     requires { length bytes.now ≡ 20 }
@@ -46,7 +46,7 @@ fn middle_of(name: &[u8]) -> Option<&[u8]>
     Some(front.split_at(3).1)
 }
 
-/// Whether a record may carry the text as a name.
+/// Whether a record may have the text as a name.
 fn is_shown_text(text: &[u8]) -> bool
     ensures { result ≡ is_shown_text text.now }
 {

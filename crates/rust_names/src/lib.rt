@@ -1,24 +1,24 @@
 //! Names in Rust's manglings, in readable form.
 //!
-//! A legacy name is `_ZN`, the parts of a path, each with its length in front, a hash as the last part, and `E`. [`shown`] gives its path with
-//! `::` between the parts, escapes shown as the signs that they stand for, and without the hash: `_ZN3foo3bar17h0123456789abcdefE` is
-//! `foo::bar`. A name of the current mangling (RFC 2603, "v0") is `_R` and a path of that grammar: `_RNvC3foo3bar` is `foo::bar`. It is shown
-//! without the disambiguators of crates and the types of constants. A name of another form has no such text, and stays as it is.
+//! A legacy name is `_ZN`, the parts of a path, each after its length, a hash as the last part, and `E`. [`shown`] gives its path with `::`
+//! between the parts and without the hash; escapes are shown as the signs that they stand for: `_ZN3foo3bar17h0123456789abcdefE` is `foo::bar`.
+//! A name of the current mangling (RFC 2603, "v0") is `_R` and a path of that grammar: `_RNvC3foo3bar` is `foo::bar`. It is shown without the
+//! disambiguators of crates and the types of constants. A name of another form has no such text, and stays as it is.
 //! [`show_all`] gives each function, inlined function and public symbol of a symbol file the name that it shows.
 //!
-//! A name has at most one shown text. With their names shown the records of a file say what they said: the file is valid, a checker
+//! A name has at most one shown text. If the names of a file are shown, only the names of its records change: the file is valid, a checker
 //! finds the same in it, and look-ups and frame rules give the same at every address, but for the names ([`laws`]).
 #![tactic(auto)]
 
 // One name, from left to right.
 mod name;
 
-// In the legacy mangling.
+// A name in the legacy mangling.
 mod legacy;
 mod part;
 mod piece;
 
-// In the v0 mangling.
+// A name in the v0 mangling.
 mod constants;
 mod frames;
 mod grammar;
@@ -38,7 +38,7 @@ mod words;
 // All names of a file.
 mod records;
 
-// What holds of them.
+// Laws of the definitions.
 pub mod laws;
 
 pub use name::shown;

@@ -35,8 +35,8 @@ fn text_of(alloc: Global, rooms: &mut Rooms, name: &[u8]) -> Result<Option<ByteT
     Ok(Some(text))
 }
 
-/// What a name shows, where it is one in Rust's legacy mangling or in the current one (RFC 2603). Memory is taken only for a name that
-/// begins and ends as a legacy name does, or begins as one of the current mangling.
+/// What a name shows, if it is one in Rust's legacy mangling or in the current one (RFC 2603). Memory is allocated only for a name that begins and
+/// ends as a legacy name does, or begins as one of the current mangling.
 #[tactic(auto, using(crate::proofs::JoinLemmas::exact_text, crate::proofs::JoinLemmas::shown_named, crate::proofs::JoinLemmas::shown_short))]
 pub fn shown(alloc: Global, name: &[u8]) -> Result<Option<ByteText>, OutOfMemory>
     ensures exact { IfOk result (λ text. MatchOption text (IsPlainName name.now) (IsShown name.now)) }

@@ -4,10 +4,10 @@ ghost use Rattle.std.specs.List.{list_all};
 ghost use Rattle.std.specs.Option.{option_map, option_copied};
 ghost use Rattle.rust_names.specs.V0Numbers.{front, eat, base_62_digit, below_64, next_62, base_62_from, base_62, after_letter, hex_digit, hex_digits, next_hex, hex_from};
 
-/// Numbers of base 62 may have many zeros in front, and backreferences may lead to one again and again: so many are passed at once.
+/// How many leading zeros are passed at once. A number in base 62 may have many, and backreferences may lead to it again and again.
 const BLOCK: usize = 64;
 
-/// The first byte, and those after it.
+/// The first byte, and the bytes after it.
 #[tactic(auto, unfolding(crate::specs::V0Numbers::front), using(crate::proofs::NumberLemmas::front_none, crate::proofs::NumberLemmas::front_some))]
 pub(crate) fn front(bytes: &[u8]) -> Option<(u8, &[u8])>
     ensures front { option_map (λ x. (x.0, x.1.now)) result ≡ front bytes.now }
@@ -19,7 +19,7 @@ pub(crate) fn front(bytes: &[u8]) -> Option<(u8, &[u8])>
     Some((bytes[0], bytes.split_at(1).1))
 }
 
-/// What stands after a byte, where bytes begin with it.
+/// The bytes after a byte, if they begin with it.
 #[tactic(auto, unfolding(crate::specs::V0Numbers::eat))]
 pub(crate) fn eat(wanted: u8, bytes: &[u8]) -> Option<&[u8]>
     ensures after { option_copied result ≡ eat wanted bytes.now }
@@ -53,7 +53,7 @@ fn base_62_digit(b: u8) -> Option<u64>
     None
 }
 
-/// A number that fits.
+/// A number, if it is below 2^64.
 fn below_64(number: u128) -> Option<u64>
     ensures { result ≡ below_64 number }
 {
@@ -63,7 +63,7 @@ fn below_64(number: u128) -> Option<u64>
     None
 }
 
-/// One more, where that fits.
+/// One more, if that fits.
 fn raise(number: u64) -> Option<u64>
     ensures { result ≡ below_64 (number + 1) }
 {
@@ -85,7 +85,7 @@ fn next_62(value: u64, b: u8) -> Option<u64>
     }
 }
 
-/// Whether all bytes are zeros. All bytes are looked at, since a loop without a way out takes many at once.
+/// Whether all bytes are zeros. All are looked at, since a loop without an early exit handles many at once.
 #[inline(always)]
 fn are_zeros(bytes: &[u8]) -> bool
     ensures { result ≡ list_all (λ b. b == 48) bytes.now }
@@ -97,7 +97,7 @@ fn are_zeros(bytes: &[u8]) -> bool
     zeros
 }
 
-/// The digits without many zeros in front.
+/// The digits without many leading zeros.
 #[inline(always)]
 fn without_zeros(bytes: &[u8]) -> &[u8]
     ensures same { base_62_from 0 result.now ≡ base_62_from 0 bytes.now }
@@ -109,7 +109,7 @@ fn without_zeros(bytes: &[u8]) -> &[u8]
     bytes
 }
 
-/// The digits without whole blocks of zeros in front.
+/// The digits without whole blocks of leading zeros.
 #[inline(never)]
 fn after_zeros(bytes: &[u8]) -> &[u8]
     ensures same { base_62_from 0 result.now ≡ base_62_from 0 bytes.now }
@@ -126,7 +126,7 @@ fn after_zeros(bytes: &[u8]) -> &[u8]
     rest
 }
 
-/// The value of digits up to `_`, and what stands after it.
+/// The value of digits up to `_`, and the bytes after it.
 #[inline(always)]
 fn base_62_from(bytes: &[u8]) -> Option<(u64, &[u8])>
     ensures number { option_map (λ x. (x.0, x.1.now)) result ≡ base_62_from 0 bytes.now }
@@ -149,7 +149,7 @@ fn base_62_from(bytes: &[u8]) -> Option<(u64, &[u8])>
     None
 }
 
-/// A number in base 62, and what stands after it.
+/// A number in base 62, and the bytes after it.
 #[tactic(auto, unfolding(crate::specs::V0Numbers::base_62))]
 #[inline(always)]
 pub(crate) fn base_62(bytes: &[u8]) -> Option<(u64, &[u8])>
@@ -162,7 +162,7 @@ pub(crate) fn base_62(bytes: &[u8]) -> Option<(u64, &[u8])>
     }
 }
 
-/// One more than the number after a letter, or 0 where the letter is missing.
+/// One more than the number after a letter, or 0 if the letter is missing.
 #[tactic(auto, unfolding(crate::specs::V0Numbers::after_letter))]
 #[inline(always)]
 pub(crate) fn after_letter(letter: u8, bytes: &[u8]) -> Option<(u64, &[u8])>
@@ -193,7 +193,7 @@ pub(crate) fn hex_digit(b: u8) -> Option<u8>
     }
 }
 
-/// How many hexadecimal digits stand in front of a `_`.
+/// How many hexadecimal digits stand before a `_`.
 pub(crate) fn count_hex(bytes: &[u8]) -> Option<usize>
     ensures digits { option_map (λ n. (take n bytes.now, drop (n + 1) bytes.now)) result ≡ hex_digits bytes.now }
     ensures within { IfSome result (λ n. n < length bytes.now) }
@@ -220,7 +220,7 @@ fn next_hex(value: u64, b: u8) -> Option<u64>
     }
 }
 
-/// The value of hexadecimal digits, where it is below 2^64.
+/// The value of hexadecimal digits, if it is below 2^64.
 pub(crate) fn hex_value(digits: &[u8]) -> Option<u64>
     ensures { result ≡ hex_from 0 digits.now }
 {

@@ -15,7 +15,7 @@ pub(crate) fn is_digit(b: u8) -> bool
     b'0' <= b && b <= b'9'
 }
 
-/// How many digits stand in front.
+/// How many digits bytes begin with.
 #[tactic(auto, using(crate::proofs::DigitLemmas::digits_stop, crate::proofs::DigitLemmas::digits_more, crate::proofs::DigitLemmas::digits_end))]
 #[inline(always)]
 pub(crate) fn count_digits(bytes: &[u8]) -> usize
@@ -30,7 +30,7 @@ pub(crate) fn count_digits(bytes: &[u8]) -> usize
     bytes.len()
 }
 
-/// The number that decimal digits without a leading zero write, where it is at most `most`.
+/// The number that decimal digits without a leading zero write, if it is at most `most`.
 #[tactic(auto, using(crate::proofs::DigitLemmas::number_none, crate::proofs::DigitLemmas::number_zero, crate::proofs::DigitLemmas::number_other, crate::proofs::DigitLemmas::number_past, crate::proofs::DigitLemmas::number_more, crate::proofs::DigitLemmas::all_more, crate::proofs::DigitLemmas::number_is))]
 #[inline(always)]
 pub(crate) fn number_upto(most: usize, digits: &[u8]) -> Option<usize>
@@ -57,7 +57,7 @@ pub(crate) fn number_upto(most: usize, digits: &[u8]) -> Option<usize>
     Some(number as usize)
 }
 
-/// The bytes of the part in front, and what stands after them.
+/// The bytes of the first part, and the bytes after them.
 #[tactic(auto, using(crate::proofs::DigitLemmas::cut_none, crate::proofs::DigitLemmas::cut_some))]
 fn cut_of(bytes: &[u8]) -> Option<(&[u8], &[u8])>
     ensures cut { option_map (λ x. (x.0.now, x.1.now)) result ≡ cut_of bytes.now }
@@ -70,7 +70,7 @@ fn cut_of(bytes: &[u8]) -> Option<(&[u8], &[u8])>
     }
 }
 
-/// The bytes without the `_` in front of a `$`.
+/// The bytes without their first `_`, if a `$` follows it.
 fn undashed(bytes: &[u8]) -> &[u8]
     ensures { result.now ≡ undashed bytes.now }
 {
@@ -80,7 +80,7 @@ fn undashed(bytes: &[u8]) -> &[u8]
     bytes
 }
 
-/// A byte that stands for itself whatever follows.
+/// Whether a byte stands for itself, whatever follows.
 #[inline]
 fn is_plain(b: u8) -> bool
     ensures { result ≡ is_plain b }
@@ -88,7 +88,7 @@ fn is_plain(b: u8) -> bool
     b'!' <= b && b <= b'~' && b != b'$' && b != b'.'
 }
 
-/// How many such bytes stand in front.
+/// How many such bytes come first.
 #[tactic(auto, using(crate::proofs::PieceLemmas::plain_front))]
 fn count_plain(bytes: &[u8]) -> usize
     ensures within { result ≤ length bytes.now }
@@ -102,7 +102,7 @@ fn count_plain(bytes: &[u8]) -> usize
     bytes.len()
 }
 
-/// Adds what bytes show; false where they are no pieces.
+/// Adds what bytes show; false if they are no pieces.
 fn add_pieces(text: &mut Vec<u8>, bytes: &[u8]) -> Result<bool, OutOfMemory>
     ensures { IfOk result (λ added. option_map (λ t. text.old.items ++ t) (pieces_text bytes.now) ≡ kept added text.new.items) }
 {
@@ -124,7 +124,7 @@ fn add_pieces(text: &mut Vec<u8>, bytes: &[u8]) -> Result<bool, OutOfMemory>
     Ok(true)
 }
 
-/// Adds what the bytes of parts show, `::` in front of each; false where they are no parts.
+/// Adds what the bytes of parts show, each after `::`; false if they are no parts.
 fn add_later_parts(text: &mut Vec<u8>, bytes: &[u8]) -> Result<bool, OutOfMemory>
     ensures { IfOk result (λ added. option_map (λ t. text.old.items ++ t) (later_text bytes.now) ≡ kept added text.new.items) }
 {
@@ -144,7 +144,7 @@ fn add_later_parts(text: &mut Vec<u8>, bytes: &[u8]) -> Result<bool, OutOfMemory
     Ok(true)
 }
 
-/// Adds what the bytes of one or more parts show, `::` between them; false where they are no parts.
+/// Adds what the bytes of one or more parts show, with `::` between them; false if they are no parts.
 pub(crate) fn add_parts(text: &mut Vec<u8>, bytes: &[u8]) -> Result<bool, OutOfMemory>
     ensures { IfOk result (λ added. option_map (λ t. text.old.items ++ t) (parts_text bytes.now) ≡ kept added text.new.items) }
 {

@@ -1,5 +1,5 @@
-//! Parts of v0 names that are not shown, each read once: by steps, whose order is kept on a stack. What is read is then known by its place, with how
-//! many levels and symbols are enough for it.
+//! Parts of v0 names that are not shown. Each is read only once, by steps on a stack. A part that was read is then known by its place, with how many
+//! levels and symbols are enough for it.
 ghost use Rattle.std.specs.Prelude.{◌≡◌, ◌≤◌, ◌<◌, ◌∷◌, ◌++◌, ◌^◌, [], ℕ, true, false, reverse, map, IfOk, OnOk, IfSome};
 ghost use Rattle.std.specs.Ordering.{nat_cmp};
 ghost use Rattle.std.specs.BTreeMap.{get};
@@ -26,15 +26,15 @@ const SHORT: usize = 64;
 #[derive(Clone, Copy)]
 pub struct Reached {
     pub place: usize,
-    /// Whether the last trait's arguments are left open there.
+    /// Whether the last trait's arguments are open there.
     pub opened: bool,
-    /// So many levels are enough for what was read.
+    /// How many levels are enough for what was read.
     pub levels: usize,
-    /// So many symbols within a level are enough for it.
+    /// How many symbols within a level are enough for it.
     pub width: usize,
 }
 
-/// A part of which the parts that it is made of are read, and where it begins.
+/// A part whose own parts are being read, and where it begins.
 #[derive(Clone, Copy)]
 pub struct Begun {
     pub part: Part,
@@ -44,9 +44,9 @@ pub struct Begun {
 /// What is still to be done.
 #[derive(Clone, Copy)]
 pub enum Step {
-    /// A part is read.
+    /// A part is to be read.
     Read(Part),
-    /// All of a part is read.
+    /// All of a part was read.
     End(Begun),
 }
 
@@ -56,7 +56,7 @@ pub(crate) struct HiddenParts {
     pub(crate) room: Room,
     /// What is still to be done, the next on top.
     pub(crate) steps: Vec<Step>,
-    /// What is known, by kind and place.
+    /// What is known of parts, by `key`.
     pub(crate) known: BTreeMap<u64, Reached>,
 }
 
@@ -70,7 +70,7 @@ impl HiddenParts {
     }
 }
 
-/// The number of a level.
+/// The number of a kind of level.
 fn level_code(kind: Kind) -> u64
     ensures coded { coded result ≡ Deep kind }
     ensures small { result < 16 }
@@ -85,7 +85,7 @@ fn level_code(kind: Kind) -> u64
     }
 }
 
-/// The number of what follows in a list.
+/// The number of the later items of a list.
 fn list_code(item: Item) -> u64
     ensures coded { coded result ≡ Made (phrase.Items item Many) }
     ensures small { result < 16 }
@@ -114,7 +114,7 @@ fn code(part: Part) -> Option<u64>
     }
 }
 
-/// What a part is known by: its place, its number, and whether the last trait's arguments are left open in front of it.
+/// What a part is known by: its place, its number, and whether the last trait's arguments are open before it.
 fn key(place: usize, code: u64, opened: bool) -> u64
     requires place { place < 2 ^ 58 }
     requires code { code < 16 }
@@ -164,7 +164,7 @@ fn keep(
     }
 }
 
-/// How far both are read, where one follows the other.
+/// How far two parts reach, if one follows the other.
 fn joined(now: Reached, end: Reached) -> Reached
     ensures { IsJoined now end result }
 {
@@ -176,7 +176,7 @@ fn joined(now: Reached, end: Reached) -> Reached
     }
 }
 
-/// What a part is known for whose parts are all read.
+/// What is known of a part after all its parts were read.
 fn ended(name: &[u8], begun: Begun, now: Reached) -> Option<Reached>
     requires { Begins name.now begun [] now }
     ensures { IfSome result (λ end. Passes name.now begun.part begun.from.place begun.from.opened end) }
@@ -334,7 +334,7 @@ fn do_step(
     }
 }
 
-/// Passes a part that is not shown; none where it is no such part, and may be where it is one.
+/// Passes a part that is not shown. Returns none if it is no such part, and may do so if it is one.
 pub(crate) fn pass_part(
     alloc: Global,
     hidden: &mut HiddenParts,

@@ -1,4 +1,4 @@
-//! Paths of v0 names that are read at once: nested paths down to the one that stands in them, and the names behind it.
+//! Paths of v0 names that are read at once: nested paths down to the innermost one, and the names after it.
 ghost use Rattle.std.specs.Prelude.{◌≡◌, ◌≢◌, ◌<◌, ◌≤◌, ◌∷◌, ◌++◌, ◌^◌, ◌⊎◌, [], ℕ, List, true, length, Some, IfOk, OnOk, IfSome};
 ghost use Rattle.std.specs.Option.{option_map};
 ghost use Rattle.rust_names.specs.declared.grammar.Kind.TheVariants as kind;
@@ -17,7 +17,7 @@ use crate::words::{Word, basic_type};
 use std::alloc::Global;
 use sym_edges::OutOfMemory;
 
-/// Whether a part is a path, and no trait's.
+/// Whether a part is a path that is not a trait's.
 #[inline(always)]
 fn is_path(part: Part) -> bool
     ensures { result ≡ is_path part }
@@ -65,7 +65,7 @@ fn begins_path_type(bytes: &[u8]) -> bool
     }
 }
 
-/// Makes a frame of any type that of a path, where it is one.
+/// Makes a frame of any type that of a path, if it is one.
 #[inline(always)]
 fn enter_type(frame: &mut Frame, size: usize, bytes: &[u8])
     requires { size < 2 ^ 63 }
@@ -81,7 +81,7 @@ fn enter_type(frame: &mut Frame, size: usize, bytes: &[u8])
     }
 }
 
-/// What stands after the letter of a path, where the frame is a path and begins so.
+/// The bytes after the letter of a path, if the frame is a path and bytes begin with it.
 #[inline(always)]
 fn path_front<'a>(letter: u8, frame: Frame, bytes: &'a [u8]) -> Option<&'a [u8]>
     ensures is { IfSome result (λ after. (frame.levels ≢ 0) × (is_path frame.part ≡ true) × (bytes.now ≡ letter ∷ after.now)) }
@@ -101,7 +101,7 @@ fn path_front<'a>(letter: u8, frame: Frame, bytes: &'a [u8]) -> Option<&'a [u8]>
     }
 }
 
-/// What stands after the letter of a crate.
+/// The bytes after the letter of a crate.
 #[inline(always)]
 pub(crate) fn crate_front<'a>(frame: Frame, bytes: &'a [u8]) -> Option<&'a [u8]>
     ensures { IfSome result (λ after. (frame.levels ≢ 0) × (is_path frame.part ≡ true) × (bytes.now ≡ 67 ∷ after.now)) }
@@ -109,7 +109,7 @@ pub(crate) fn crate_front<'a>(frame: Frame, bytes: &'a [u8]) -> Option<&'a [u8]>
     path_front(b'C', frame, bytes)
 }
 
-/// The namespace of a nested path, and what stands after it.
+/// The namespace of a nested path, and the bytes after it.
 #[inline(always)]
 fn nested_front<'a>(frame: Frame, bytes: &'a [u8]) -> Option<(u8, &'a [u8])>
     ensures is { IfSome result (λ x. (frame.levels ≢ 0) × (is_path frame.part ≡ true) × (v0.is_namespace x.0 ≡ true) × (bytes.now ≡ 78 ∷ x.0 ∷ x.1.now)) }
@@ -140,7 +140,7 @@ fn back_of(part: Part) -> Part
     }
 }
 
-/// Makes the frame of a path that of a backreference, where it is one. What is left.
+/// Makes the frame of a path that of a backreference, if it is one. Returns what is left.
 #[inline(always)]
 fn enter_back<'a>(frame: &mut Frame, size: usize, bytes: &'a [u8]) -> &'a [u8]
     requires { size < 2 ^ 63 }
@@ -157,7 +157,7 @@ fn enter_back<'a>(frame: &mut Frame, size: usize, bytes: &'a [u8]) -> &'a [u8]
     }
 }
 
-/// Enters nested paths, whose names it puts onto the stack, and a backreference: the frame is then what stands in all of them. What is left.
+/// Enters nested paths, whose names it puts onto the stack, and a backreference. The frame is then the innermost path. Returns what is left.
 #[inline(always)]
 pub(crate) fn enter<'a>(
     stack: &mut Vec<Frame>,
@@ -203,7 +203,7 @@ pub(crate) fn read_crate<'a>(
     }
 }
 
-/// A name in a path with `::` in front, unless it is empty.
+/// A name in a path, after `::` unless it is empty.
 #[inline(always)]
 fn read_name<'a>(
     alloc: Global,

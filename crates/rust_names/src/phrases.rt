@@ -224,7 +224,7 @@ fn add_unless_empty(
     }
 }
 
-/// The name of a path in a namespace, by its number.
+/// The name of a nested path, given its namespace and number.
 #[tactic(auto, unfolding(crate::specs::V0Grammar::named_parts), using(crate::proofs::FrameLemmas::onto_both))]
 fn named_parts<'a>(
     stack: &mut Vec<Frame>,
@@ -385,7 +385,7 @@ fn fields_parts<'a>(
     }
 }
 
-/// A part, where a letter stands in front.
+/// A part, if bytes begin with a letter.
 #[tactic(auto, unfolding(crate::specs::V0Grammar::part_after))]
 fn part_after<'a>(
     stack: &mut Vec<Frame>,

@@ -1,4 +1,4 @@
-//! The productions of the grammar of v0 names: what each symbol is made of, by the byte in front.
+//! The productions of the grammar of v0 names: what each symbol is made of, given its first byte.
 ghost use Rattle.std.specs.Prelude.{◌≡◌, ◌≤◌, ◌+◌, ◌∷◌, ◌++◌, [], length, vec_len, Some, IfOk, OnOk, IfSome};
 ghost use Rattle.std.specs.Option.{option_map, option_copied};
 ghost use Rattle.rust_names.specs.V0Grammar as v0;
@@ -61,7 +61,7 @@ pub(crate) fn push_parts(
     Ok(())
 }
 
-/// Puts frames of parts onto a stack; what stands after them.
+/// Puts frames of parts onto a stack; returns the bytes left.
 pub(crate) fn add<'a>(
     stack: &mut Vec<Frame>,
     nest: &Nest,
@@ -82,7 +82,7 @@ pub(crate) fn is_namespace(b: u8) -> bool
     (b'A' <= b && b <= b'Z') || (b'a' <= b && b <= b'z')
 }
 
-/// A path in a namespace, and its name.
+/// A nested path: its outer path and its name.
 #[tactic(auto, unfolding(crate::specs::V0Grammar::nested_parts))]
 fn nested_parts<'a>(
     stack: &mut Vec<Frame>,
@@ -513,7 +513,7 @@ fn target(kind: Kind) -> Part
     }
 }
 
-/// A backreference: what stands at its place, where it is shown.
+/// A backreference: what stands at its place, if that is shown.
 #[tactic(auto, unfolding(crate::specs::V0Grammar::back_parts), using(crate::proofs::FrameLemmas::onto_none))]
 #[inline(always)]
 pub(crate) fn back_parts<'a>(

@@ -21,8 +21,8 @@ fn show_record(alloc: Global, rooms: &mut Rooms, line: &mut SymLine) -> Result<(
     }
 }
 
-/// The file with each `FUNC`, `INLINE_ORIGIN` and `PUBLIC` under the name that its name shows, where there is one. All else stays, and so
-/// does the order. Takes memory for the names alone.
+/// The file in which each `FUNC`, `INLINE_ORIGIN` and `PUBLIC` has what its name shows as its name, if there is one. All else stays, and so does the
+/// order. Allocates memory for the names alone.
 pub fn show_all(alloc: Global, file: SymFile) -> Result<SymFile, OutOfMemory>
     ensures shown { IfOk result (λ new. HaveShownNames file new) }
     ensures named { IfOk result (λ new. new ≡ map (renamed named) file) }

@@ -37,7 +37,7 @@ impl Rooms {
     }
 }
 
-/// Reads frames from the top of a stack, and adds what they show; false where they cannot be read so. Paths of impls are passed.
+/// Reads frames from the top of a stack, and adds what they show; false if they cannot be read. Paths of impls are passed.
 fn read_shown(alloc: Global, rooms: &mut Rooms, name: &[u8]) -> Result<bool, OutOfMemory>
     requires hidden { AreHidden name.now rooms.old.hidden.parts.known }
     requires constants { AreConstants name.now rooms.old.shown.constants }
@@ -63,7 +63,7 @@ fn read_shown(alloc: Global, rooms: &mut Rooms, name: &[u8]) -> Result<bool, Out
     Ok(false)
 }
 
-/// Adds what is shown of the bytes behind `_R`, where at most so many levels nest; false where they are no name.
+/// Adds what the bytes after `_R` show, if at most `levels` levels nest; false if they are no name.
 #[tactic(auto, unfolding(crate::specs::V0Names::text_within), using(crate::proofs::RunLemmas::whole_run))]
 fn text_within(
     alloc: Global,
@@ -104,7 +104,7 @@ fn text_within(
     read_shown(alloc, rooms, name)
 }
 
-/// Whether no byte ends a line. All bytes are looked at, since a loop without a way out takes many at once.
+/// Whether no byte ends a line. All are looked at, since a loop without an early exit handles many at once.
 fn are_one_line(bytes: &[u8]) -> bool
     ensures { result ≡ list_all is_within_line bytes.now }
 {
@@ -115,7 +115,7 @@ fn are_one_line(bytes: &[u8]) -> bool
     one_line
 }
 
-/// Whether a record may carry the text as a name.
+/// Whether a record may have the text as a name.
 #[tactic(auto, unfolding(clean_names::specs::Names::is_name))]
 fn is_name(text: &[u8]) -> bool
     ensures { result ≡ is_name text.now }
@@ -126,7 +126,7 @@ fn is_name(text: &[u8]) -> bool
     text[0] != b' ' && text[text.len() - 1] != b'\r' && are_one_line(text)
 }
 
-/// Makes what a v0 name shows the text shown in the room; false where it shows nothing.
+/// Puts what a v0 name shows into the room as its text; false if it shows nothing.
 #[tactic(auto, unfolding(crate::specs::V0Names::v0_text))]
 pub(crate) fn v0_text(alloc: Global, rooms: &mut Rooms, name: &[u8]) -> Result<bool, OutOfMemory>
     ensures { IfOk result (λ said. v0.v0_text name.now ≡ kept said rooms.new.shown.text.items) }

@@ -13,7 +13,7 @@ use sym_records::HexText;
 /// The most bytes that a text has.
 const TEXT_LIMIT: usize = 65_536;
 
-/// Adds bytes to a text; false where they do not fit.
+/// Adds bytes to a text; false if they do not fit.
 #[tactic(auto, using(crate::proofs::TextLemmas::say_over, crate::proofs::TextLemmas::say_fits))]
 #[inline(always)]
 pub(crate) fn add(text: &mut Vec<u8>, more: &[u8]) -> Result<bool, OutOfMemory>
@@ -26,7 +26,7 @@ pub(crate) fn add(text: &mut Vec<u8>, more: &[u8]) -> Result<bool, OutOfMemory>
     Ok(true)
 }
 
-/// Adds bytes where they are shown.
+/// Adds bytes if they are shown.
 #[inline(always)]
 pub(crate) fn show(text: &mut Vec<u8>, visible: bool, more: &[u8]) -> Result<bool, OutOfMemory>
     ensures { IfOk result (λ said. shown_on visible text.old.items (Some more.now) ≡ kept said text.new.items) }
@@ -37,7 +37,7 @@ pub(crate) fn show(text: &mut Vec<u8>, visible: bool, more: &[u8]) -> Result<boo
     add(text, more)
 }
 
-/// What stands after a leaf, where all of it was added.
+/// The bytes after a leaf, if all of it was added.
 pub(crate) fn after_if(said: bool, bytes: &[u8]) -> Option<&[u8]>
     ensures { option_map (λ a. a.now) result ≡ after_if said bytes.now }
 {
@@ -67,7 +67,7 @@ fn add_lifetime(text: &mut Vec<u8>, depth: u64) -> Result<bool, OutOfMemory>
     add_decimal(text, depth)
 }
 
-/// Adds a lifetime by its number; false where it is not bound.
+/// Adds a lifetime by its number; false if it is not bound.
 #[tactic(auto, using(crate::proofs::TextLemmas::unbound, crate::proofs::TextLemmas::nameless, crate::proofs::TextLemmas::bound_so))]
 pub(crate) fn show_lifetime(
     text: &mut Vec<u8>,
@@ -85,7 +85,7 @@ pub(crate) fn show_lifetime(
     add_lifetime(text, bound - number)
 }
 
-/// Adds the lifetime of a depth, with a comma in front.
+/// Adds the lifetime of a depth, after a comma.
 #[tactic(auto, using(crate::proofs::TextLemmas::say_then, crate::proofs::TextLemmas::say_stop))]
 fn add_next_lifetime(text: &mut Vec<u8>, depth: u64) -> Result<bool, OutOfMemory>
     ensures { IfOk result (λ said. v0.say text.old.items (v0.next_lifetime depth) ≡ kept said text.new.items) }
@@ -96,7 +96,7 @@ fn add_next_lifetime(text: &mut Vec<u8>, depth: u64) -> Result<bool, OutOfMemory
     add_lifetime(text, depth)
 }
 
-/// Adds so many lifetimes from a depth on, each with a comma in front.
+/// Adds `count` lifetimes from a depth on, each after a comma.
 fn add_lifetimes(text: &mut Vec<u8>, count: u64, depth: u64) -> Result<bool, OutOfMemory>
     requires { depth + count < 2 ^ 64 }
     ensures { IfOk result (λ said. v0.say text.old.items (v0.lifetimes_from count depth) ≡ kept said text.new.items) }

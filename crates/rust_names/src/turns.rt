@@ -21,7 +21,7 @@ pub(crate) struct Room {
     pub(crate) stack: Vec<Frame>,
     /// What is shown.
     pub(crate) text: Vec<u8>,
-    /// Whether the last trait's arguments are left open.
+    /// Whether the last trait's arguments are open.
     pub(crate) opened: bool,
     /// The constants of many digits, by their place.
     pub(crate) constants: BTreeMap<u64, Constant>,
@@ -43,7 +43,7 @@ impl Room {
 pub struct Stop<'a> {
     /// What is still to be read.
     pub rest: &'a [u8],
-    /// The path of an impl that stands there, where it is not the end.
+    /// The path of an impl that stands there, if it is not the end.
     pub hidden: Option<Frame>,
 }
 
@@ -58,7 +58,7 @@ fn is_hidden(part: Part) -> bool
     }
 }
 
-/// Whether a part is read by the parts that it is made of.
+/// Whether a part is read by reading its own parts.
 #[inline(always)]
 pub(crate) fn is_made(part: Part) -> bool
     ensures { result ≡ is_made part }
@@ -146,7 +146,7 @@ fn read_plain<'a>(
     }
 }
 
-/// Reads a frame, or puts those that it is made of onto the stack. Nested paths are entered at once.
+/// Reads a frame, or puts the frames that it is made of onto the stack. Nested paths are entered at once.
 #[inline(always)]
 fn turn<'a>(
     alloc: Global,
@@ -174,7 +174,7 @@ fn turn<'a>(
     Ok(next)
 }
 
-/// Reads the frames of a stack from its top, and adds what they show; stops in front of the path of an impl, where it is to.
+/// Reads the frames of a stack from its top, and adds what they show. If it is to stop at the path of an impl, it stops before it.
 pub(crate) fn read_frames<'a>(
     alloc: Global,
     room: &mut Room,

@@ -1,4 +1,4 @@
--- What a name shows, as the functions find it: `_R` begins a v0 name, and no legacy name.
+-- What a name shows, as the functions find it: if it begins with `_R`, it is no legacy name.
 use Rattle.std.specs.Prelude.{ℕ, nat_eq, if◌then◌else◌, List, codes, Option}
 use Rattle.std.specs.List.{starts_with}
 use Rattle.rust_names.specs.V0Names.{v0_text}

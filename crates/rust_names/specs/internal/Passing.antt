@@ -1,4 +1,4 @@
--- The loop over frames. Paths of v0 names that are not shown; constants that were read.
+-- The loop that reads frames; paths of v0 names that are not shown; constants that were read.
 use Rattle.std.specs.Prelude.{◌≡◌, ℕ, ◌+◌, ◌<◌, ◌≤◌, Bool, true, false, List, [], ◌++◌, length, reverse, take, drop, Option, Some, IfSome, MatchOption}
 use Rattle.std.specs.Borrow.{Bor}
 use Rattle.std.specs.Option.{option_and_then, option_to_list}
@@ -18,12 +18,12 @@ use Rattle.rust_names.specs.V0Numbers.{hex_digits, hex_from}
 use Rattle.rust_names.specs.V0Names.{State, read_level}
 use Rattle.rust_names.specs.internal.Running.{at, run, weight}
 
--- bytes that others end with
+-- `rest` is a suffix of `bytes`
 pub record IsEnd (bytes rest : List ℕ) : Type 0 where
   pub place : ℕ
   pub is : rest ≡ drop place bytes
 
--- where nothing is shown
+-- a scope in which nothing is shown
 abbrev pub dark : ℕ → Scope
 dark bound = record { bound = bound; visible = false }
 
@@ -32,24 +32,24 @@ abbrev pub is_hidden : Part → Bool
 is_hidden (Within inner.ImplPath) = true
 is_hidden p = false
 
--- a turn of the loop: from frames and a state to frames, a text, and what is left
+-- a turn of the loop: from frames and a state to frames, a text, and the bytes left
 pub record Turned (name : List ℕ) (old : List Frame) (s : State) (new : List Frame) (text : List ℕ) (opened : Bool) (o : Option (Bor (List ℕ))) : Type 0 where
   pub same : run name (reverse old) s ≡ option_and_then (λ a. run name (reverse new) (at a.now text opened)) o
   pub lighter : IfSome o (λ _. weight (length name) new < weight (length name) old)
   pub ends : IfSome o (λ a. IsEnd name a.now)
 
--- turns up to the end, or up to the path of an impl, where the loop is to stop there
+-- turns up to the end, or up to the path of an impl if the loop is to stop there
 pub record Stopped (name : List ℕ) (old : List Frame) (s : State) (stops : Bool) (new : List Frame) (text : List ℕ) (opened : Bool) (stop : Stop) : Type 0 where
   pub same : run name (reverse old) s ≡ run name (reverse (new ++ option_to_list stop.hidden)) (at stop.rest.now text opened)
   pub lighter : weight (length name) (new ++ option_to_list stop.hidden) ≤ weight (length name) old
   pub ends : IsEnd name stop.rest.now
   pub hidden : MatchOption stop.hidden (new ≡ []) (λ f. (stops ≡ true) × (is_hidden f.part ≡ true))
 
--- a path that is not shown ends so, whatever is bound and was shown before
+-- a path that is not shown is read up to `after`, whatever is bound and was shown before
 abbrev pub Reads : List ℕ → ℕ → List ℕ → Bool → List ℕ → Bool → Type 0
 Reads name levels rest opened after leaves = (bound : ℕ) (text : List ℕ) → read_level name levels (Deep kind.Path) (dark bound) (at rest text opened) ≡ Some (at after text leaves)
 
--- a constant by a value
+-- a constant given by a value
 abbrev pub is_constant : Leaf → Bool
 is_constant leaf.Number = true
 is_constant leaf.Boolean = true

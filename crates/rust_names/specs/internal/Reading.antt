@@ -1,5 +1,5 @@
--- The reading of a name from left to right, as the functions do it: the piece or the part that bytes begin with, and all of them. `k` bytes
--- belong to the one before.
+-- The reading of a legacy name from left to right, as the functions do it: the piece or the part that bytes begin with, and then all of them. The
+-- first `k` bytes belong to the piece or the part before.
 use Rattle.std.specs.Prelude.{ℕ, zero, suc, ◌+◌, ◌-◌, ◌*◌, ◌==◌, ◌&&◌, nat_le, nat_lt, nat_eq, Bool, true, false, if◌then◌else◌, List, [], ◌∷◌, ◌++◌, length, take, drop, codes, slice_index, Option, None, Some, not}
 use Rattle.std.specs.List.{flat_map, list_all, starts_with}
 use Rattle.std.specs.Option.{option_map, option_and_then}
@@ -22,7 +22,7 @@ sign_of bytes =
     else if starts_with nat_eq bytes (codes "$C$") then Some Comma
     else None
 
--- the byte of a code, where it is no control byte
+-- the byte that two digits write, if it is from 32 to 126
 abbrev pub byte_of : Option ℕ → Option ℕ → Option Piece
 byte_of None low = None
 byte_of (Some high) None = None
@@ -73,7 +73,7 @@ abbrev pub cut_by : List ℕ → Option ℕ → Option (List ℕ × List ℕ)
 cut_by after None = None
 cut_by after (Some n) = Some (take n after, drop n after)
 
--- the bytes of the part in front, and what stands after them
+-- the bytes of the first part, and the bytes after them
 unfoldable pub cut_of : List ℕ → Option (List ℕ × List ℕ)
 cut_of bytes = cut_by (drop (length (digits_in_front bytes)) bytes) (number_upto (length (drop (length (digits_in_front bytes)) bytes)) (digits_in_front bytes))
 
@@ -110,7 +110,7 @@ middle_of name =
     then Some (drop 3 (take (length name - 20) name))
     else None
 
--- what one or more parts show, where it fits
+-- what one or more parts show; and a text, if a record may have it as a name
 abbrev pub some_joined : List Part → Option (List ℕ)
 some_joined [] = None
 some_joined (p ∷ parts) = Some (joined (p ∷ parts))
@@ -118,7 +118,7 @@ some_joined (p ∷ parts) = Some (joined (p ∷ parts))
 abbrev pub text_if : List ℕ → Option (List ℕ)
 text_if text = if is_shown_text text then Some text else None
 
--- what the name shows
+-- what a legacy name shows
 unfoldable pub legacy_of : List ℕ → Option (List ℕ)
 legacy_of name = option_and_then text_if (option_and_then some_joined (option_and_then parts_of (middle_of name)))
 
@@ -132,7 +132,7 @@ parts_text bytes = option_and_then some_joined (parts_of bytes)
 unfoldable pub later_text : List ℕ → Option (List ℕ)
 later_text bytes = option_map (flat_map (λ (q : Part). codes "::" ++ flat_map shown q.pieces)) (parts_of bytes)
 
--- a text, where all of it was added
+-- a text, if all of it was added
 abbrev pub kept : Bool → List ℕ → Option (List ℕ)
 kept true text = Some text
 kept false text = None

@@ -1,4 +1,4 @@
--- The reading of a v0 name by a stack of frames: a part with its scope, and how many levels and symbols may still nest in it.
+-- The reading of a v0 name by a stack of frames: each is a part with its scope, and how many levels and symbols may still nest in it.
 use Rattle.std.specs.Prelude.{◌≡◌, ◌≢◌, ℕ, zero, suc, ◌+◌, ◌-◌, ◌*◌, nat_lt, Bool, true, false, List, [], ◌∷◌, ◌++◌, ◌≤◌, length, map, reverse, Option, Some, None}
 use Rattle.std.specs.Option.{option_map, option_and_then}
 use Rattle.rust_names.specs.declared.words.Word.{Word}
@@ -24,7 +24,7 @@ use Rattle.rust_names.specs.V0Names.{State, read_within, read_level}
 abbrev pub inside : Scope → ℕ → ℕ → Part → Frame
 inside scope levels width part = record { part = part; scope = scope; levels = levels; width = width }
 
--- frames of parts on a stack, so that the first is on top, where parts were found; and what stands after them
+-- frames of parts on a stack, the first on top, if parts were found; and the bytes that are left
 abbrev pub onto : List Frame → Nest → List Part → List Frame
 onto stack nest parts = stack ++ reverse (map (inside nest.scope nest.levels nest.width) parts)
 
@@ -45,7 +45,7 @@ in_scope scope levels width x = (map (inside scope levels width) x.0, x.1)
 abbrev pub in_own_scope : ℕ → ℕ → List Part × Scope × List ℕ → List Frame × List ℕ
 in_own_scope levels width x = (map (inside x.1 levels width) x.0, x.2)
 
--- the frames that a frame is made of: a level, a symbol within one, and one with a scope of its own
+-- the frames of which a level, a symbol within a level, and a symbol with a scope of its own are made
 abbrev pub level_by : ℕ → Scope → Part → List ℕ → Option (List Part × List ℕ)
 level_by size scope (Deep k) bytes = deep_parts k bytes
 level_by size scope (Back k) bytes = back_parts size k scope.visible bytes
@@ -80,14 +80,14 @@ expand_by size frame opened bytes part = level_frames size frame bytes
 unfoldable pub expand : ℕ → Frame → Bool → List ℕ → Option (List Frame × List ℕ)
 expand size frame opened bytes = expand_by size frame opened bytes frame.part
 
--- a stack of frames before and after one was replaced by those that it is made of
+-- a stack before and after the frames that a frame is made of were put onto it
 abbrev pub Expanded : List Frame → List Frame → Option (List Frame × List ℕ) → Option (List ℕ) → Type 0
 Expanded old new None None = Unit {0}
 Expanded old new None (Some after) = ⊥
 Expanded old new (Some x) None = ⊥
 Expanded old new (Some x) (Some after) = (new ≡ old ++ reverse x.0) × (length x.0 ≤ 10) × (x.1 ≡ after)
 
--- it is read by the parts that it is made of: neither a leaf nor a move, nor the name of a nested path in a namespace in lower case
+-- a part that is read by its parts: no leaf, no move, and no name of a nested path in a namespace in lower case
 abbrev pub is_made : Part → Bool
 is_made (Made (phrase.Named space)) = nat_lt space 97
 is_made (Deep k) = true
@@ -103,13 +103,13 @@ at rest text opened = record { rest = rest; text = text; opened = opened }
 abbrev pub shown_after : Option State → Option (List ℕ)
 shown_after o = option_map (λ (s : State). s.text) o
 
--- a path, and no trait's
+-- a path that is not the path of a trait
 abbrev pub is_path : Part → Bool
 is_path (Deep kind.Path) = true
 is_path (Deep kind.ValuePath) = true
 is_path p = false
 
--- a crate, and the name of a nested path, `::` in front of it, unless it is empty: what stands after it, and the text with it
+-- the bytes after a crate or the name of a nested path, and the text with it; `::` stands before a name unless it is empty
 abbrev pub crate_read : Scope → List ℕ → List ℕ → Option (List ℕ × List ℕ)
 crate_read scope bytes text = option_and_then (λ x. read_leaf leaf.Identifier scope x.0 x.1) (read_leaf leaf.Disambiguator scope bytes text)
 
@@ -120,7 +120,7 @@ name_read scope (Some after) bytes text = read_leaf leaf.Identifier scope bytes 
 abbrev pub named_read : Scope → List ℕ → List ℕ → Option (List ℕ × List ℕ)
 named_read scope bytes text = option_and_then (λ x. name_read scope (eat 48 x.1) x.1 text) (after_letter 115 bytes)
 
--- what a frame reads, and frames one after the other
+-- what a frame reads, and what frames read one after the other
 unfoldable pub read_frame : List ℕ → Frame → State → Option State
 read_frame name frame state = read_within (read_level name frame.levels) name frame.width frame.scope frame.part state
 
@@ -128,11 +128,11 @@ unfoldable pub run : List ℕ → List Frame → State → Option State
 run name [] state = Some state
 run name (frame ∷ frames) state = option_and_then (run name frames) (read_frame name frame state)
 
--- frames that read the same from where they stand, whatever was read before
+-- the frames `old` from `before` on read the same as `new` from `after` on, whatever was read before
 abbrev pub SameRun : List ℕ → List Frame → List ℕ → List Frame → List ℕ → Type 0
 SameRun name old before new after = (text : List ℕ) (opened : Bool) → run name (reverse old) (at before text opened) ≡ run name (reverse new) (at after text opened)
 
--- the frame of the path that any type is, where it is one
+-- the frame of the path that any type is, if it is one
 abbrev pub BeginsPathType : Option (ℕ × List ℕ) → Type 0
 BeginsPathType None = ⊥
 BeginsPathType (Some x) = (basic_type x.0 ≡ None) × ((whole bytes : List ℕ) → type_parts whole x.0 bytes ≡ Some (Deep kind.Path ∷ [], whole))
@@ -141,7 +141,7 @@ abbrev pub IsTypePath : ℕ → Frame → Frame → List ℕ → Type 0
 IsTypePath size frame path bytes =
     (frame.part ≡ Made phrase.AnyType) × (frame.levels ≢ 0) × (frame.width ≢ 0) × (path ≡ inside frame.scope (frame.levels - 1) (size + 8) (Deep kind.Path)) × BeginsPathType (front bytes)
 
--- the frame of the backreference that a path is, and what stands after its letter
+-- the frame of the backreference that a path is, and the bytes after its letter
 abbrev pub back_of : Part → Part
 back_of (Deep k) = Back k
 back_of p = p

@@ -17,7 +17,7 @@ use Rattle.rust_names.specs.V0Names.{State, all, read_within, read_level}
 use Rattle.rust_names.specs.internal.Passing.{dark}
 use Rattle.rust_names.specs.internal.Running.{at}
 
--- parts in turn where nothing is shown
+-- parts, read one after the other where nothing is shown
 abbrev pub reads : List ℕ → ℕ → ℕ → ℕ → List Part → State → Option State
 reads name levels width bound parts s = all (read_within (read_level name levels) name width (dark bound)) parts s
 
@@ -27,11 +27,11 @@ one_reads name levels width bound part s = read_within (read_level name levels) 
 abbrev pub stands : List ℕ → ℕ → Bool → List ℕ → State
 stands name place opened text = at (drop place name) text opened
 
--- a part is read from a place on, wherever so many levels and symbols may nest
+-- a part is read up to `r.place`, if `r.levels` levels and `r.width` symbols may nest in it
 abbrev pub Passes : List ℕ → Part → ℕ → Bool → Reached → Type 0
 Passes name part place opened r = (levels width bound : ℕ) (text : List ℕ) → r.levels ≤ levels → r.width ≤ width → one_reads name levels width bound part (stands name place opened text) ≡ Some (stands name r.place r.opened text)
 
--- one after the other
+-- what is reached if `end` follows `now`
 pub record IsJoined (now end r : Reached) : Type 0 where
   pub place : r.place ≡ end.place
   pub opened : r.opened ≡ end.opened
@@ -56,7 +56,7 @@ Fits (Deep k) levels width = 1 ≤ levels
 Fits (Back k) levels width = 1 ≤ levels
 Fits p levels width = 1 ≤ width
 
--- a part is what its parts are that are still to be read
+-- to read a part is to read, from `now` on, the `parts` of it that are left
 abbrev pub Begins : List ℕ → Begun → List Part → Reached → Type 0
 Begins name b parts now = (levels width bound : ℕ) (text : List ℕ) → Fits b.part levels width → now.levels ≤ inner_levels b.part levels → now.width ≤ inner_width name b.part width
     → one_reads name levels width bound b.part (stands name b.from.place b.from.opened text) ≡ reads name (inner_levels b.part levels) (inner_width name b.part width) bound parts (stands name now.place now.opened text)
@@ -65,7 +65,7 @@ abbrev pub CanEnd : List ℕ → Step → Reached → Type 0
 CanEnd name (Read p) now = Unit {0}
 CanEnd name (End b) now = Begins name b [] now
 
--- what the steps from the top of the stack on do, after parts that are to be read first
+-- to read `first` is to read `parts`, and then to do the steps from the top on
 abbrev pub Waits : List ℕ → Begun → List Step → List Part → Reached → Type 0
 Waits name first [] parts now = (levels width bound : ℕ) (text : List ℕ) → now.levels ≤ levels → now.width ≤ width
     → one_reads name levels width bound first.part (stands name first.from.place first.from.opened text) ≡ reads name levels width bound parts (stands name now.place now.opened text)
