@@ -244,6 +244,7 @@ pub enum Unwritten {
 }
 
 /// Writes the rule that the CFA has in the second of two rows, if they differ in it; returns it if it is an expression.
+#[inline(always)]
 #[tactic(auto, using(crate::proofs::TokenLemmas::cfa_written, crate::proofs::TokenLemmas::no_rule), unfolding(crate::specs::RowRules::spelled, expr_postfix::specs::ExprTokens::rule_tokens))]
 pub fn write_cfa(rows: &Rows<'_, '_, '_>, line: &mut BackwardLine<LINE>) -> Result<(), ExprRule>
     requires room { length line.old + 40 ≤ 768 }
