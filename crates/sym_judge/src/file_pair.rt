@@ -120,7 +120,7 @@ fn aliases_beside<'f>(
     aliases_of(alloc, numbered, own, other)
 }
 
-/// The numbers of a kind under which two files have one name.
+/// For one kind of number, that of files or of origins: the numbers that stand for one name in both files.
 fn one_names<'f>(
     alloc: Global,
     numbered: Numbered,

@@ -62,7 +62,7 @@ abbrev pub path_and_line : List SymLine → SymLine → Option (List ℕ) × ℕ
 path_and_line lines (Line address size line file) = (text_path lines file, line)
 path_and_line lines _ = (None, 0)
 
--- the first line record under a FUNC that covers the address
+-- of the line records under a FUNC, the first that covers the address
 abbrev pub line_under : ℕ → Found → Option SymLine
 line_under x f = find (is_line_at x) (under f.behind)
 

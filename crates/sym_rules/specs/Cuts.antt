@@ -36,7 +36,7 @@ unfoldable pub split_lines : List ℕ → List (List ℕ)
 split_lines [] = [] ∷ []
 split_lines (b ∷ bytes) = if b == 10 then [] ∷ split_lines bytes else onto b (split_lines bytes)
 
--- whether the list has a last member for which p is true
+-- whether the list is not empty and p is true for its last member
 unfoldable pub last_is : {A : Type 0} → (A → Bool) → List A → Bool
 last_is p [] = false
 last_is p (x ∷ []) = p x

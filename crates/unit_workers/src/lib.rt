@@ -30,8 +30,8 @@
 //!
 //! The steps: making the word sets it to 0; its hand has no number, and its rights and its share are the number of workers. `split` reads the word:
 //! the new hand has no number, one right and share 1, and the old hand loses this right and this share. `draw` adds 1: a number below the count is
-//! added to the list, otherwise one right is spent. `join` reads the word: the hand has the numbers, rights and shares of both hands, and the other
-//! hand is gone.
+//! added to the list, otherwise one right is spent. `join` reads the word; after that the hand has the numbers, rights and
+//! shares of both hands, and the other hand is gone.
 //!
 //! A draw needs a right, so the word never exceeds the sum of the count and the workers. A hand with the whole share leaves no share to another, so
 //! no other has a right or a number. If it has no right itself, the word has passed the count, and the hand's list has each number below the count
