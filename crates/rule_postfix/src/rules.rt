@@ -70,7 +70,7 @@ fn write_value(number: u8, line: &mut BackwardLine<LINE>)
 }
 
 /// A register plus an offset.
-#[inline]
+#[inline(always)]
 #[tactic(auto, using(crate::proofs::TokenLemmas::base_written))]
 fn write_base(register: u8, offset: i64, line: &mut BackwardLine<LINE>)
     requires room { length line.old + 29 ≤ 768 }
