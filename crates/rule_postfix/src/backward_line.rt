@@ -79,7 +79,7 @@ impl<const N: usize> BackwardLine<N> {
     }
 
     /// Puts a signed number in decimal.
-    #[inline]
+    #[inline(always)]
     pub fn put_signed(&mut self, number: i64)
         requires room { length self.old + 21 ≤ N }
         ensures short { length self.new ≤ length self.old + 21 }
