@@ -41,14 +41,13 @@ abbrev with_headers : DebugSections → List Unit → Result FileSays Fault
 with_headers sections headers = each_of (unit_says sections) (read_units headers) >>= with_units headers
 
 made_by : (code : List Range) (headers : List Unit) (parts : List UnitRead) (file : FileRead) (units : Result (List UnitSays) Fault) → file.headers ≡ headers → file.parts.items ≡ parts → Says (Match (IsUnitRead code)) units parts → Says (IsFileRead code) (units >>= with_units headers) file
-made_by code headers parts file (Ok units) heads are says = record { headers = heads; units = subst (Match (IsUnitRead code) units) (sym are) says }
+made_by code headers parts file (Ok units) heads are says = record { headers = heads; units = rw are says }
 made_by code headers parts file (Err fault) heads are says = absurd says
 
 pub file_made : (sections : DebugSections) (code : List Range) (headers : List Unit) (parts : List UnitRead) (file : FileRead) → units_in sections.info ≡ Ok headers → file.headers ≡ headers → file.parts.items ≡ parts → Says (Match (IsUnitRead code)) (each_of (unit_says sections) (read_units headers)) parts → Says (IsFileRead code) (file_says sections) file
 unfolding file_says
 file_made sections code headers parts file is heads are says =
-    subst (λ (r : Result (List Unit) Fault). Says (IsFileRead code) (r >>= with_headers sections) file) (sym is)
-    (made_by code headers parts file (each_of (unit_says sections) (read_units headers)) heads are says)
+    rw is (made_by code headers parts file (each_of (unit_says sections) (read_units headers)) heads are says)
 
 pub headers_fault : (sections : DebugSections) (fault : Fault) → units_in sections.info ≡ Err fault → file_says sections ≡ Err fault
 unfolding file_says
@@ -71,8 +70,7 @@ record Parts (sections : DebugSections) (code : List Range) (file : FileRead) : 
 parts_by : (sections : DebugSections) (code : List Range) (file : FileRead) (headers : List Unit) (units : Result (List UnitSays) Fault) → units_in sections.info ≡ Ok headers → each_of (unit_says sections) (read_units headers) ≡ units → Says (IsFileRead code) (units >>= with_units headers) file → Parts sections code file
 parts_by sections code file headers (Ok units) is are says = record {
   headers = is ∙ ap Ok (sym says.headers);
-  units = subst (λ (hs : List Unit). Says (Match (IsUnitRead code)) (each_of (unit_says sections) (read_units hs)) file.parts.items) (sym says.headers)
-      (subst (λ (r : Result (List UnitSays) Fault). Says (Match (IsUnitRead code)) r file.parts.items) (sym are) says.units);
+  units = rw (says.headers, are) says.units;
 }
 parts_by sections code file headers (Err fault) is are says = absurd says
 
@@ -120,7 +118,7 @@ joined : (code : List Range) (own : FileSays) (sup : Result FileSays Fault) (fil
 joined code own (Ok sup) file other both one two units first later = record {
   headers = one ∙ first.headers;
   sup_headers = two ∙ later.headers;
-  units = subst (Match (IsUnitRead code) (own.units ++ sup.units)) (sym units) (match_append (IsUnitRead code) own.units sup.units file.parts.items other.parts.items first.units later.units);
+  units = rw units (match_append (IsUnitRead code) own.units sup.units file.parts.items other.parts.items first.units later.units);
 }
 joined code own (Err fault) file other both one two units first later = absurd later
 
@@ -134,8 +132,7 @@ pub both_made : (image : ImageParts) (own sup : DebugSections) (code other_code 
 unfolding both_says
 both_made image own sup code other_code file other both own_is sup_of code_is other_is one two units first later =
     both_by image (file_says (sections_of image)) file other both one two units
-    (subst (λ (s : DebugSections). Says (IsFileRead image.code) (file_says s) file) own_is (subst (λ (c : List Range). Says (IsFileRead c) (file_says own) file) code_is first))
-    (subst (λ (s : DebugSections). Says (IsFileRead image.code) (file_says s) other) sup_of (subst (λ (c : List Range). Says (IsFileRead c) (file_says sup) other) other_is later))
+    (rw (own_is, code_is) at first) (rw (sup_of, other_is) at later)
 
 own_fault : (image : ImageParts) (fault : Fault) → file_says (sections_of image) ≡ Err fault → both_says image ≡ Err (Dwarf fault)
 unfolding both_says

@@ -33,7 +33,7 @@ found_all reading spans found same long each =
 -- the reader's result of a number
 pub reader_found : (reader made : ReaderParts) (k : ℕ) (unit : Unit) (found : Owing) → reader ≡ made → slice_get made.units k ≡ Some unit → ((spans : List Range) → EncloseAlike made.code spans → IsOwing spans made.sections unit found) → ReaderGives reader (slice_get reader.units k) found
 reader_found reader made k unit found is there each =
-    subst (λ (r : ReaderParts). ReaderGives r (slice_get r.units k) found) (sym is) (subst (λ (o : Option Unit). ReaderGives made o found) (sym there) each)
+    rw (is, there) each
 
 pub found_in : (reading : ReaderParts) (sections : DebugSections) (read units : List Unit) (code spans : List Range) (shared : SharedParts) (found : List Owing) → reading ≡ record { sections = sections; units = read; code = code; shared = shared } → read ≡ units → EncloseAlike code spans → length found ≡ length read → ((k : ℕ) (d : Owing) → k < length found → ReaderGives reading (slice_get reading.units k) (get_or found k d)) → Match (IsOwing spans sections) units found
 found_in reading sections read units code spans shared found is picked same long each =
@@ -90,8 +90,3 @@ joining_ends spans sections units left parts joining none = go joining.rest (sub
     go : (rest : List Unit) → Match (IsOwing spans sections) rest [] → Going (IsUnitRead spans) (each_of (unit_says sections) units) (each_of (unit_says sections) rest) parts → Says (Match (IsUnitRead spans)) (each_of (unit_says sections) units) parts
     go [] owing going = going_ends (IsUnitRead spans) (unit_says sections) [] 0 (each_of (unit_says sections) units) parts refl going
     go (unit ∷ rest) owing going = absurd owing
-
--- a stop says the same whatever an answer would say
-pub stop_again : {V W F : Type 0} (P : V → Type 0) (Q : W → Type 0) (R : F → Type 0) (stop : Stop F) → MatchStop {A = V} (Err stop) P R (Prim.Unit {0}) → MatchStop {A = W} (Err stop) Q R (Prim.Unit {0})
-stop_again P Q R (Fault fault) is = is
-stop_again P Q R NoMemory is = tt

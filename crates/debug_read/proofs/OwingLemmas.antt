@@ -99,9 +99,8 @@ sound_by false (Err fault) at other comp_dir dir ok = absurd ok
 
 pub sound_of : (sections : DebugSections) (offset at : ℕ) (comp_dir : List ℕ) → IsOk (unit_lines sections offset at comp_dir) → IsSound sections offset
 sound_of sections offset at comp_dir ok other dir =
-    subst (λ (r : Result Lines LineFault). IsOk r) (sym (unit_are sections offset other dir))
-    (sound_by (nat_lt (length sections.line) offset) (parts_at sections (ahead_at sections offset)) at other comp_dir dir
-    (subst (λ (r : Result Lines LineFault). IsOk r) (unit_are sections offset at comp_dir) ok))
+    rw (unit_are sections offset other dir)
+    (sound_by (nat_lt (length sections.line) offset) (parts_at sections (ahead_at sections offset)) at other comp_dir dir (rw (unit_are sections offset at comp_dir) at ok))
 
 abbrev fault_or : {A F : Type 0} → F → Result A F → F
 fault_or old (Ok x) = old
@@ -144,9 +143,7 @@ unasked_by spans (Err fault) ok = absurd ok
 sound_by_root : (sections : DebugSections) (root : RootFields) (offset : ℕ) (spans : List Range) (kept : LineMap) → root.stmt_list ≡ Some offset → IsSound sections offset → kept ≡ no_lines → Says (KeepsLines spans false) (root_lines sections root) kept
 unfolding root_lines
 sound_by_root sections root offset spans kept there sound is =
-    subst (λ (o : Option ℕ). Says (KeepsLines spans false) (lines_by sections root o) kept) (sym there)
-    (subst (λ (table : LineMap). Says (KeepsLines spans false) (lines_by sections root (Some offset)) table) (sym is)
-    (unasked_by spans (unit_lines sections offset root.at (unwrap_or root.comp_dir [])) (sound root.at (unwrap_or root.comp_dir []))))
+    rw (there, is) (unasked_by spans (unit_lines sections offset root.at (unwrap_or root.comp_dir [])) (sound root.at (unwrap_or root.comp_dir [])))
 
 -- a table that was read for the name that a root gives
 pub record IsNamed (code : List Range) (sections : DebugSections) (root : RootFields) (asked : Bool) (one : NamedTable) : Type 0 where
@@ -163,8 +160,7 @@ named_by code sections root offset asked name one there same kept dir table for 
 
 pub named_sound : (code : List Range) (sections : DebugSections) (root : RootFields) (spans : List Range) (asked : Bool) (one : NamedTable) (kept : LineMap) → IsNamed code sections root asked one → one.read ≡ Sound → asked ≡ false → kept ≡ no_lines → Says (KeepsLines spans asked) (root_lines sections root) kept
 named_sound code sections root spans asked one kept found is none same =
-    subst (λ (a : Bool). Says (KeepsLines spans a) (root_lines sections root) kept) (sym none)
-    (sound_by_root sections root one.name.offset spans kept found.offset (subst (λ (r : TableRead). TableBy code sections one.name.offset one.name.comp_dir.now r) is found.table) same)
+    rw none (sound_by_root sections root one.name.offset spans kept found.offset (rw is at found.table) same)
 
 whole_by_root : (code : List Range) (sections : DebugSections) (root : RootFields) (offset : ℕ) (comp_dir : List ℕ) (spans : List Range) (asked : Bool) (table kept : LineMap) → root.stmt_list ≡ Some offset → (asked ≡ true → comp_dir ≡ unwrap_or root.comp_dir []) → WholeBy code sections offset comp_dir table → EncloseAlike code spans → kept ≡ (if asked then table else no_lines) → Says (KeepsLines spans asked) (root_lines sections root) kept
 whole_by_root code sections root offset comp_dir spans true table kept there same whole alike is =
@@ -174,10 +170,9 @@ whole_by_root code sections root offset comp_dir spans false table kept there sa
 
 pub named_whole : (code : List Range) (sections : DebugSections) (root : RootFields) (spans : List Range) (asked : Bool) (one : NamedTable) (table kept : LineMap) → IsNamed code sections root asked one → one.read ≡ Whole table → EncloseAlike code spans → kept ≡ (if asked then table else no_lines) → Says (KeepsLines spans asked) (root_lines sections root) kept
 named_whole code sections root spans asked one table kept found is alike same =
-    whole_by_root code sections root one.name.offset one.name.comp_dir.now spans asked table kept found.offset found.comp_dir
-    (subst (λ (r : TableRead). TableBy code sections one.name.offset one.name.comp_dir.now r) is found.table) alike same
+    whole_by_root code sections root one.name.offset one.name.comp_dir.now spans asked table kept found.offset found.comp_dir (rw is at found.table) alike same
 
 pub named_refused : (code : List Range) (sections : DebugSections) (root : RootFields) (asked : Bool) (one : NamedTable) (fault : LineFault) → IsNamed code sections root asked one → one.read ≡ Refused fault → root_lines sections root ≡ Err fault
 named_refused code sections root asked one fault found is =
-    table_refused sections root one.name.offset fault found.offset
-    (subst (λ (r : TableRead). TableBy code sections one.name.offset one.name.comp_dir.now r) is found.table root.at (unwrap_or root.comp_dir []))
+    let refused = rw is at found.table in
+    table_refused sections root one.name.offset fault found.offset (refused root.at (unwrap_or root.comp_dir []))

@@ -23,27 +23,11 @@ use Rattle.debug_read.proofs.KeptLemmas.{kept}
 code_above : (base start end : ℕ) (code : List Range) → AllFrom base code → encloses code start end ≡ true → base ≤ start
 unfolding encloses
 code_above base start end [] above is = absurd (cc)
-code_above base start end (range ∷ code) above is = go (nat_le range.start start) (nat_le end range.end) refl is (code_above base start end code above.1)
-  where
-    go : (b c : Bool) → nat_le range.start start ≡ b → ((b && c) || list_any (λ (r : Range). nat_le r.start start && nat_le end r.end) code) ≡ true → (list_any (λ (r : Range). nat_le r.start start && nat_le end r.end) code ≡ true → base ≤ start) → base ≤ start
-    go true c low same later =
-        let first : base ≤ range.start = above.0 in
-        let below : range.start ≤ start = grind (arith, nat_tests, low) in
-        omega arith
-    go false c low same later = later same
+code_above base start end (range ∷ code) above is = grind (arith, nat_tests, above.0, is, code_above base start end code above.1)
 
 pairs_above : (base a : ℕ) (code pairs : List Range) → AllFrom base code → in_pairs code pairs a ≡ true → base ≤ a
 pairs_above base a code [] above is = absurd (cc)
-pairs_above base a code (pair ∷ pairs) above is = go (nat_lt pair.start pair.end) (encloses code pair.start pair.end) refl (holds pair a) refl is (pairs_above base a code pairs above)
-  where
-    go : (b c : Bool) → encloses code pair.start pair.end ≡ c → (h : Bool) → holds pair a ≡ h → (((b && c) && h) || in_pairs code pairs a) ≡ true → (in_pairs code pairs a ≡ true → base ≤ a) → base ≤ a
-    go true true inside true held same later =
-        let low : base ≤ pair.start = code_above base pair.start pair.end code above inside in
-        let below : pair.start ≤ a = grind (arith, nat_tests, held) in
-        omega arith
-    go true true inside false held same later = later same
-    go true false inside h held same later = later same
-    go false c inside h held same later = later same
+pairs_above base a code (pair ∷ pairs) above is = grind (arith, nat_tests, is, code_above base pair.start pair.end code above, pairs_above base a code pairs above)
 
 -- the entries of a unit, and those of all units
 abbrev owns : ℕ → Covering → Bool
@@ -54,12 +38,8 @@ unit_above base a code unit entry [] pairs sets rest above are is later = later 
 unit_above base a code unit entry (die ∷ dies) pairs [] rest above are is later = later is
 unit_above base a code unit entry (die ∷ dies) [] (set ∷ sets) rest above are is later = absurd are
 unit_above base a code unit entry (die ∷ dies) (own ∷ pairs) (set ∷ sets) rest above are is later =
-    go (is_function die) (holds_any set a) refl is (λ more. unit_above base a code unit (entry + 1) dies pairs sets rest above are.1 more later)
-  where
-    go : (f h : Bool) → holds_any set a ≡ h → ((f && h) || list_any (owns a) (unit_covering unit (entry + 1) dies sets ++ rest)) ≡ true → (list_any (owns a) (unit_covering unit (entry + 1) dies sets ++ rest) ≡ true → base ≤ a) → base ≤ a
-    go true true held same more = pairs_above base a code own above (sym (are.0.each a) ∙ held)
-    go true false held same more = more same
-    go false h held same more = more same
+    let next : list_any (owns a) (unit_covering unit (entry + 1) dies sets ++ rest) ≡ true → base ≤ a = λ more. unit_above base a code unit (entry + 1) dies pairs sets rest above are.1 more later in
+    grind (arith, nat_tests, is, are.0.each a, pairs_above base a code own above, next)
 
 all_above : (base a : ℕ) (code : List Range) (unit : ℕ) (says : List UnitSays) (parts : List UnitRead) → AllFrom base code → Match (IsUnitRead code) says parts → list_any (owns a) (covering_from unit parts) ≡ true → base ≤ a
 all_above base a code unit says [] above are is = absurd (cc)
@@ -69,11 +49,7 @@ all_above base a code unit (s ∷ says) (part ∷ parts) above are is =
 
 found_any : (p : Covering → Bool) (all : List Covering) (c : Covering) → find p all ≡ Some c → list_any p all ≡ true
 found_any p [] c is = absurd (cc)
-found_any p (x ∷ all) c is = go (p x) is (found_any p all c)
-  where
-    go : (b : Bool) → cond b (Some x) (find p all) ≡ Some c → (find p all ≡ Some c → list_any p all ≡ true) → (b || list_any p all) ≡ true
-    go true same later = refl
-    go false same later = later same
+found_any p (x ∷ all) c is = grind (arith, nat_tests, is, found_any p all c)
 
 owner_above : (base a : ℕ) (code : List Range) (says : List UnitSays) (parts : List UnitRead) (c : Covering) → AllFrom base code → Match (IsUnitRead code) says parts → owner parts a ≡ Some c → base ≤ a
 unfolding owner

@@ -53,6 +53,10 @@ made_holds : {A B F : Type 0} (P : A → Type 0) (Q : B → Type 0) (first : Res
 made_holds P Q (Ok x) make holds each = each x holds
 made_holds P Q (Err fault) make holds each = tt
 
+also_holds : {A B F : Type 0} (P : A → Type 0) (Q : B → Type 0) (first : Result A F) (next : A → Result B F) → Holds P first → ((x : A) → P x → Holds Q (next x)) → Holds Q (first >>= next)
+also_holds P Q (Ok x) next holds each = each x holds
+also_holds P Q (Err fault) next holds each = tt
+
 -- the paths of a line table
 files_clean : (directories : List (List ℕ)) (files : List FileFields) → AreClean (map (file_path directories) files)
 unfolding file_path
@@ -106,18 +110,12 @@ abbrev AllSayClean : List UnitSays → Type 0
 AllSayClean [] = Prim.Unit {0}
 AllSayClean (says ∷ all) = SaysClean says × AllSayClean all
 
-one_more : {F : Type 0} (says : UnitSays) (later : Result (List UnitSays) F) → SaysClean says → Holds AllSayClean later → Holds AllSayClean (later >>= λ rest. Ok (says ∷ rest))
-one_more says (Ok rest) clean all = (clean, all)
-one_more says (Err fault) clean all = tt
-
-first_more : {F : Type 0} (first : Result UnitSays F) (later : Result (List UnitSays) F) → Holds SaysClean first → Holds AllSayClean later → Holds AllSayClean (first >>= λ x. later >>= λ rest. Ok (x ∷ rest))
-first_more (Ok says) later clean all = one_more says later clean all
-first_more (Err fault) later clean all = tt
-
 units_clean : (sections : DebugSections) (units : List Unit) → Holds AllSayClean (each_of (unit_says sections) units)
 unfolding each_of
 units_clean sections [] = tt
-units_clean sections (unit ∷ units) = first_more (unit_says sections unit) (each_of (unit_says sections) units) (says_clean sections unit) (units_clean sections units)
+units_clean sections (unit ∷ units) =
+    also_holds SaysClean AllSayClean (unit_says sections unit) _ (says_clean sections unit) (λ says clean.
+    made_holds AllSayClean AllSayClean (each_of (unit_says sections) units) (λ rest. says ∷ rest) (units_clean sections units) (λ rest all. (clean, all)))
 
 -- each path once
 with_clean : (paths : List (List ℕ)) (path : List ℕ) (there : Bool) → AreClean paths → cleaned path ≡ path → AreClean (cond there paths (paths ++ path ∷ []))
@@ -151,10 +149,6 @@ all_clean code (s ∷ says) (part ∷ parts) clean are =
 both_clean : (all more : List UnitSays) → AllSayClean all → AllSayClean more → AllSayClean (all ++ more)
 both_clean [] more clean other = other
 both_clean (says ∷ all) more clean other = (clean.0, both_clean all more clean.1 other)
-
-also_holds : {A B F : Type 0} (P : A → Type 0) (Q : B → Type 0) (first : Result A F) (next : A → Result B F) → Holds P first → ((x : A) → P x → Holds Q (next x)) → Holds Q (first >>= next)
-also_holds P Q (Ok x) next holds each = each x holds
-also_holds P Q (Err fault) next holds each = tt
 
 abbrev FileClean : FileSays → Type 0
 FileClean says = AllSayClean says.units

@@ -3,6 +3,7 @@ use Rattle.std.proofs.Common.{◌≡◌, ℕ, zero, suc, ◌+◌, ◌^◌, ◌<�
 use Rattle.std.specs.Prelude.{◌==◌, option_and_then}
 use Rattle.std.specs.List.{find, slice_get, list_any}
 use Rattle.std.specs.Option.{option_map_or, option_or}
+use Rattle.std.proofs.lemmas.Bool.Decides.{nat_tests}
 use Rattle.std.proofs.lemmas.List.Folds.{find-append}
 use Rattle.sym_edges.specs.Addresses.{Range}
 use Rattle.range_set.specs.Enclosing.{encloses}
@@ -41,8 +42,7 @@ unit_alike code a unit entry (die ∷ dies) (own ∷ pairs) (set ∷ sets) are =
 
 read_alike : (code : List Range) (a unit : ℕ) (says : UnitSays) (part : UnitRead) → IsUnitRead code says part → Match (IsAlike code a) (numbered_entries unit 0 says.table.dies says.pairs) (unit_covering unit 0 part.die.dies part.spans)
 read_alike code a unit says part is =
-    subst (λ (t : EntryTable). Match (IsAlike code a) (numbered_entries unit 0 says.table.dies says.pairs) (unit_covering unit 0 t.dies part.spans)) (sym is.die)
-    (unit_alike code a unit 0 says.table.dies says.pairs part.spans is.spans)
+    rw is.die (unit_alike code a unit 0 says.table.dies says.pairs part.spans is.spans)
 
 all_alike : (code : List Range) (a unit : ℕ) (says : List UnitSays) (units : List UnitRead) → Match (IsUnitRead code) says units → Match (IsAlike code a) (said_entries unit says) (covering_from unit units)
 all_alike code a unit [] [] are = tt
@@ -78,13 +78,7 @@ find_alike : (code : List Range) (a : ℕ) (es : List SaidEntry) (cs : List Cove
 find_alike code a [] [] are = tt
 find_alike code a [] (c ∷ cs) are = absurd are
 find_alike code a (e ∷ es) [] are = absurd are
-find_alike code a (e ∷ es) (c ∷ cs) are = go (said_owns code a e) (owns a c) (owns_alike code a e c are.0) (find_alike code a es cs are.1)
-  where
-    go : (p q : Bool) → p ≡ q → BothAlike code a (find (said_owns code a) es) (find (owns a) cs) → BothAlike code a (cond p (Some e) (find (said_owns code a) es)) (cond q (Some c) (find (owns a) cs))
-    go true true same later = are.0
-    go false false same later = later
-    go true false same later = absurd (cc)
-    go false true same later = absurd (cc)
+find_alike code a (e ∷ es) (c ∷ cs) are = grind (arith, nat_tests, owns_alike code a e c are.0, are.0, find_alike code a es cs are.1)
 
 pub owners_alike : (code : List Range) (says : List UnitSays) (units : List UnitRead) (a : ℕ) → Match (IsUnitRead code) says units → BothAlike code a (said_owner code says a) (owner units a)
 unfolding said_owner owner
@@ -131,25 +125,14 @@ chain_alike code dies a entry [] [] are = refl
 chain_alike code dies a entry [] (c ∷ cs) are = absurd are
 chain_alike code dies a entry (e ∷ es) [] are = absurd are
 chain_alike code dies a entry (e ∷ es) (c ∷ cs) are =
-    go (said_goes code dies a entry e) (goes dies a entry c) (goes_alike code dies a entry e c are.0)
-    (ap (λ n. map said_place (said_inside code dies a n es)) (ap (λ (p : ℕ × ℕ × DieFields). p.1) are.0.place) ∙ chain_alike code dies a c.entry es cs are.1) (chain_alike code dies a entry es cs are.1)
-  where
-    go : (p q : Bool) → p ≡ q → map said_place (said_inside code dies a e.entry es) ≡ map kept_place (chain_from dies a c.entry cs) → map said_place (said_inside code dies a entry es) ≡ map kept_place (chain_from dies a entry cs)
-        → map said_place (cond p (e ∷ said_inside code dies a e.entry es) (said_inside code dies a entry es)) ≡ map kept_place (cond q (c ∷ chain_from dies a c.entry cs) (chain_from dies a entry cs))
-    go true true same inner other =
-        let here = are.0.place in
-        cc
-    go false false same inner other = other
-    go true false same inner other = absurd (cc)
-    go false true same inner other = absurd (cc)
+    grind (arith, nat_tests, goes_alike code dies a entry e c are.0, are.0.place, ap (λ (p : ℕ × ℕ × DieFields). p.1) are.0.place, chain_alike code dies a c.entry es cs are.1, chain_alike code dies a entry es cs are.1)
 
 by_alike : (code : List Range) (unit entry a : ℕ) (said : Option UnitSays) (part : Option UnitRead) → BothRead code said part → map said_place (said_by code unit entry a said) ≡ map kept_place (chain_by unit entry a part)
 by_alike code unit entry a None None are = refl
 by_alike code unit entry a None (Some part) are = absurd are
 by_alike code unit entry a (Some said) None are = absurd are
 by_alike code unit entry a (Some said) (Some part) are =
-    subst (λ (t : EntryTable). map said_place (said_by code unit entry a (Some said)) ≡ map kept_place (chain_from t.dies a entry (unit_covering unit 0 part.die.dies part.spans))) (sym are.die)
-    (chain_alike code said.table.dies a entry (numbered_entries unit 0 said.table.dies said.pairs) (unit_covering unit 0 part.die.dies part.spans) (read_alike code a unit said part are))
+    rw are.die (chain_alike code said.table.dies a entry (numbered_entries unit 0 said.table.dies said.pairs) (unit_covering unit 0 said.table.dies part.spans) (unit_alike code a unit 0 said.table.dies said.pairs part.spans are.spans))
 
 pub under_alike : (code : List Range) (says : List UnitSays) (units : List UnitRead) (a : ℕ) (e : Option SaidEntry) (c : Option Covering) → Match (IsUnitRead code) says units → BothAlike code a e c → map said_place (said_under code says a e) ≡ map kept_place (chain_under units a c)
 unfolding entry_chain
@@ -157,10 +140,8 @@ under_alike code says units a None None are is = refl
 under_alike code says units a None (Some c) are is = absurd is
 under_alike code says units a (Some e) None are is = absurd is
 under_alike code says units a (Some e) (Some c) are is =
-    let unit : e.unit ≡ c.unit = ap (λ (p : ℕ × ℕ × DieFields). p.0) is.place in
-    let entry : e.entry ≡ c.entry = ap (λ (p : ℕ × ℕ × DieFields). p.1) is.place in
-    ap (λ n. map said_place (said_by code n e.entry a (slice_get says n))) unit ∙ ap (λ n. map said_place (said_by code c.unit n a (slice_get says c.unit))) entry
-    ∙ by_alike code c.unit c.entry a (slice_get says c.unit) (slice_get units c.unit) (both_read code says units c.unit are)
+    rw (ap (λ (p : ℕ × ℕ × DieFields). p.0) is.place, ap (λ (p : ℕ × ℕ × DieFields). p.1) is.place)
+    (by_alike code c.unit c.entry a (slice_get says c.unit) (slice_get units c.unit) (both_read code says units c.unit are))
 
 pub chains_same : (code : List Range) (says : List UnitSays) (units : List UnitRead) (a : ℕ) → Match (IsUnitRead code) says units → map said_place (said_chain code says a) ≡ map kept_place (chain units a)
 unfolding said_chain chain
@@ -170,18 +151,7 @@ chains_same code says units a are = under_alike code says units a (said_owner co
 function_there : (code : List Range) (a unit entry : ℕ) (dies : List DieFields) (pairs : List (List Range)) (e : SaidEntry) → find (said_owns code a) (numbered_entries unit entry dies pairs) ≡ Some e → (e.unit ≡ unit) × (list_any is_function dies ≡ true)
 function_there code a unit entry [] pairs e is = absurd (cc)
 function_there code a unit entry (die ∷ dies) [] e is = absurd (cc)
-function_there code a unit entry (die ∷ dies) (own ∷ pairs) e is = go (is_function die) refl (in_pairs code own a) is (λ later. function_there code a unit (entry + 1) dies pairs e later)
-  where
-    here : SaidEntry
-    here = record { unit = unit; entry = entry; die = die; pairs = own }
-
-    go : (f : Bool) → is_function die ≡ f → (h : Bool) → cond (f && h) (Some here) (find (said_owns code a) (numbered_entries unit (entry + 1) dies pairs)) ≡ Some e
-        → (find (said_owns code a) (numbered_entries unit (entry + 1) dies pairs) ≡ Some e → (e.unit ≡ unit) × (list_any is_function dies ≡ true)) → (e.unit ≡ unit) × ((f || list_any is_function dies) ≡ true)
-    go true its true found later =
-        let same : here ≡ e = cc in
-        (ap (λ (x : SaidEntry). x.unit) (sym same), refl)
-    go true its false found later = ((later found).0, refl)
-    go false its h found later = later found
+function_there code a unit entry (die ∷ dies) (own ∷ pairs) e is = grind (arith, nat_tests, is, function_there code a unit (entry + 1) dies pairs e)
 
 abbrev pub HasFunction : List UnitSays → ℕ → Type 0
 HasFunction says n = (said : UnitSays) → slice_get says n ≡ Some said → has_function said.table.dies ≡ true

@@ -1,5 +1,6 @@
 -- What is kept of units has the names of entries and the paths of calls of what they say. Serves the law.
 use Rattle.std.proofs.Common.{◌≡◌, ℕ, ◌+◌, ◌&&◌, Bool, true, false, cond, List, [], ◌∷◌, codes, map, Option, None, Some, unwrap_or, option_and_then, arith, refl, sym, ap, ◌∙◌}
+use Rattle.std.proofs.lemmas.Bool.Decides.{nat_tests}
 use Rattle.std.specs.Prelude.{◌==◌}
 use Rattle.std.specs.List.{find, slice_get}
 use Rattle.std.specs.Option.{option_map_or}
@@ -81,15 +82,9 @@ covering_in unit entry [] sets = tt
 covering_in unit entry (die ∷ dies) [] = tt
 covering_in unit entry (die ∷ dies) (set ∷ sets) = (refl, covering_in unit (entry + 1) dies sets)
 
-chosen_in : (n : ℕ) (b : Bool) (c : Covering) (inner other : List Covering) → c.unit ≡ n → AllIn n inner → AllIn n other → AllIn n (cond b (c ∷ inner) other)
-chosen_in n true c inner other here first second = (here, first)
-chosen_in n false c inner other here first second = second
-
 chain_in : (n : ℕ) (dies : List DieFields) (a entry : ℕ) (cs : List Covering) → AllIn n cs → AllIn n (chain_from dies a entry cs)
 chain_in n dies a entry [] all = tt
-chain_in n dies a entry (c ∷ cs) all =
-    chosen_in n (is_inlined c.die && (holds_any c.spans a && option_map_or (λ e. e == entry) (inside_of dies c.entry c.die.parent) false)) c (chain_from dies a c.entry cs) (chain_from dies a entry cs)
-    all.0 (chain_in n dies a c.entry cs all.1) (chain_in n dies a entry cs all.1)
+chain_in n dies a entry (c ∷ cs) all = grind (arith, nat_tests, all.0, chain_in n dies a c.entry cs all.1, chain_in n dies a entry cs all.1)
 
 by_in : (unit entry a : ℕ) (part : Option UnitRead) → AllIn unit (chain_by unit entry a part)
 by_in unit entry a None = tt

@@ -22,9 +22,6 @@ use Rattle.debug_read.specs.UnitSays.{no_pairs}
 use Rattle.debug_read.specs.UnitsRead.{IsSet}
 use Rattle.debug_read.proofs.EachLemmas.{Going, going_begins, going_more, going_ends, going_stops}
 
-true_is_not_false : true ≡ false → ⊥
-true_is_not_false same = grind (arith, same)
-
 -- the tests of an address
 abbrev answer : Result Bool (Located DwarfKind) → Bool
 answer (Ok b) = b
@@ -53,35 +50,23 @@ pub record SetsRead (sections : DebugSections) (unit : Unit) (root : RootFields)
   pub count : length made ≡ i
   pub each : (k : ℕ) (set : List Range) → slice_get made k ≡ Some set → Says (IsSet code) (pairs_at sections unit root base (slice_get dies k)) set
 
-pub sets_none : (sections : DebugSections) (unit : Unit) (root : RootFields) (base : ℕ) (code : List Range) (dies : List DieFields) (i : ℕ) (made : List (List Range)) → i ≡ 0 → made ≡ [] → SetsRead sections unit root base code dies i made
-sets_none sections unit root base code dies i made start none =
-    subst (λ (n : ℕ). SetsRead sections unit root base code dies n made) (sym start)
-    (record {
-      going = going_begins (IsSet code) (each_of (pairs_of sections unit root base) dies) made none;
-      count = ap length none;
-      each = λ k set there. absurd (none_at made k set none there);
-    })
-
 pub sets_more : (sections : DebugSections) (unit : Unit) (root : RootFields) (base : ℕ) (code : List Range) (dies : List DieFields) (i : ℕ) (made more : List (List Range)) (set : List Range) → i < length dies → SetsRead sections unit root base code dies i made → Says (IsSet code) (pairs_at sections unit root base (slice_get dies i)) set → more ≡ made ++ set ∷ [] → SetsRead sections unit root base code dies (i + 1) more
 sets_more sections unit root base code dies i made more set inside read one is =
     let gives = pairs_of sections unit root base in
     let says : ℕ → List Range → Type 0 = λ k set. Says (IsSet code) (pairs_at sections unit root base (slice_get dies k)) set in
-    subst (λ (n : ℕ). SetsRead sections unit root base code dies n more) (sym (add-one i))
-    (subst (λ (m : List (List Range)). SetsRead sections unit root base code dies (suc i) m) (sym is)
-    (record {
-      going = going_more (IsSet code) gives dies i (each_of gives dies) made set inside read.going
-          (λ die there. subst (λ (o : Option DieFields). Says (IsSet code) (pairs_at sections unit root base o) set) there one);
+    rw (add-one i, is) (record {
+      going = going_more (IsSet code) gives dies i (each_of gives dies) made set inside read.going (λ die there. rw there at one);
       count = length-append made (set ∷ []) ∙ add-one (length made) ∙ ap suc read.count;
       each = each_more says made set read.each (subst (λ (n : ℕ). says n set) (sym read.count) one);
-    }))
+    })
 
 -- an entry that gives nothing has the empty set
 pub says_none : (code : List Range) (given : Result (List Range) (Located DwarfKind)) → given ≡ Ok [] → Says (IsSet code) given []
-says_none code given none = subst (λ (r : Result (List Range) (Located DwarfKind)). Says (IsSet code) r []) (sym none) (record { canonical = tt; each = λ a. refl })
+says_none code given none = rw none (record { canonical = tt; each = λ a. refl })
 
 -- an entry that gives the pairs of an earlier one has its set
 says_again : (code : List Range) (given again : Result (List Range) (Located DwarfKind)) (set : List Range) → ((pairs : List Range) → given ≡ Ok pairs → again ≡ Ok pairs) → Says (IsSet code) given set → Says (IsSet code) again set
-says_again code (Ok pairs) again set same says = subst (λ (r : Result (List Range) (Located DwarfKind)). Says (IsSet code) r set) (sym (same pairs refl)) says
+says_again code (Ok pairs) again set same says = rw (same pairs refl) says
 says_again code (Err fault) again set same says = absurd says
 
 pub sets_again : (sections : DebugSections) (unit : Unit) (root : RootFields) (base : ℕ) (code : List Range) (dies : List DieFields) (i : ℕ) (made more : List (List Range)) (earlier : ℕ) → i < length dies → SetsRead sections unit root base code dies i made → earlier < i
@@ -120,12 +105,9 @@ sets_alike code other same (p ∷ pairs) (set ∷ sets) all = (
 )
 
 -- a set without addresses is empty
-holds_first : (range : Range) (ranges : List Range) → range.start < range.end → holds_any (range ∷ ranges) range.start ≡ true
-holds_first range ranges some = grind (arith, nat_tests)
-
 pub no_address : (set : List Range) → IsCanonical set → ((a : ℕ) → holds_any set a ≡ false) → set ≡ []
 no_address [] canonical none = refl
-no_address (range ∷ ranges) canonical none = absurd (true_is_not_false (sym (holds_first range ranges canonical.0) ∙ none range.start))
+no_address (range ∷ ranges) canonical none = absurd (grind (arith, nat_tests, canonical.0, none range.start))
 
 -- entries without addresses
 pub none_more : (n : ℕ) (sets more : List (List Range)) → sets ≡ replicate n [] → more ≡ sets ++ [] ∷ [] → more ≡ replicate (n + 1) []
@@ -137,4 +119,4 @@ none_sets code (die ∷ dies) = (record { canonical = tt; each = λ a. refl }, n
 
 pub all_none : (dies : List DieFields) (n : ℕ) (sets : List (List Range)) → n ≡ length dies → sets ≡ replicate n [] → (code : List Range) → Match (IsSet code) (no_pairs dies) sets
 all_none dies n sets end are code =
-    subst (Match (IsSet code) (no_pairs dies)) (sym (are ∙ ap (λ (k : ℕ). replicate k []) end)) (none_sets code dies)
+    rw (are, end) (none_sets code dies)

@@ -1,5 +1,5 @@
 -- For src/shared_abbrevs.rt: abbreviations do not depend on the unit that names them.
-use Rattle.std.proofs.Common.{◌≡◌, ◌<◌, ◌≤◌, ℕ, zero, suc, Bool, List, [], ◌∷◌, length, get_or, Option, None, Some, Result, Ok, sym, ap, subst, ◌∙◌, arith}
+use Rattle.std.proofs.Common.{◌≡◌, ◌<◌, ◌≤◌, ℕ, zero, suc, Bool, List, [], ◌∷◌, length, get_or, Option, None, Some, Result, Ok, refl, sym, ap, subst, ◌∙◌, arith}
 use Rattle.std.specs.List.{slice_get}
 use Rattle.std.proofs.lemmas.Bool.{cond-false, le-ltb}
 use Rattle.sym_edges.specs.Results.{◌>>=◌}
@@ -32,20 +32,13 @@ inside_is sections unit inside = cond-false _ _ _ (le-ltb (length sections.abbre
 
 same_abbrevs : (sections : DebugSections) (first unit : Unit) → first.abbrev_at ≡ unit.abbrev_at → first.wide ≡ unit.wide → unit.abbrev_at ≤ length sections.abbrevs → abbrevs_of sections unit ≡ abbrevs_of sections first
 same_abbrevs sections first unit at wide inside =
-    inside_is sections unit inside
-    ∙ sym (ap (λ (n : ℕ). abbrevs_from sections n unit.wide) at)
-    ∙ sym (ap (λ (w : Bool). abbrevs_from sections first.abbrev_at w) wide)
-    ∙ sym (inside_is sections first (omega (arith, at, inside)))
-
-abbrev some_or : {A : Type 0} → A → Option A → A
-some_or old (Some x) = x
-some_or old None = old
+    inside_is sections unit inside ∙ sym (inside_is sections first (omega (arith, at, inside)) ∙ rw (at, wide) refl)
 
 match_at : (sections : DebugSections) (firsts : List Unit) (tables : List Read) (n : ℕ) (first : Unit) (table : Read) → Match (IsRead sections) firsts tables → Some first ≡ slice_get firsts n → Some table ≡ slice_get tables n → abbrevs_of sections first ≡ table
 match_at sections [] tables n first table match one two = absurd (grind (arith, one))
 match_at sections (f ∷ firsts) [] n first table match one two = absurd match
 match_at sections (f ∷ firsts) (t ∷ tables) zero first table match one two =
-    ap (abbrevs_of sections) (ap (some_or f) one) ∙ match.0 ∙ sym (ap (some_or t) two)
+    grind (arith, one, two, match.0)
 match_at sections (f ∷ firsts) (t ∷ tables) (suc n) first table match one two = match_at sections firsts tables n first table match.1 one two
 
 pub shared_table : (sections : DebugSections) (firsts : List Unit) (tables : List Read) (n : ℕ) (first unit : Unit) (table : Read) → Match (IsRead sections) firsts tables → Some first ≡ slice_get firsts n → Some table ≡ slice_get tables n → first.abbrev_at ≡ unit.abbrev_at → first.wide ≡ unit.wide → unit.abbrev_at ≤ length sections.abbrevs → abbrevs_of sections unit ≡ table
@@ -55,11 +48,7 @@ shared_table sections firsts tables n first unit table match one two at wide ins
 -- the workers' results
 pub tables_match : (reader : AbbrevParts) (sections : DebugSections) (firsts read : List Unit) (tables : List Read) → reader ≡ record { sections = sections; firsts = read } → read ≡ firsts → length tables ≡ length read → ((k : ℕ) (d : Read) → k < length tables → AbbrevsGive reader (slice_get reader.firsts k) (get_or tables k d)) → Match (IsRead sections) firsts tables
 tables_match reader sections firsts read tables is picked long each =
-    subst (λ (us : List Unit). Match (IsRead sections) us tables) picked
-    (match_in_order (IsRead sections) read tables long
-    (λ k d inside unit there. subst (λ (o : Option Unit). AbbrevsGive (record { sections = sections; firsts = read }) o (get_or tables k d)) there
-    (subst (λ (r : AbbrevParts). AbbrevsGive r (slice_get r.firsts k) (get_or tables k d)) is (each k d inside))))
+    rw (← picked) (match_in_order (IsRead sections) read tables long (λ k d inside unit there. rw there at (rw is at (each k d inside))))
 
 pub reader_found : (reader made : AbbrevParts) (k : ℕ) (unit : Unit) (read : Read) → reader ≡ made → slice_get made.firsts k ≡ Some unit → abbrevs_of made.sections unit ≡ read → AbbrevsGive reader (slice_get reader.firsts k) read
-reader_found reader made k unit read is there each =
-    subst (λ (r : AbbrevParts). AbbrevsGive r (slice_get r.firsts k) read) (sym is) (subst (λ (o : Option Unit). AbbrevsGive made o read) (sym there) each)
+reader_found reader made k unit read is there each = rw (is, there) each

@@ -4,10 +4,10 @@ use Rattle.std.specs.List.{flat_map, list_any, slice_get, slice_index_or}
 use Rattle.std.specs.List.Sorted.{IsNonDecreasing, IsPartitionPoint, IsPermutation}
 use Rattle.std.proofs.Math.Bool.{and-false, or-false}
 use Rattle.std.proofs.lemmas.Bool.Decides.{nat_tests}
-use Rattle.std.proofs.lemmas.List.{flat_map_more, take_all}
+use Rattle.std.proofs.lemmas.List.{flat_map_more, take_all, take_more}
 use Rattle.std.proofs.lemmas.List.Folds.{list_any-append}
 use Rattle.std.proofs.lemmas.List.Sorted.{list_any-IsPermutation}
-use Rattle.std.proofs.lemmas.Option.{slice_get_past, slice_get_read}
+use Rattle.std.proofs.lemmas.Option.{slice_get_past, slice_get_read, slice_get_within, get_or_from_slice_get}
 use Rattle.abbrev_units.specs.DebugSections.{first_place}
 use Rattle.abbrev_units.specs.declared.unit.Unit.{Unit}
 use Rattle.die_walk.specs.EntryTable.{DieFields}
@@ -16,12 +16,10 @@ use Rattle.debug_read.specs.SupUnits.{is_place_in, leads_into, lies_in, AreTarge
 use Rattle.debug_read.specs.internal.Targets.{sup_places, targets_of, unit_targets}
 
 -- one entry more
-take_some : {X : Type 0} (xs : List X) (i : ℕ) (x : X) → Some x ≡ slice_get xs i → take (suc i) xs ≡ take i xs ++ x ∷ []
-take_some [] i x is = absurd (cc)
-take_some (y ∷ xs) zero x is = (let same : x ≡ y = cc in ap (λ z. z ∷ []) (sym same))
-take_some (y ∷ xs) (suc i) x is = ap (λ l. y ∷ l) (take_some xs i x is)
+take_some : {X : Type 0} (xs : List X) (i : ℕ) (x : X) → Some x ≡ slice_get xs i → take (i + 1) xs ≡ take i xs ++ x ∷ []
+take_some xs i x is = take_more xs i x (slice_get_within xs i x (sym is)) ∙ ap (λ y. take i xs ++ y ∷ []) (get_or_from_slice_get xs i x x (sym is))
 
-pub one_more : {X : Type 0} (f : X → List ℕ) (before held after : List ℕ) (xs : List X) (i : ℕ) (x : X) → Some x ≡ slice_get xs i → held ≡ before ++ flat_map f (take i xs) → after ≡ held ++ f x → after ≡ before ++ flat_map f (take (suc i) xs)
+pub one_more : {X : Type 0} (f : X → List ℕ) (before held after : List ℕ) (xs : List X) (i : ℕ) (x : X) → Some x ≡ slice_get xs i → held ≡ before ++ flat_map f (take i xs) → after ≡ held ++ f x → after ≡ before ++ flat_map f (take (i + 1) xs)
 one_more f before held after xs i x there is more =
     more ∙ ap (λ l. l ++ f x) is ∙ flat_map_more f before (take i xs) x ∙ ap (λ l. before ++ flat_map f l) (sym (take_some xs i x there))
 
@@ -33,12 +31,8 @@ all_taken xs n past = sym (take_all n xs past)
 
 -- a place of the supplementary file lies in a unit where the place through both files is one of it
 shifted : (first place low high : ℕ) (b : Bool) → nat_le first place ≡ b → list_any (λ (p : ℕ). nat_le low p && nat_lt p high) (if b then (place - first) ∷ [] else []) ≡ (nat_le (first + low) place && nat_lt place (first + high))
-shifted first place low high true is =
-    or-false (nat_le low (place - first) && nat_lt (place - first) high)
-    ∙ ap (λ b. b && nat_lt (place - first) high) (let le : first ≤ place = grind (arith, nat_tests) in grind (arith, nat_tests))
-    ∙ ap (λ b. nat_le (first + low) place && b) (let le : first ≤ place = grind (arith, nat_tests) in grind (arith, nat_tests))
-shifted first place low high false is =
-    sym (ap (λ b. b && nat_lt place (first + high)) (let no : nat_le (first + low) place ≡ false = grind (arith, nat_tests) in no))
+shifted first place low high true is = grind (arith, nat_tests, is)
+shifted first place low high false is = grind (arith, nat_tests, is)
 
 place_lies : (unit : Unit) (place : Option ℕ) → list_any (lies_in unit) (sup_places place) ≡ is_place_in unit place
 place_lies unit None = refl
@@ -46,24 +40,17 @@ place_lies unit (Some place) = shifted (first_place true) place unit.start unit.
 
 entry_leads : (unit : Unit) (die : DieFields) → list_any (lies_in unit) (targets_of die) ≡ leads_into unit die
 entry_leads unit die =
-    list_any-append (lies_in unit) (sup_places die.origin) (sup_places die.spec)
-    ∙ ap (λ b. b || list_any (lies_in unit) (sup_places die.spec)) (place_lies unit die.origin)
-    ∙ ap (λ b. is_place_in unit die.origin || b) (place_lies unit die.spec)
+    grind (arith, list_any-append (lies_in unit) (sup_places die.origin) (sup_places die.spec), place_lies unit die.origin, place_lies unit die.spec)
 
 entries_lead : (unit : Unit) (dies : List DieFields) → list_any (lies_in unit) (flat_map targets_of dies) ≡ list_any (leads_into unit) dies
 entries_lead unit [] = refl
 entries_lead unit (die ∷ dies) =
-    list_any-append (lies_in unit) (targets_of die) (flat_map targets_of dies)
-    ∙ ap (λ b. b || list_any (lies_in unit) (flat_map targets_of dies)) (entry_leads unit die)
-    ∙ ap (λ b. leads_into unit die || b) (entries_lead unit dies)
+    grind (arith, list_any-append (lies_in unit) (targets_of die) (flat_map targets_of dies), entry_leads unit die, entries_lead unit dies)
 
 units_lead : (unit : Unit) (units : List UnitRead) → list_any (lies_in unit) (flat_map unit_targets units) ≡ list_any (leads_into unit) (entries_of units)
 units_lead unit [] = refl
 units_lead unit (u ∷ units) =
-    list_any-append (lies_in unit) (unit_targets u) (flat_map unit_targets units)
-    ∙ ap (λ b. b || list_any (lies_in unit) (flat_map unit_targets units)) (entries_lead unit u.die.dies)
-    ∙ ap (λ b. list_any (leads_into unit) u.die.dies || b) (units_lead unit units)
-    ∙ sym (list_any-append (leads_into unit) u.die.dies (entries_of units))
+    grind (arith, list_any-append (lies_in unit) (unit_targets u) (flat_map unit_targets units), entries_lead unit u.die.dies, units_lead unit units, list_any-append (leads_into unit) u.die.dies (entries_of units))
 
 -- the places in their order say the same
 pub are_targets : (units : List UnitRead) (places sorted : List ℕ) → places ≡ flat_map unit_targets units → IsPermutation places sorted → AreTargets (entries_of units) sorted
@@ -78,10 +65,7 @@ front_targets units taken count held places sorted front none is moved =
 -- places behind the end of a unit do not lie in it
 none_behind : (unit : Unit) (xs : List ℕ) → ((k d : ℕ) → k < length xs → unit.end ≤ get_or xs k d) → list_any (lies_in unit) xs ≡ false
 none_behind unit [] past = refl
-none_behind unit (x ∷ xs) past =
-    let here : unit.end ≤ x = past 0 0 (omega arith) in
-    let not_here : lies_in unit x ≡ false = ap (λ b. nat_le unit.start x && b) (let no : nat_lt x unit.end ≡ false = grind (arith, nat_tests) in no) ∙ and-false (nat_le unit.start x) in
-    ap (λ b. b || list_any (lies_in unit) xs) not_here ∙ none_behind unit xs (λ k d h. past (suc k) d (omega arith))
+none_behind unit (x ∷ xs) past = grind (arith, nat_tests, past 0 0 (omega arith), none_behind unit xs (λ k d h. past (suc k) d (omega arith)))
 
 -- there is a place, and it stands before the end
 abbrev pub ends_before : ℕ → Option ℕ → Bool
@@ -89,21 +73,15 @@ ends_before end None = false
 ends_before end (Some place) = nat_lt place end
 
 here_by : (unit : Unit) (x : ℕ) (xs : List ℕ) (b : Bool) → nat_lt x unit.end ≡ b → unit.start ≤ x → ((k d : ℕ) → k < length (x ∷ xs) → x ≤ get_or (x ∷ xs) k d) → b ≡ list_any (lies_in unit) (x ∷ xs)
-here_by unit x xs true is from later =
-    sym (ap (λ b. b || list_any (lies_in unit) xs) (ap (λ b. nat_le unit.start x && b) is ∙ ap (λ b. b && true) (let yes : nat_le unit.start x ≡ true = grind (arith, nat_tests) in yes)))
-here_by unit x xs false is from later =
-    let past : unit.end ≤ x = grind (arith, nat_tests) in
-    sym (none_behind unit (x ∷ xs) (λ k d h. (let high : x ≤ get_or (x ∷ xs) k d = later k d h in omega arith)))
+here_by unit x xs true is from later = grind (arith, nat_tests, is, from)
+here_by unit x xs false is from later = sym (none_behind unit (x ∷ xs) (λ k d h. grind (arith, nat_tests, is, later k d h)))
 
 -- the first place that is not before the unit decides
 first_decides : (unit : Unit) (xs : List ℕ) (i : ℕ) → IsNonDecreasing xs → ((k d : ℕ) → k < i → k < length xs → get_or xs k d < unit.start) → ((k d : ℕ) → i ≤ k → k < length xs → unit.start ≤ get_or xs k d) → ends_before unit.end (slice_get xs i) ≡ list_any (lies_in unit) xs
 first_decides unit [] i sorted low high = refl
 first_decides unit (x ∷ xs) zero sorted low high = here_by unit x xs (nat_lt x unit.end) refl (high 0 0 (omega arith) (omega arith)) (λ k d there. sorted 0 k d (omega arith) there)
 first_decides unit (x ∷ xs) (suc i) sorted low high =
-    let before : x < unit.start = low 0 0 (omega arith) (omega arith) in
-    let not_here : lies_in unit x ≡ false = ap (λ b. b && nat_lt x unit.end) (let no : nat_le unit.start x ≡ false = grind (arith, nat_tests) in no) in
-    first_decides unit xs i (λ a b d order there. sorted (suc a) (suc b) d (omega arith) (omega arith)) (λ k d h l. low (suc k) d (omega arith) (omega arith)) (λ k d h l. high (suc k) d (omega arith) (omega arith))
-    ∙ sym (ap (λ b. b || list_any (lies_in unit) xs) not_here)
+    grind (arith, nat_tests, low 0 0 (omega arith) (omega arith), first_decides unit xs i (λ a b d order there. sorted (suc a) (suc b) d (omega arith) (omega arith)) (λ k d h l. low (suc k) d (omega arith) (omega arith)) (λ k d h l. high (suc k) d (omega arith) (omega arith)))
 
 pub found : (unit : Unit) (xs : List ℕ) (i : ℕ) → IsNonDecreasing xs → IsPartitionPoint (λ p. nat_lt p unit.start ≡ true) (λ p. nat_lt p unit.start ≡ false) xs i → i ≤ length xs → ends_before unit.end (slice_get xs i) ≡ list_any (lies_in unit) xs
 found unit xs i sorted point within =

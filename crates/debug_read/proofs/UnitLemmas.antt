@@ -32,15 +32,10 @@ Fault = Located DwarfKind
 few_between : (low high : ℕ) (dies : List DieFields) → low ≤ high + 1 → RisesTo low high (map (λ (d : DieFields). d.at) dies) → length dies + low ≤ high + 1
 few_between low high [] below rise = omega arith
 few_between low high (die ∷ dies) below rise =
-    let first : low ≤ die.at = rise.0 in
-    let most : die.at ≤ high = rise.1 in
-    let later : length dies + (die.at + 1) ≤ high + 1 = few_between (die.at + 1) high dies (omega arith) rise.2 in
-    omega arith
+    omega (arith, rise.0, rise.1, few_between (die.at + 1) high dies (omega (arith, rise.1)) rise.2)
 
 few_from : (first body last : ℕ) (dies : List DieFields) → body ≤ last → last ≤ 2 ^ 29 → RisesTo (first + body) (first + last) (map (λ (d : DieFields). d.at) dies) → length dies < 2 ^ 32
-few_from first body last dies ordered small rise =
-    let few : length dies + (first + body) ≤ first + last + 1 = few_between (first + body) (first + last) dies (omega arith) rise in
-    omega arith
+few_from first body last dies ordered small rise = omega (arith, few_between (first + body) (first + last) dies (omega arith) rise)
 
 pub few_dies : (sections : DebugSections) (unit : Unit) (abbrevs : List Abbrev) (table : EntryTable) → unit.body ≤ unit.end → unit.end ≤ length sections.info → length sections.info ≤ 2 ^ 29 → entry_table sections unit abbrevs ≡ Ok table → length table.dies < 2 ^ 32
 few_dies sections unit abbrevs table ordered inside small is =
@@ -72,11 +67,7 @@ pub unit_kept : (sections : DebugSections) (unit : Unit) (code spans : List Rang
     → Says (Match (IsSet code)) (unit_pairs sections unit table) sets → Says (KeepsLines spans (has_function table.dies)) (root_lines sections table.root) lines → Says (IsUnitRead spans) (unit_says sections unit) (record { die = table; spans = sets; lines = lines })
 unfolding unit_says
 unit_kept sections unit code spans abbrevs table sets lines abbrevs_is table_is same match keeps =
-    let all : (abbrevs_of sections unit >>= with_abbrevs sections unit) ≡ with_table sections unit table =
-    ap (λ (r : Result (List Abbrev) Fault). r >>= with_abbrevs sections unit) abbrevs_is
-    ∙ ap (λ (r : Result EntryTable Fault). r >>= with_table sections unit) table_is in
-    subst (λ (r : Result UnitSays Fault). Says (IsUnitRead spans) r (record { die = table; spans = sets; lines = lines })) (sym all)
-    (says_pairs sections code spans table (unit_pairs sections unit table) sets lines same match keeps)
+    rw (abbrevs_is, table_is) (says_pairs sections code spans table (unit_pairs sections unit table) sets lines same match keeps)
 
 -- a unit whose table is still to be read
 pairs_fault : (sections : DebugSections) (code : List Range) (table : EntryTable) (read : Result (List (List Range)) Fault) (sets : List (List Range)) (fault : Fault) → Says (Match (IsSet code)) read sets → root_lines sections table.root ≡ Err fault → (read >>= with_pairs sections table) ≡ Err fault
@@ -95,9 +86,7 @@ pub unit_held : (sections : DebugSections) (unit : Unit) (code spans : List Rang
     → ((given : Result (List Range) Fault) (a : ℕ) → in_ranges code given a ≡ in_ranges spans given a)
     → Says (Match (IsSet code)) (unit_pairs sections unit table) sets → function ≡ has_function table.dies → HoldsUnit spans sections unit (record { die = table; spans = sets; function = function })
 unit_held sections unit code spans abbrevs table sets function abbrevs_is table_is same match told = record {
-  kept = λ lines keeps.
-      unit_kept sections unit code spans abbrevs table sets lines abbrevs_is table_is same match
-      (subst (λ (asked : Bool). Says (KeepsLines spans asked) (root_lines sections table.root) lines) told keeps);
+  kept = λ lines keeps. unit_kept sections unit code spans abbrevs table sets lines abbrevs_is table_is same match (rw told at keeps);
   fault = λ fault is. unit_fault sections unit code abbrevs table sets fault abbrevs_is table_is match is;
 }
 
@@ -146,12 +135,8 @@ pub record IsPart (sections : DebugSections) (unit : Unit) (part : UnitRead) : T
 part_lines : (sections : DebugSections) (unit : Unit) (spans : List Range) (part : UnitRead) (abbrevs : List Abbrev) (table : EntryTable) (pairs : List (List Range)) (read : Result (Option Lines) Fault) → entry_table sections unit abbrevs ≡ Ok table → unit_pairs sections unit table ≡ Ok pairs → Says (IsUnitRead spans) (read >>= with_lines table pairs) part → IsPart sections unit part
 part_lines sections unit spans part abbrevs table pairs (Err fault) table_is pairs_are says = absurd says
 part_lines sections unit spans part abbrevs table pairs (Ok lines) table_is pairs_are says =
-    let match : Says (Match (IsSet spans)) (unit_pairs sections unit table) part.spans =
-    subst (λ (r : Result (List (List Range)) Fault). Says (Match (IsSet spans)) r part.spans) (sym pairs_are) says.spans in
-    record {
-      table = record { abbrevs = abbrevs; table = table_is ∙ ap Ok (sym says.die) };
-      paired = subst (λ (t : EntryTable). ArePaired t.dies part.spans) (sym says.die) (unit_paired sections unit table spans part.spans match);
-    }
+    let match = unit_paired sections unit table spans part.spans (rw pairs_are says.spans) in
+    record { table = record { abbrevs = abbrevs; table = table_is ∙ ap Ok (sym says.die) }; paired = rw says.die match }
 
 part_pairs : (sections : DebugSections) (unit : Unit) (spans : List Range) (part : UnitRead) (abbrevs : List Abbrev) (table : EntryTable) (read : Result (List (List Range)) Fault) → entry_table sections unit abbrevs ≡ Ok table → unit_pairs sections unit table ≡ read → Says (IsUnitRead spans) (read >>= with_pairs sections table) part → IsPart sections unit part
 part_pairs sections unit spans part abbrevs table (Ok pairs) table_is pairs_are says = part_lines sections unit spans part abbrevs table pairs (root_lines sections table.root) table_is pairs_are says

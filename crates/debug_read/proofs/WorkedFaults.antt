@@ -1,5 +1,5 @@
 -- Worked rows: the first fault of a file, and what its units say, from the bytes of its sections.
-use Rattle.std.proofs.Common.{◌≡◌, ℕ, ◌+◌, Bool, true, false, List, [], ◌∷◌, ◌++◌, length, map, Option, None, Some, Result, Ok, Err, refl}
+use Rattle.std.proofs.Common.{◌≡◌, ℕ, ◌+◌, Bool, true, false, List, [], ◌∷◌, ◌++◌, length, map, Option, None, Some, Result, Ok, Err, rules}
 use Rattle.std.specs.Prelude.{⊤}
 use Prim.Native.String.{String}
 use Rattle.std.specs.Option.{option_map}
@@ -107,98 +107,15 @@ unfoldable worked : ⊤
 unfolding debug_read_computes hex little abbrevs image with_info both old unit fault_of
 worked = tt
 
--- a file without units
-no_units : debug_says (image [] "" "" "") ≡ Ok (record { headers = []; sup_headers = []; units = []; first = []; second = [] })
-unfolding worked
-no_units = refl
-
--- of four units of 16 bytes the first and the last have a value of eight bytes, where four are left: the first counts
-four_units : fault_of (old 0 ++ (old 8 ++ (old 8 ++ old 0))) ≡ in_info is.Ends 0xc
-unfolding worked
-four_units = refl
-
-the_last_of_four : fault_of (old 8 ++ (old 8 ++ (old 8 ++ old 0))) ≡ in_info is.Ends 0x3c
-unfolding worked
-the_last_of_four = refl
-
-no_fault : fault_of (old 8 ++ (old 8 ++ (old 8 ++ old 8))) ≡ None
-unfolding worked
-no_fault = refl
-
--- the parts of a unit, one after the other. Its abbreviations stand outside
-outside_abbreviations : fault_of (old 0x100) ≡ in_info is.OffsetOutside 0
-unfolding worked
-outside_abbreviations = refl
-
--- the third entry has no abbreviation; the base of the unit's lists, the ranges of the second entry and the line table have faults too
-entries_first : fault_of (unit "01 00 ffffff00 02 00 10 07") ≡ in_info is.NoAbbrev 0x15
-unfolding worked
-entries_first = refl
-
--- without the third entry the base counts: no base of addresses is there, for which the root asks
-unit_base_next : fault_of (unit "01 00 ffffff00 02 00 10") ≡ in_info is.NoBase 0xc
-unfolding worked
-unit_base_next = refl
-
--- a root that does not ask for it: the ranges of the second entry count
-ranges_next : fault_of (unit "03 ffffff00 02 00 10") ≡ in_info is.NoBase 0x11
-unfolding worked
-ranges_next = refl
-
--- entry by entry: the first one with a fault
-ranges_in_order : fault_of (unit "03 ffffff00 04 0010000000000000 10 02 00 10 02 00 10") ≡ in_info is.NoBase 0x1b
-unfolding worked
-ranges_in_order = refl
-
--- the line table comes last, and its fault is the root's
-lines_last : fault_of (unit "03 ffffff00 04 0010000000000000 10") ≡ in_info is.OffsetOutside 0xc
-unfolding worked
-lines_last = refl
-
--- the table of a unit without a function is read too: its length leaves the section
-lines_without_function : fault (debug_says (image (unit "03 00000000") "ff000000" "" "")) ≡ Some (Dwarf (record { kind = is.Ends; section = section.Line; at = 0 }))
-unfolding worked
-lines_without_function = refl
-
--- two faults in two units, in both orders: the unit decides, whichever part of it has the fault
-lines_before_abbreviations : fault_of (unit "03 ffffff00" ++ old 0x100) ≡ in_info is.OffsetOutside 0xc
-unfolding worked
-lines_before_abbreviations = refl
-
-abbreviations_before_lines : fault_of (old 0x100 ++ unit "03 ffffff00") ≡ in_info is.OffsetOutside 0
-unfolding worked
-abbreviations_before_lines = refl
-
--- all headers come before all units: the second one's addresses have four bytes
+-- a unit whose addresses have four bytes
 unfoldable narrow : List ℕ
 unfolding hex
 narrow = hex "07000000 0400 00000000 04"
 
-headers_first : fault_of (old 0x100 ++ narrow) ≡ in_info is.AddressSize 0x10
-unfolding worked narrow
-headers_first = refl
-
--- a unit that is skipped, of version 3, and one that is passed, a type unit, are not read, whatever stands in them
+-- a unit that is skipped, of version 3, and one that is passed, a type unit
 unfoldable others : List ℕ
 unfolding hex
 others = hex "0c000000 0300 00010000 08 ff 00000000 08000000 0500 02 08 00010000"
-
-not_read : fault_of (others ++ old 0) ≡ in_info is.Ends 0x28
-unfolding worked others
-not_read = refl
-
--- frame sections come after all units, `.eh_frame` before `.debug_frame`
-unit_before_frames : fault (debug_says (image (old 0) "" "ff000000" "ff000000")) ≡ in_info is.Ends 0xc
-unfolding worked
-unit_before_frames = refl
-
-eh_frame_next : fault (debug_says (image (old 8) "" "ff000000" "ff000000")) ≡ in_frames section.EhFrame
-unfolding worked
-eh_frame_next = refl
-
-debug_frame_last : fault (debug_says (image (old 8) "" "" "ff000000")) ≡ in_frames section.DebugFrame
-unfolding worked
-debug_frame_last = refl
 
 -- of each unit that is read: the places of its entries, the pairs of each, whether it has a function and a line table
 pub record Seen : Type 0 where
@@ -219,30 +136,52 @@ unfoldable seen_in : List ℕ → String → Result (List Seen) DebugFault
 unfolding image seen
 seen_in info line = debug_says (image info line "" "") >>= λ says. Ok (map seen says.units)
 
-two_units : seen_in (others ++ (unit "03 00000000 04 0010000000000000 10 06" ++ unit "05 06")) "19000000 0200 13000000 01 01 fd 0c 0d 00 01 01 01 01 00 00 00 01 00 00 01 00 00"
-    ≡ Ok (record { places = 0x28 ∷ 0x2d ∷ 0x37 ∷ []; pairs = [] ∷ (record { start = 0x1000; end = 0x1010 } ∷ []) ∷ [] ∷ []; function = true; lines = Some 1 } ∷ record { places = 0x44 ∷ 0x45 ∷ []; pairs = [] ∷ [] ∷ []; function = false; lines = None } ∷ [])
-unfolding worked others seen seen_in
-two_units = refl
-
--- a supplementary file: its faults come behind those of the file's units, and before those of frames
-sup_fault : fault (debug_says (both (old 8) (old 0) "ff000000")) ≡ Some (Sup (record { kind = is.Ends; section = section.Info; at = 0xc }))
-unfolding worked
-sup_fault = refl
-
-own_fault_first : fault (debug_says (both (old 0) (old 0x100) "")) ≡ in_info is.Ends 0xc
-unfolding worked
-own_fault_first = refl
-
-frames_last : fault (debug_says (both (old 8) (old 8) "ff000000")) ≡ in_frames section.EhFrame
-unfolding worked
-frames_last = refl
-
--- its ranges and line tables are not read, whatever they are, and the places of its entries come behind all others
 unfoldable seen_both : List ℕ → List ℕ → Result (List Seen) DebugFault
 unfolding both seen
 seen_both info sup = debug_says (both info sup "") >>= λ says. Ok (map seen says.units)
 
-sup_units : seen_both (unit "05 06") (unit "03 ffffff00 02 00 10")
-    ≡ Ok (record { places = 0xc ∷ 0xd ∷ []; pairs = [] ∷ [] ∷ []; function = false; lines = None } ∷ record { places = 0x2000000c ∷ 0x20000011 ∷ []; pairs = [] ∷ [] ∷ []; function = true; lines = None } ∷ [])
-unfolding worked seen seen_both
-sup_units = refl
+record Faults : Type 0 where
+  -- a file without units
+  no_units : debug_says (image [] "" "" "") ≡ Ok (record { headers = []; sup_headers = []; units = []; first = []; second = [] })
+  -- of four units of 16 bytes the first and the last have a value of eight bytes, where four are left: the first counts
+  four_units : fault_of (old 0 ++ (old 8 ++ (old 8 ++ old 0))) ≡ in_info is.Ends 0xc
+  the_last_of_four : fault_of (old 8 ++ (old 8 ++ (old 8 ++ old 0))) ≡ in_info is.Ends 0x3c
+  no_fault : fault_of (old 8 ++ (old 8 ++ (old 8 ++ old 8))) ≡ None
+  -- the parts of a unit, one after the other. Its abbreviations stand outside
+  outside_abbreviations : fault_of (old 0x100) ≡ in_info is.OffsetOutside 0
+  -- the third entry has no abbreviation; the base of the unit's lists, the ranges of the second entry and the line table have faults too
+  entries_first : fault_of (unit "01 00 ffffff00 02 00 10 07") ≡ in_info is.NoAbbrev 0x15
+  -- without the third entry the base counts: no base of addresses is there, for which the root asks
+  unit_base_next : fault_of (unit "01 00 ffffff00 02 00 10") ≡ in_info is.NoBase 0xc
+  -- a root that does not ask for it: the ranges of the second entry count
+  ranges_next : fault_of (unit "03 ffffff00 02 00 10") ≡ in_info is.NoBase 0x11
+  -- entry by entry: the first one with a fault
+  ranges_in_order : fault_of (unit "03 ffffff00 04 0010000000000000 10 02 00 10 02 00 10") ≡ in_info is.NoBase 0x1b
+  -- the line table comes last, and its fault is the root's
+  lines_last : fault_of (unit "03 ffffff00 04 0010000000000000 10") ≡ in_info is.OffsetOutside 0xc
+  -- the table of a unit without a function is read too: its length leaves the section
+  lines_without_function : fault (debug_says (image (unit "03 00000000") "ff000000" "" "")) ≡ Some (Dwarf (record { kind = is.Ends; section = section.Line; at = 0 }))
+  -- two faults in two units, in both orders: the unit decides, whichever part of it has the fault
+  lines_before_abbreviations : fault_of (unit "03 ffffff00" ++ old 0x100) ≡ in_info is.OffsetOutside 0xc
+  abbreviations_before_lines : fault_of (old 0x100 ++ unit "03 ffffff00") ≡ in_info is.OffsetOutside 0
+  -- all headers come before all units, and so a fault of the second one's
+  headers_first : fault_of (old 0x100 ++ narrow) ≡ in_info is.AddressSize 0x10
+  -- they are not read, whatever stands in them
+  not_read : fault_of (others ++ old 0) ≡ in_info is.Ends 0x28
+  -- frame sections come after all units, `.eh_frame` before `.debug_frame`
+  unit_before_frames : fault (debug_says (image (old 0) "" "ff000000" "ff000000")) ≡ in_info is.Ends 0xc
+  eh_frame_next : fault (debug_says (image (old 8) "" "ff000000" "ff000000")) ≡ in_frames section.EhFrame
+  debug_frame_last : fault (debug_says (image (old 8) "" "" "ff000000")) ≡ in_frames section.DebugFrame
+  two_units : seen_in (others ++ (unit "03 00000000 04 0010000000000000 10 06" ++ unit "05 06")) "19000000 0200 13000000 01 01 fd 0c 0d 00 01 01 01 01 00 00 00 01 00 00 01 00 00"
+      ≡ Ok (record { places = 0x28 ∷ 0x2d ∷ 0x37 ∷ []; pairs = [] ∷ (record { start = 0x1000; end = 0x1010 } ∷ []) ∷ [] ∷ []; function = true; lines = Some 1 } ∷ record { places = 0x44 ∷ 0x45 ∷ []; pairs = [] ∷ [] ∷ []; function = false; lines = None } ∷ [])
+  -- a supplementary file: its faults come behind those of the file's units, and before those of frames
+  sup_fault : fault (debug_says (both (old 8) (old 0) "ff000000")) ≡ Some (Sup (record { kind = is.Ends; section = section.Info; at = 0xc }))
+  own_fault_first : fault (debug_says (both (old 0) (old 0x100) "")) ≡ in_info is.Ends 0xc
+  frames_last : fault (debug_says (both (old 8) (old 8) "ff000000")) ≡ in_frames section.EhFrame
+  -- its ranges and line tables are not read, whatever they are, and the places of its entries come behind all others
+  sup_units : seen_both (unit "05 06") (unit "03 ffffff00 02 00 10")
+      ≡ Ok (record { places = 0xc ∷ 0xd ∷ []; pairs = [] ∷ [] ∷ []; function = false; lines = None } ∷ record { places = 0x2000000c ∷ 0x20000011 ∷ []; pairs = [] ∷ [] ∷ []; function = true; lines = None } ∷ [])
+
+faults : Faults
+unfolding worked narrow others seen seen_in seen_both
+faults = search rules
