@@ -1,8 +1,7 @@
--- Tests of bytes and lists, for the lemmas on cleaning.
+-- Lemmas on tests of bytes and lists, for the lemmas on cleaning.
 use Rattle.std.proofs.Common.{◌≡◌, ℕ, ◌&&◌, cond, Bool, true, false, not, List, ◌∷◌, length, nat_lt, refl, arith}
 use Rattle.std.proofs.lemmas.Bool.Decides.{nat_tests}
 
--- both tests are true
 pub and_true : {a b : Bool} → (a && b) ≡ true → (a ≡ true) × (b ≡ true)
 and_true {a = true} is = (refl, is)
 and_true {a = false} is = cc

@@ -1,4 +1,4 @@
--- Names that cleaning leaves as they are (for is_clean, and for the texts of func_records).
+-- Names that cleaning does not change (for `is_clean`, and for the texts of `func_records`).
 use Rattle.std.proofs.Common.{◌≡◌, ◌≢◌, ℕ, zero, suc, ◌<◌, ◌≤◌, ◌==◌, Bool, true, false, nat_lt, nat_eq, ◌||◌, cond, min, get_or, List, [], ◌∷◌, map, take, length, codes, refl, sym, ap, subst, ◌∙◌, arith}
 use Rattle.std.specs.List.{list_all}
 use Rattle.std.specs.Str.{bytes_eq}
@@ -12,7 +12,7 @@ use Rattle.clean_names.proofs.SkipLemmas.{skip_here, Begins, begins_skip}
 use Rattle.clean_names.proofs.BoolLemmas.{both}
 use Rattle.clean_names.proofs.CleaningLemmas.{begins_take, cleaned_some, cleaned_short, all_same}
 
--- a byte that is shown is shown as it is
+-- `shown_byte` does not change its own result.
 shown_by : (b : ℕ) (control : Bool) → (nat_lt b 32 || nat_eq b 127) ≡ control → shown_byte (cond control 63 b) ≡ cond control 63 b
 shown_by b true is = refl
 shown_by b false is = ap (λ c. cond c 63 b) is
@@ -51,7 +51,7 @@ unfolding skip
 nothing_skipped [] begins = refl
 nothing_skipped (b ∷ bytes) begins = ap (λ space. cond space (skip is_space bytes) (b ∷ bytes)) begins
 
--- cleaned bytes
+-- Bytes of a clean name are the same after each step of cleaning.
 front_fixed : (limit : ℕ) (bytes : List ℕ) → AreShown bytes → Begins bytes → length bytes ≤ limit → take limit (skip is_space (map shown_byte bytes)) ≡ bytes
 front_fixed limit bytes shown begins short =
     ap (λ xs. take limit (skip is_space xs)) (shown_fixed bytes shown)
@@ -79,7 +79,7 @@ pub cleaned_again : (bytes : List ℕ) → cleaned (cleaned bytes) ≡ cleaned b
 unfolding cleaned
 cleaned_again bytes = upto_again 65536 bytes (omega arith)
 
--- bytes that need no cleaning
+-- The name is clean if the tests of `is_clean` succeed.
 clean_upto : (limit : ℕ) (bytes : List ℕ) → length bytes ≢ 0 → length bytes ≤ limit → get_or bytes 0 0 ≢ 32 → list_all (λ b. shown_byte b == b) bytes ≡ true → cleaned_upto limit bytes ≡ bytes
 clean_upto limit [] some short first all = absurd (some refl)
 clean_upto limit (b ∷ bytes) some short first all =
@@ -90,7 +90,7 @@ pub clean_already : (bytes : List ℕ) → length bytes ≢ 0 → length bytes �
 unfolding cleaned
 clean_already bytes some short first all = clean_upto 65536 bytes some short first all
 
--- and bytes that cleaning changes: the test is true exactly where both are the same
+-- If a test of `is_clean` fails, cleaning changes the bytes.
 same_test : {P : Type 0} (t b : Bool) → Decides t P → (b ≡ true → P) → (P → b ≡ true) → b ≡ t
 same_test true b is there back = back (is.0 refl)
 same_test false true is there back = sym (is.1 (there refl))

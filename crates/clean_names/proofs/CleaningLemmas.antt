@@ -1,4 +1,5 @@
--- The cleaning of a name (unspaced, shown, add_shown, add_cleaned, clean).
+-- The steps of cleaning a name, and what `unspaced`, `shown`, `add_shown`, `add_cleaned` and
+-- `clean` do.
 use Rattle.std.proofs.Common.{◌≡◌, ◌≢◌, ℕ, ◌+◌, ◌-◌, ◌<◌, ◌≤◌, ◌==◌, cond, Bool, true, false, not, List, [], ◌∷◌, ◌++◌, length, map, take, drop, set, get_or, min, codes, refl, sym, ◌∙◌, ap, arith, zero, suc, nat_le, length-take}
 use Rattle.std.specs.List.{list_all}
 use Rattle.std.proofs.lemmas.Grind.{common_steps, get_or_default_zero}
@@ -21,7 +22,6 @@ read xs i within = sym (get_or_default_zero xs i (get_or xs i 0) within)
 step_by : (f : ℕ → ℕ) (name bytes : List ℕ) (i y : ℕ) → i < length bytes → name ≡ map f (take i bytes) ++ drop i bytes → y ≡ f (get_or name i 0) → set name i y ≡ map f (take (i + 1) bytes) ++ drop (i + 1) bytes
 step_by f name bytes i y within is at = ap (set name i) at ∙ map_over_more f bytes name i (get_or name i 0) within is (read name i (longer f name bytes i within is))
 
--- one more byte is shown
 pub shown_step : (name bytes : List ℕ) (i y : ℕ) → i < length bytes → name ≡ map shown_byte (take i bytes) ++ drop i bytes → y ≡ shown_byte (get_or name i 0) → set name i y ≡ map shown_byte (take (i + 1) bytes) ++ drop (i + 1) bytes
 shown_step name bytes i y within is at = step_by shown_byte name bytes i y within is at
 
@@ -32,7 +32,7 @@ shown_cond : (t : Bool) (b : ℕ) (bytes : List ℕ) → skip is_space (map show
 shown_cond true b bytes is = is
 shown_cond false b bytes is = refl
 
--- spaces go before or after the bytes are shown
+-- Dropping leading spaces and replacing control bytes may change places.
 pub skip_shown : (bytes : List ℕ) → skip is_space (map shown_byte bytes) ≡ map shown_byte (skip is_space bytes)
 unfolding skip
 skip_shown [] = refl
@@ -53,15 +53,14 @@ omitted_some : (xs : List ℕ) → length xs ≢ 0 → or_omitted (map shown_byt
 omitted_some [] some = absurd (some refl)
 omitted_some (x ∷ xs) some = refl
 
--- a name of which nothing is left
+-- The cleaned name if nothing is left after the spaces.
 pub cleaned_none : (limit : ℕ) (bytes front : List ℕ) → front ≡ take (min limit (length (skip is_space bytes))) (skip is_space bytes) → length front ≡ 0 → cleaned_upto limit bytes ≡ codes "<name omitted>"
 cleaned_none limit bytes front is none = whole limit bytes front is ∙ omitted_none front none
 
--- a name of which something is left
+-- The cleaned name if something is left after the spaces.
 pub cleaned_some : (limit : ℕ) (bytes front : List ℕ) → front ≡ take (min limit (length (skip is_space bytes))) (skip is_space bytes) → length front ≢ 0 → cleaned_upto limit bytes ≡ map shown_byte front
 cleaned_some limit bytes front is some = whole limit bytes front is ∙ omitted_some front some
 
--- a byte that may stand in a cleaned name
 abbrev pub is_shown : ℕ → Bool
 is_shown b = nat_le 32 b
 
@@ -103,13 +102,13 @@ within_line (x ∷ xs) all = both (shown_within x (and_true all).0) (within_line
 last_shown : (xs : List ℕ) (i : ℕ) → i < length xs → list_all is_shown xs ≡ true → (get_or xs i 0 == 13) ≡ false
 last_shown xs i within all = shown_no_cr (get_or xs i 0) (all_at xs i within all)
 
--- shown bytes without a space in front are a name
+-- Shown bytes without a space in front are a name; no bytes become `<name omitted>`.
 pub named : (xs : List ℕ) → list_all is_shown xs ≡ true → Begins xs → is_name (or_omitted xs) ≡ true
 unfolding is_name
 named [] all begins = refl
 named (x ∷ xs) all begins = both (both (both (some_bytes x xs) (not_false begins)) (not_false (last_shown (x ∷ xs) (length (x ∷ xs) - 1) (omega arith) all))) (within_line (x ∷ xs) all)
 
--- a cleaned name is a name
+-- A cleaned name is a name.
 pub cleaned_named : (limit : ℕ) (bytes : List ℕ) → is_name (cleaned_upto limit bytes) ≡ true
 unfolding cleaned_upto
 cleaned_named limit bytes =
@@ -121,12 +120,12 @@ omitted_short : (xs : List ℕ) (limit : ℕ) → 14 ≤ limit → length xs ≤
 omitted_short [] limit room short = room
 omitted_short (x ∷ xs) limit room short = short
 
--- and has at most as many bytes as it is cut after
+-- A cleaned name has at most `limit` bytes.
 pub cleaned_short : (limit : ℕ) (bytes : List ℕ) → 14 ≤ limit → length (cleaned_upto limit bytes) ≤ limit
 unfolding cleaned_upto
 cleaned_short limit bytes room = omitted_short (take limit (skip is_space (map shown_byte bytes))) limit room (omega (arith, length-take limit (skip is_space (map shown_byte bytes))))
 
--- bytes that are all shown as they are
+-- Bytes that all stay as they are.
 all_same_by : (f : ℕ → ℕ) (bytes : List ℕ) → list_all (λ b. f b == b) bytes ≡ true → map f bytes ≡ bytes
 all_same_by f [] all = refl
 all_same_by f (b ∷ bytes) all = let same : f b ≡ b = eqb-true (f b) b (and_true all).0 in ap (λ l. f b ∷ l) (all_same_by f bytes (and_true all).1) ∙ ap (λ c. c ∷ bytes) same
@@ -137,7 +136,6 @@ all_same bytes old new all is = is ∙ ap (λ l. old ++ l) (sym (all_same_by sho
 adds_one : (f : ℕ → ℕ) (bytes : List ℕ) (i b y : ℕ) (old text : List ℕ) → i < length bytes → b ≡ get_or bytes i 0 → y ≡ f b → text ≡ old ++ map f (take i bytes) → text ++ y ∷ [] ≡ old ++ map f (take (i + 1) bytes)
 adds_one f bytes i b y old text within at is so = grind (arith, common_steps)
 
--- one more byte is shown
 pub adds_byte : (bytes : List ℕ) (i b y : ℕ) (old text new : List ℕ) → i < length bytes → b ≡ get_or bytes i 0 → y ≡ shown_byte b → text ≡ old ++ map shown_byte (take i bytes) → new ≡ text ++ y ∷ [] → new ≡ old ++ map shown_byte (take (i + 1) bytes)
 adds_byte bytes i b y old text new within at is so more = more ∙ adds_one shown_byte bytes i b y old text within at is so
 

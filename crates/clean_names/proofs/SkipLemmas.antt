@@ -1,4 +1,4 @@
--- Spaces in front of a name (unspaced, clean).
+-- Leading spaces of a name (for `unspaced` and `clean`).
 use Rattle.std.proofs.Common.{◌≡◌, ◌≢◌, ℕ, ◌+◌, ◌<◌, ◌≤◌, ◌==◌, cond, Bool, true, false, List, [], ◌∷◌, length, drop, get_or, refl, sym, ◌∙◌, ap, arith}
 use Rattle.std.proofs.lemmas.Grind.{common_steps}
 use Rattle.std.proofs.lemmas.List.{at_drop_more}
@@ -13,12 +13,11 @@ skip_space : (x : ℕ) (xs : List ℕ) → x ≡ 32 → skip is_space (x ∷ xs)
 unfolding skip
 skip_space x xs is = grind (arith, nat_tests)
 
--- a search for the first byte that is other space ends at one
+-- The spaces end at a byte that is not a space.
 pub skip_stop : (bytes : List ℕ) (i : ℕ) → i < length bytes → get_or bytes i 0 ≢ 32 → skip is_space (drop i bytes) ≡ drop i bytes
 skip_stop bytes i within other =
     at_drop_more (skip is_space) bytes i 0 within ∙ skip_here (get_or bytes i 0) (drop (i + 1) bytes) other ∙ sym (at_drop_more (λ xs. xs) bytes i 0 within)
 
--- and goes on at a space
 pub skip_more : (bytes : List ℕ) (i : ℕ) → i < length bytes → get_or bytes i 0 ≡ 32 → skip is_space (drop (i + 1) bytes) ≡ skip is_space (drop i bytes)
 skip_more bytes i within is = sym (at_drop_more (skip is_space) bytes i 0 within ∙ skip_space (get_or bytes i 0) (drop (i + 1) bytes) is)
 
@@ -26,11 +25,10 @@ skip_none : skip is_space [] ≡ []
 unfolding skip
 skip_none = refl
 
--- there is nothing after the last byte
 pub skip_end : (bytes : List ℕ) (i : ℕ) → length bytes ≤ i → skip is_space (drop i bytes) ≡ []
 skip_end bytes i past = ap (skip is_space) (grind (arith, common_steps)) ∙ skip_none
 
--- no space stands in front
+-- The first byte, if there is one, is not a space.
 abbrev pub Begins : List ℕ → Type 0
 Begins [] = Unit {0}
 Begins (x ∷ xs) = (x == 32) ≡ false

@@ -1,10 +1,9 @@
--- Worked names: what is left of bytes that become a name.
+-- Worked examples of cleaned names.
 use Rattle.std.proofs.Common.{◌≡◌, [], ◌∷◌, codes, refl}
 use Rattle.sym_edges.proofs.Shown.{shown}
 use Rattle.clean_names.proofs.Computing.{clean_names_computes}
 use Rattle.clean_names.specs.Cleaning.{cleaned, cleaned_upto}
 
--- a cleaned name
 clean_plain : shown (cleaned (codes "main")) ≡ "main"
 unfolding clean_names_computes shown
 clean_plain = refl
@@ -25,7 +24,7 @@ clean_nothing : shown (cleaned (codes "")) ≡ "<name omitted>"
 unfolding clean_names_computes shown
 clean_nothing = refl
 
--- cut
+-- A name that is cut off.
 cut_three : shown (cleaned_upto 3 (codes " abcd")) ≡ "abc"
 unfolding clean_names_computes shown
 cut_three = refl
@@ -42,7 +41,7 @@ cut_all : shown (cleaned_upto 0 (codes " abcd")) ≡ "<name omitted>"
 unfolding clean_names_computes shown
 cut_all = refl
 
--- a byte above ASCII
+-- A byte above ASCII stays.
 clean_utf8 : cleaned (195 ∷ 169 ∷ []) ≡ 195 ∷ 169 ∷ []
 unfolding clean_names_computes
 clean_utf8 = refl

@@ -11,7 +11,8 @@ abbrev pub or_omitted : List ℕ → List ℕ
 or_omitted [] = codes "<name omitted>"
 or_omitted (b ∷ bytes) = b ∷ bytes
 
--- control bytes become `?`, leading spaces are dropped, and the name is cut off after `limit` bytes
+-- control bytes become `?`, leading spaces are dropped, the rest is cut off after `limit` bytes,
+-- and an empty name becomes `<name omitted>`
 unfoldable pub cleaned_upto : ℕ → List ℕ → List ℕ
 cleaned_upto limit bytes = or_omitted (take limit (skip is_space (map shown_byte bytes)))
 

@@ -95,7 +95,8 @@ fn add_shown(text: &mut Vec<u8>, bytes: &[u8]) -> Result<(), OutOfMemory>
     Ok(())
 }
 
-/// Adds the name that `clean` makes of the bytes. Allocates memory only for the text.
+/// Adds to the text the name that `clean` makes of the bytes. Only the growth of the text allocates
+/// memory.
 #[tactic(auto, using(crate::proofs::CleaningLemmas::cleaned_none, crate::proofs::CleaningLemmas::cleaned_some), unfolding(crate::specs::Cleaning::cleaned))]
 pub fn add_cleaned(text: &mut Vec<u8>, bytes: &[u8]) -> Result<(), OutOfMemory>
     ensures { OnOk result (text.new.items ≡ text.old.items ++ cleaned bytes.now) }

@@ -1,8 +1,10 @@
-//! Names made of any bytes, cleaned for a text of lines.
+//! Makes names for the lines of a text out of any bytes.
 //!
-//! A name ends a line (Breakpad's symbol_files.md), so it is not empty, does not begin with a space, and has no bytes that end lines. `clean` makes a
-//! name of any bytes, as a separate list; `add_cleaned` adds this name to a text. `is_clean` tests whether cleaning does not change a name.
-//! `unspaced` and `shown_byte` are the steps of cleaning, for names that are made piece by piece.
+//! A name ends a line (Breakpad's symbol_files.md), so it is not empty, does not begin with a
+//! space, and has no bytes that end lines. `clean` makes a name of any bytes, as a separate list;
+//! `add_cleaned` adds this name to a text. `is_clean` tests whether cleaning does not change a
+//! name. `unspaced` and `shown_byte` are single steps of cleaning, for names that are made piece by
+//! piece.
 #![tactic(auto)]
 
 mod cleaner;

@@ -1,4 +1,4 @@
--- What a proof unfolds to compute the definitions of code_table and of leb_cursor where the input is written out.
+-- The definitions of code_table and of leb_cursor that a proof unfolds to compute a worked example.
 use Rattle.std.specs.Prelude.{⊤}
 use Rattle.leb_cursor.proofs.Computing.{leb_cursor_computes}
 use Rattle.code_table.specs.ExprOps.{expr_opcodes}

@@ -12,12 +12,12 @@ use Rattle.code_table.specs.declared.kind.Shape.{Shape}
 use Rattle.code_table.specs.declared.kind.Operand.TheVariants.{Num, Signed, Run}
 use Rattle.code_table.specs.Layouts.{number_in, run_at, block_in, kind_at, shape_at}
 
--- a reading that passes so many bytes passes none at the least
+-- A reading that passes at least `least` bytes passes at least zero.
 passes_any : {A E : Type 0} (reading : Result (A × Ahead) E) (least : ℕ) (c : Ahead) → Passes least c reading → Passes 0 c reading
 passes_any (Ok x) least c goes = (omega (arith, goes.0), goes.1)
 passes_any (Err fault) least c goes = tt
 
--- a value that is made of what was read passes nothing more
+-- Making a value from what was read passes no more bytes.
 passes_map : {A B E : Type 0} (make : A × Ahead → B) (reading : Result (A × Ahead) E) (c : Ahead) → Passes 0 c reading → Passes 0 c (reading >>= λ x. Ok (make x, x.1))
 passes_map make (Ok x) c goes = goes
 passes_map make (Err fault) c goes = tt

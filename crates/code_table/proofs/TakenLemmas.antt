@@ -1,4 +1,5 @@
--- What an operation of so many operands takes; for the laws `operands_are_those_of_the_table` of line_program, frame_rows and expr_steps.
+-- That an operation takes the operands of its row; for the laws `operands_are_those_of_the_table`
+-- of line_program, frame_rows and expr_steps.
 use Rattle.std.proofs.Common.{◌≡◌, ℕ, ℤ, List, [], ◌∷◌, Result, Ok, Err, refl}
 use Rattle.std.specs.List.{All}
 use Rattle.std.proofs.lemmas.List.Elements.{All-nil, All-cons}
@@ -13,12 +14,12 @@ use Rattle.code_table.specs.declared.code_row.CodeRow.{CodeRow}
 use Rattle.code_table.specs.Layouts.{number_in, kind_at}
 use Rattle.code_table.specs.Operands.{left}
 
--- a reading, whose fault is another one to the caller
+-- A reading whose fault `why` turns into a fault of the caller.
 abbrev pub told : {A E : Type 0} → (CursorFault → E) → Result A CursorFault → Result A E
 told why (Ok x) = Ok x
 told why (Err fault) = Err (why fault)
 
--- both operands of a shape, of which the first was read
+-- The two operands of a shape, given the result for the first.
 abbrev pub both : Result (Operand × Ahead) CursorFault → (Ahead → Result (Operand × Ahead) CursorFault) → Result (Operands × Ahead) CursorFault
 both first second = first >>= λ x. second x.1 >>= λ y. Ok (record { first = x.0; second = y.0 }, y.1)
 
@@ -35,14 +36,14 @@ unfolding kind_at
 one_signed why make (Ok x) = refl
 one_signed why make (Err fault) = refl
 
--- the fact of each row of a table
+-- `P` holds for each row of a table.
 pub record Taken (P : CodeRow → Type 0) (rows : List CodeRow) : Type 0 where
   pub all : All P rows
 
 pub none : {P : CodeRow → Type 0} → Taken P []
 none {P} = record { all = All-nil P }
 
--- the fact of a row, and those of the rows after it
+-- If `P` holds for a row and for the rows after it, it holds for all of them.
 infixr 5 ◌then◌
 pub ◌then◌ : {P : CodeRow → Type 0} {row : CodeRow} {rows : List CodeRow} → P row → Taken P rows → Taken P (row ∷ rows)
 ◌then◌ {P} fact later = record { all = All-cons P _ _ fact later.all }

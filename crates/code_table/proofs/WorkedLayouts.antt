@@ -1,4 +1,4 @@
--- Worked rows: each layout of an operand with what it reads, and with its refusal.
+-- Worked examples: each layout of an operand, with what it reads and with its fault.
 use Rattle.std.proofs.Common.{◌≡◌, ℕ, pos, negsuc, Some, None, Result, Ok, Err, refl}
 use Prim.Native.String.{String}
 use Rattle.sym_edges.specs.Results.{◌>>=◌}
@@ -15,12 +15,12 @@ use Rattle.code_table.specs.FrameOps.{frame_opcodes}
 use Rattle.sym_edges.proofs.Hex.{hex}
 use Rattle.code_table.proofs.Computing.{code_table_computes}
 
--- the operand of a layout among bytes of which the first has place 1, and the place after it
+-- The operand that is read among bytes of which the first has place 1, and the place after it.
 unfoldable reads : Kind → String → Result (Operand × ℕ) CursorFault
 unfolding hex
 reads kind text = kind_at kind (record { bytes = hex text; at = 1 }) >>= λ operand. Ok (operand.0, operand.1.at)
 
--- the two operands of a shape
+-- The two operands of a shape.
 unfoldable reads_both : Kind → Kind → String → Result (Operand × Operand) CursorFault
 unfolding hex
 reads_both first second text =
@@ -162,7 +162,8 @@ a_second_operand_that_is_cut : reads_both Uleb BlockUleb "06 02 70" ≡ Err (End
 unfolding code_table_computes reads_both
 a_second_operand_that_is_cut = refl
 
--- codes between and after those of the table, and the opcodes with an operand in their low six bits
+-- Codes between and after those of the table, and the opcodes with an operand in their low six
+-- bits, have no row.
 no_opcode_17 : shape_of 0x17 frame_opcodes ≡ None
 unfolding code_table_computes
 no_opcode_17 = refl
@@ -195,7 +196,8 @@ row_of_args_size : shape_of 0x2e frame_opcodes ≡ Some (record { first = Uleb; 
 unfolding code_table_computes
 row_of_args_size = refl
 
--- of the opcodes of expressions: codes between and after those of the table, and rows at the ends of its runs
+-- For opcodes of expressions: codes between and after those of the table, and the rows at the ends
+-- of its ranges.
 no_expression_opcode_03 : shape_of 0x03 expr_opcodes ≡ None
 unfolding code_table_computes
 no_expression_opcode_03 = refl

@@ -69,6 +69,6 @@ forms wide =
 unfoldable pub form_row : ℕ → List FormRow → Option FormRow
 form_row code rows = find (λ row. row.code == code) rows
 
--- the same table with layouts alone
+-- the table of forms with their layouts but without their classes
 unfoldable pub form_layouts : Bool → List CodeRow
 form_layouts wide = map (λ row. record { code = row.code; shape = record { first = row.layout; second = Nothing } }) (forms wide)

@@ -37,6 +37,6 @@ frame_opcodes =
     ∷ op 0x2e Uleb Nothing  -- DW_CFA_GNU_args_size
     ∷ []
 
--- the opcodes except DW_CFA_set_loc
+-- the rows of the table, except that of DW_CFA_set_loc
 unfoldable pub plain_opcodes : List CodeRow
 plain_opcodes = filter (λ row. not (row.code == 0x01)) frame_opcodes

@@ -1,4 +1,5 @@
--- How the operands of a layout are read, one after the other (DWARF 5, sections 6.4.2 and 7.5.6).
+-- How the operands of a code are read by their layouts, one after the other (DWARF 5, sections
+-- 6.4.2 and 7.5.6).
 use Rattle.std.specs.Prelude.{ℕ, length, Result, Ok}
 use Rattle.leb_cursor.specs.declared.fault.CursorFault.{CursorFault}
 use Rattle.sym_edges.specs.Results.{◌>>=◌}
@@ -23,7 +24,7 @@ run_at n c = take_at n c >>= λ run. Ok (Run c.at (length run.0), run.1)
 abbrev pub block_in : Result (ℕ × Ahead) CursorFault → Result (Operand × Ahead) CursorFault
 block_in reading = reading >>= λ count. run_at count.0 count.1
 
--- the operand of a layout
+-- an operand, read by its layout
 unfoldable pub kind_at : Kind → Ahead → Result (Operand × Ahead) CursorFault
 kind_at Nothing c = Ok (NoOperand, c)
 kind_at U8 c = number_in (fixed_at 1 c)

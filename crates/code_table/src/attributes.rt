@@ -1,4 +1,5 @@
-//! The attributes of entries that are read (DWARF 5, table 7.5, and one of an older compiler), by the standard's names.
+//! The attributes of entries that are read (DWARF 5, table 7.5, and `DW_AT_MIPS_linkage_name` of
+//! older compilers), by the standard's names.
 
 pub const DW_AT_name: u64 = 0x03;
 

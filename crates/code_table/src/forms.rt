@@ -97,7 +97,7 @@ pub const DW_FORM_GNU_ref_alt: u64 = 0x1f20;
 
 pub const DW_FORM_GNU_strp_alt: u64 = 0x1f21;
 
-/// What the operand of a form is.
+/// What the operand of a form stands for.
 #[derive(Clone, Copy)]
 pub enum FormClass {
     /// An address.
@@ -118,10 +118,10 @@ pub enum FormClass {
     /// The constant in the abbreviation.
     Implicit,
 
-    /// Yes, if the number is not 0.
+    /// A flag, which is true if the number is not 0.
     Flag,
 
-    /// Yes.
+    /// A flag that is true.
     Present,
 
     /// A text in place.

@@ -4,7 +4,7 @@ use crate::code_row::CodeRow;
 use crate::kind::{Kind, Shape};
 use crate::table::Table;
 
-// These three have an operand in their low six bits.
+// The next three opcodes have an operand in their low six bits.
 pub const DW_CFA_advance_loc: u64 = 0x40;
 
 pub const DW_CFA_offset: u64 = 0x80;

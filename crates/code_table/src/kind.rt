@@ -1,4 +1,4 @@
-//! Layouts of operands, and what is read by them.
+//! Layouts of operands, and the operands that are read by them.
 
 /// The layout of one operand. Fixed numbers have their lowest byte first.
 #[derive(Clone, Copy, PartialEq, Eq, Debug)]
@@ -56,7 +56,7 @@ pub enum Operand {
     Run { start: usize, len: usize },
 }
 
-/// The operands that a shape gives.
+/// The two operands of a code, in order.
 #[derive(Clone, Copy, PartialEq, Eq, Debug)]
 pub struct Operands {
     pub first: Operand,

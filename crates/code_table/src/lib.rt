@@ -2,10 +2,12 @@
 //! 6.4.2 and table 7.29), the opcodes of DWARF expressions that frame entries have (2.5 and table 7.9), and the forms of attribute values (7.5.6 and
 //! table 7.6). The crate also has the names of the tags and attributes of entries (tables 7.3 and 7.5).
 //!
-//! A layout is a [`Kind`]; a code has two, its [`Shape`]. [`Table::find`] gives the shape of a code exactly if the table has the code. [`read_shape`]
-//! reads the operands of a shape from a cursor. Its result, and what is left afterwards, are what `specs/Layouts.antt` gives for what was left
-//! before. A fault has the place of the number, text or run of bytes that cannot be read, and a refused call leaves the cursor as it was. The rows of
-//! [`FRAME_OPS`] are the standard's, which `specs/FrameOps.antt` lists (`laws` says so). No call allocates memory.
+//! A layout is a [`Kind`]; the two layouts of a code are its [`Shape`]. [`Table::find`] gives the
+//! shape of a code exactly if the table has the code. [`read_shape`] reads the operands of a shape
+//! from a cursor. From what is ahead before the call, `specs/Layouts.antt` gives the result and
+//! what is ahead afterwards. A fault has the place of the number, text or run of bytes that cannot
+//! be read, and a refused call leaves the cursor as it was. The rows of [`FRAME_OPS`] are the
+//! standard's, which `specs/FrameOps.antt` lists (`laws` says so). No call allocates memory.
 #![tactic(auto)]
 
 mod attributes;

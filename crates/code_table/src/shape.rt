@@ -36,8 +36,8 @@ fn read_text(cursor: &mut Cursor<'_>) -> Result<Operand, CursorFault>
     })
 }
 
-/// A match over all layouts: those of a number, each with the cursor's call for it; those of a block, each with the call for its length; and the
-/// others.
+/// A match over all layouts. A number is read by a call of the cursor, and so is the length of a
+/// block. Each other layout has an expression of its own.
 macro_rules! read_by_kind {
     ($cursor:ident, $kind:ident;
         numbers { $($number:ident: $read_number:ident),* }

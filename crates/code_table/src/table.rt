@@ -6,7 +6,7 @@ ghost use Rattle.code_table.specs.Rows.{shape_of};
 use crate::code_row::CodeRow;
 use crate::kind::Shape;
 
-/// Rows, each with a code and its layout.
+/// Rows, each with a code and the layouts of its operands.
 pub struct Table<const N: usize> {
     pub rows: [CodeRow; N],
 }
@@ -19,7 +19,8 @@ fn row_of(rows: &[CodeRow], code: u64) -> Option<&CodeRow>
 }
 
 impl<const N: usize> Table<N> {
-    /// The layout of `code`, if the table has it. It is looked for row by row.
+    /// The layouts of the operands of `code`, if the table has it. The rows are searched one by
+    /// one.
     #[tactic(auto, unfolding(crate::specs::Rows::shape_of))]
     pub fn find(&self, code: u64) -> Option<Shape>
         ensures { result ≡ shape_of code self.now.rows }

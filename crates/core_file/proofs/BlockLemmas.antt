@@ -1,4 +1,4 @@
--- The blocks of a list that grows.
+-- The complete blocks of a list that grows, and how many of them are held.
 use Rattle.std.proofs.Common.{◌≡◌, ℕ, zero, suc, ◌+◌, ◌-◌, ◌*◌, ◌/◌, ◌<◌, ◌≤◌, true, cond, List, [], ◌∷◌, ◌++◌, length, take, drop, refl, sym, ◌∙◌, ap, arith, length-append}
 use Rattle.std.specs.Prelude.{count_by, ◌||◌, nat_lt}
 use Rattle.std.proofs.lemmas.List.{take-append-le, drop-append-le, length-drop, take_all}
@@ -12,7 +12,7 @@ use Rattle.std.proofs.lemmas.Bool.{lt-ltb}
 use Rattle.core_file.proofs.BoolLemmas.{or_right}
 use Rattle.core_file.specs.HeldBlocks.{has_some, first_blocks, held_blocks, is_past}
 
--- one block more
+-- One complete block more.
 blocks_more : (size n : ℕ) (bytes : List ℕ) → first_blocks size (n + 1) bytes ≡ first_blocks size n bytes ++ take size (drop (size * n) bytes) ∷ []
 unfolding first_blocks
 blocks_more size n bytes = map-range_with_len_more (λ k. take size (drop (size * k) bytes)) 0 n n (omega arith)
@@ -23,7 +23,7 @@ count_more size n bytes =
     ∙ sum_by-append (λ x. cond (has_some x) 1 0) (first_blocks size n bytes) (take size (drop (size * n) bytes) ∷ [])
     ∙ omega arith
 
--- blocks in front do not see what comes behind
+-- A complete block does not change if bytes are added after it.
 block_same : (size n : ℕ) (xs ys : List ℕ) → size * (n + 1) ≤ length xs → take size (drop (size * n) (xs ++ ys)) ≡ take size (drop (size * n) xs)
 block_same size n xs ys inside =
     ap (take size) (drop-append-le (size * n) xs ys (omega arith))
@@ -39,11 +39,11 @@ count_same size (suc n) xs ys inside =
     ∙ ap (λ k. k + cond (has_some (take size (drop (size * n) xs))) 1 0) (count_same size n xs ys (omega arith))
     ∙ sym (count_more size n xs) ∙ ap (λ k. count_by has_some (first_blocks size k xs)) (sym e)
 
--- so many complete blocks
+-- The number of complete blocks.
 quotient : (size n r : ℕ) → r < size → (size * n + r) / size ≡ n
 quotient size n r short = let e : size * n + r ≡ n * size + r = omega arith in ap (λ k. k / size) e ∙ div-mul-add n size r short
 
--- the held blocks of complete blocks and less than one behind
+-- Less than one block is added, so no held block is added.
 pub held_short : (size n : ℕ) (xs ys : List ℕ) → length xs ≡ size * n → length ys < size → held_blocks size (xs ++ ys) ≡ held_blocks size xs
 unfolding held_blocks
 held_short size n xs ys long short =
@@ -52,7 +52,7 @@ held_short size n xs ys long short =
     ap (λ k. count_by has_some (first_blocks size k (xs ++ ys))) e ∙ count_same size n xs ys (omega arith)
     ∙ ap (λ k. count_by has_some (first_blocks size k xs)) (sym f)
 
--- and of one complete block more
+-- A complete block is added; it is held if some byte of it is not zero.
 pub held_full : (size n : ℕ) (xs ys : List ℕ) → 0 < size → length xs ≡ size * n → length ys ≡ size → held_blocks size (xs ++ ys) ≡ held_blocks size xs + cond (has_some ys) 1 0
 unfolding held_blocks
 held_full size n xs ys some long full =
@@ -70,7 +70,7 @@ count_le size n (suc m) bytes =
     let e : n + suc m ≡ (n + m) + 1 = omega arith in
     rw e (omega (arith, count_le size n m bytes, count_more size (n + m) bytes))
 
--- more bytes have no fewer held blocks
+-- More bytes have at least as many held blocks.
 pub held_grows : (size : ℕ) (xs ys : List ℕ) → 0 < size → held_blocks size xs ≤ held_blocks size (xs ++ ys)
 unfolding held_blocks
 held_grows size xs ys some =
@@ -86,14 +86,14 @@ held_grows size xs ys some =
 past_by : (a b limit c d room : ℕ) → a ≤ b → c ≤ d → (nat_lt limit a || nat_lt room c) ≡ true → (nat_lt limit b || nat_lt room d) ≡ true
 past_by a b limit c d room h k is = grind (arith, nat_tests)
 
--- what is too long stays so
+-- What is too long stays too long if bytes are added.
 pub past_more : (size limit room : ℕ) (xs ys : List ℕ) → 0 < size → is_past size limit room xs ≡ true → is_past size limit room (xs ++ ys) ≡ true
 unfolding is_past
 past_more size limit room xs ys some is =
     past_by (length xs) (length (xs ++ ys)) limit (size * held_blocks size xs) (size * held_blocks size (xs ++ ys)) room
     (omega (arith, length-append xs ys)) (mul-le-mul_left size (held_grows size xs ys some)) is
 
--- held blocks without room are too much
+-- If the held blocks take more than the room, the bytes are too many.
 pub past_room : (size limit room : ℕ) (xs : List ℕ) → room < size * held_blocks size xs → is_past size limit room xs ≡ true
 unfolding is_past
 past_room size limit room xs past = or_right (nat_lt limit (length xs)) (nat_lt room (size * held_blocks size xs)) (lt-ltb room (size * held_blocks size xs) past)

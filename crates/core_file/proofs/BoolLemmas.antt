@@ -1,4 +1,4 @@
--- Tests that hold together.
+-- Lemmas about several tests that all hold.
 use Rattle.std.proofs.Common.{◌≡◌, Bool, true, false, refl}
 use Rattle.std.specs.Prelude.{◌&&◌, ◌||◌}
 

@@ -14,12 +14,12 @@ not_true false never = refl
 pub unequal : (xs ys : List ℕ) → (xs ≡ ys → ⊥) → bytes_eq xs ys ≡ false
 unequal xs ys never = not_true (bytes_eq xs ys) (λ is. never ((bytes_eq-Decides xs ys).0 is))
 
--- bytes of another length are others
+-- Bytes of another length are not the text.
 pub other_length : (list text : List ℕ) (at len : ℕ) → at + len ≤ length list → len ≢ length text → bytes_eq (take len (drop at list)) text ≡ false
 other_length list text at len inside other =
     unequal (take len (drop at list)) text (λ is. other (sym (length-take-le len (drop at list) (omega (arith, length-drop at list))) ∙ ap length is))
 
--- so are bytes of which one differs
+-- Bytes of which one differs are not the text.
 pub other_byte : (list text : List ℕ) (at len i : ℕ) → len ≡ length text → i < length text → get_or list (at + i) 0 ≢ get_or text i 0 → bytes_eq (take len (drop at list)) text ≡ false
 other_byte list text at len i same inside differs =
     unequal (take len (drop at list)) text (λ is. differs (sym (get_or-take len (drop at list) i 0 (omega arith) ∙ get_or-drop at list i 0) ∙ ap (λ l. get_or l i 0) is))

@@ -1,4 +1,4 @@
--- Addresses of code that are added, one range after the other.
+-- The addresses of code, to which one range after the other is added.
 use Rattle.std.proofs.Common.{◌≡◌, ℕ, ◌+◌, ◌-◌, ◌<◌, ◌≤◌, ◌^◌, Bool, true, false, List, [], ◌∷◌, ◌++◌, Option, Some, length, drop, get_or, find, min, refl, sym, ◌∙◌, ap, arith, if◌then◌else◌}
 use Rattle.std.specs.Prelude.{◌&&◌, ◌||◌, nat_le, nat_lt, is_some}
 use Rattle.std.specs.List.{list_any}
@@ -15,7 +15,7 @@ use Rattle.core_file.proofs.PageLemmas.{any_next, any_past}
 outside : (c b rest : Bool) → b ≡ false → (c || rest) ≡ (c || (b || rest))
 outside c b rest none = rw none refl
 
--- a range of no address, or of none that counts
+-- A range without addresses.
 pub range_empty : (c rest : Bool) (low high a : ℕ) → high ≤ low → (c || rest) ≡ (c || ((nat_le low a && nat_lt a high) || rest))
 range_empty c rest low high a empty = outside c (nat_le low a && nat_lt a high) rest (grind (arith, nat_tests))
 
@@ -36,7 +36,7 @@ range_added code s low high a rest some first last below =
     ∙ or_assoc (list_any (λ t. reaches t a) code) (reaches s a) (nat_le low a && nat_lt a high) rest
     (ap (λ f. nat_le f a && nat_le a s.last) first ∙ in_range low high s.last a below some last)
 
--- a segment that is no code
+-- A segment that is not executable adds nothing.
 pub load_other : (c rest : Bool) (s : Segment) (a : ℕ) → is_executable s ≡ false → (c || rest) ≡ (c || (has_code a s || rest))
 unfolding has_code
 load_other c rest s a none = rw none refl
@@ -71,7 +71,7 @@ page_added start image s low high a c old rest is some lows highs added =
     let n : nat_lt 0 s.memory_size ≡ true = grind (arith, nat_tests) in
     rw (is, n, shifted (page_down (start + s.address)) (page_up (start + s.address + s.memory_size)) (page_down image.first) a, ← lows, ← highs) added
 
--- what is left of the segments
+-- One segment is added, and the others are left.
 pub code_step : {X : Type 0} (f : X → Bool) (xs : List X) (k : ℕ) (d : X) (c old : Bool) → k < length xs → (c || list_any f (drop (k + 1) xs)) ≡ (old || (f (get_or xs k d) || list_any f (drop (k + 1) xs))) → (c || list_any f (drop (k + 1) xs)) ≡ (old || list_any f (drop k xs))
 code_step f xs k d c old inside is = is ∙ ap (λ r. old || r) (sym (any_next f xs k d inside))
 
@@ -86,7 +86,7 @@ some_by : {X Y : Type 0} (f : X → Y) (x : X) (b : Bool) (found : Option X) (an
 some_by f x true found any is = refl
 some_by f x false found any is = is
 
--- an address has a first stretch where one has it
+-- An address has a first stretch if some stretch contains it.
 some_first : {X Y : Type 0} (p : X → Bool) (f : X → Y) (xs : List X) → is_some (option_map f (find p xs)) ≡ list_any p xs
 some_first p f [] = refl
 some_first p f (x ∷ xs) = some_by f x (p x) (find p xs) (list_any p xs) (some_first p f xs)

@@ -1,4 +1,4 @@
--- What a proof unfolds to compute the definitions of core_file where the input is written out.
+-- The definitions of core_file that a proof unfolds to compute a result from given bytes.
 use Rattle.std.specs.Prelude.{⊤}
 use Rattle.elf_sections.proofs.Computing.{elf_sections_computes}
 use Rattle.clean_names.proofs.Computing.{clean_names_computes}

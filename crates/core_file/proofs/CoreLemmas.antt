@@ -1,4 +1,4 @@
--- The faults of a core file in their order.
+-- The faults of a core file in their order, and the parts of a core.
 use Rattle.std.proofs.Common.{◌≡◌, ℕ, ◌+◌, ◌<◌, Bool, true, false, List, [], ◌∷◌, ◌^◌, zero, suc, Option, None, Some, length, take, find, refl, sym, ◌∙◌, ap, arith, if◌then◌else◌}
 use Rattle.std.specs.Prelude.{not, position, map, filter, min, nat_lt, ◌||◌}
 use Rattle.std.proofs.lemmas.Bool.{lt-ltb}
@@ -67,7 +67,7 @@ last_fault : (file : List ℕ) (b : Bool) → header_fault file ≡ None → pos
 unfolding core_fault segment_fault note_fault
 last_fault file b header fine whole is = rw (header, fine, whole, is) refl
 
--- a thread among notes
+-- The threads among notes.
 any_by : (b : Bool) (n : ℕ) → (b || nat_lt 0 n) ≡ nat_lt 0 (if b then n + 1 else n)
 any_by true n = sym (lt-ltb 0 (n + 1) (omega arith))
 any_by false n = refl
@@ -84,7 +84,7 @@ any_is p (x ∷ xs) =
 found_by : {X : Type 0} (limit : ℕ) (xs : List X) (n : ℕ) → 0 < limit → n ≡ min limit (length xs) → nat_lt 0 (length xs) ≡ nat_lt 0 n
 found_by limit xs n some is = grind (arith, nat_tests)
 
--- there is no thread exactly where none was found
+-- The core has no thread if and only if none was gathered.
 pub none_found : (limit : ℕ) (file : List ℕ) (n : ℕ) → 0 < limit → n ≡ length (threads_in limit (all_notes file (segments file))) → has_no_thread file ≡ not (nat_lt 0 n)
 unfolding threads_in has_no_thread
 none_found limit file n some is =
@@ -100,7 +100,7 @@ pub no_fault : (limit : ℕ) (file : List ℕ) (n : ℕ) → header_fault file �
 no_fault limit file n header fine whole some is found =
     last_fault file false header fine whole (none_found limit file n some is ∙ ap not (lt-ltb 0 n found))
 
--- what was gathered over all notes
+-- The threads and files that are gathered over all notes.
 pub all_threads : (limit : ℕ) (a : Gathered) (notes : List NoteParts) → a.threads ≡ [] → (gathered limit a notes).threads ≡ threads_in limit notes
 unfolding gathered threads_of threads_in
 all_threads limit a notes none = rw none refl
@@ -121,7 +121,7 @@ take_none : (limit : ℕ) → let none : List Module = [] in none ≡ take limit
 take_none zero = refl
 take_none (suc n) = refl
 
--- no note of mapped files: no module
+-- Without a note of mapped files there is no module.
 pub no_modules : (limit : ℕ) (memory : Memory) (files : Option (List ℕ)) → files ≡ None → [] ≡ modules_in limit memory (files_by files)
 unfolding modules_in modules_from
 no_modules limit memory files none = rw none (take_none limit)
@@ -130,7 +130,7 @@ or_none : (b : Bool) → b ≡ (b || false)
 or_none true = refl
 or_none false = refl
 
--- no module yet
+-- There is no module yet.
 pub first_listing : (memory : Memory) (l : Listing) (before : List Stretch) → l.modules.items ≡ [] → before ≡ [] → ((a : ℕ) → contains nat_cmp l.pages a ≡ false) → AreStretches l.code.items → ((a : ℕ) → a < 2 ^ 64 → list_any (λ s. reaches s a) l.code.items ≡ (list_any (λ s. reaches s a) before || list_any (has_code a) memory.segments)) → IsListing memory l
 unfolding is_own_page is_code
 first_listing memory l before none empty pages some code = record {
@@ -139,7 +139,7 @@ first_listing memory l before none empty pages some code = record {
   some = some;
 }
 
--- which addresses are code, by the first stretch at each
+-- The step map of first stretches has a value where the address is code.
 pub code_map : (memory : Memory) (l : Listing) (steps : Stepping (Option FirstItem)) → IsListing memory l → ((a : ℕ) → a < 2 ^ 64 → value_at None steps a ≡ first_item l.code.items a) → IsCodeMap memory l.modules.items steps
 code_map memory l steps listing is a below = ap is_some (is a below) ∙ first_some l.code.items a ∙ listing.code a below
 
@@ -148,7 +148,7 @@ unfolding parts_upto
 parts_are limit file memory threads modules files memories thread note listed =
     rw (listed, thread, memories, note, ← files_are (all_notes file (segments file))) refl
 
--- what was gathered from the segments
+-- The threads that were gathered from the segments.
 pub found_threads : (limit : ℕ) (file : List ℕ) (segs : List Segment) (a b : Gathered) → segs ≡ segments file → a.threads ≡ [] → b ≡ gathered limit a (all_notes file segs) → b.threads ≡ threads_in limit (all_notes file (segments file))
 found_threads limit file segs a b same none is =
     ap (λ (g : Gathered). g.threads) is ∙ all_threads limit a (all_notes file segs) none ∙ ap (λ l. threads_in limit (all_notes file l)) same

@@ -5,7 +5,7 @@ use Rattle.std.specs.Prelude.{⊤, replicate}
 use Rattle.std.specs.List.{flat_map}
 use Rattle.sym_edges.proofs.Hex.{bytes, hex, little}
 
--- a segment: p_type, p_flags, p_vaddr, p_memsz and its bytes
+-- A segment: p_type, p_flags, p_vaddr, p_memsz and its bytes.
 pub record Piece : Type 0 where
   pub kind : ℕ
   pub flags : ℕ
@@ -19,14 +19,15 @@ load flags address memory content = record { kind = 1; flags = flags; address = 
 abbrev pub noted : List ℕ → Piece
 noted content = record { kind = 4; flags = 0; address = 0; memory = 0; content = content }
 
--- a file header: e_type and e_phnum
+-- A file header with these e_type and e_phnum.
 unfoldable pub head : ℕ → ℕ → List ℕ
 unfolding little hex bytes
 head kind count =
     hex "7f454c46 02010100 00000000 00000000" ++ little 2 kind ++ little 2 62 ++ little 4 1 ++ little 8 0 ++ little 8 64
     ++ little 8 0 ++ little 4 0 ++ little 2 64 ++ little 2 56 ++ little 2 count ++ little 2 0 ++ little 2 0 ++ little 2 0
 
--- a program header, by the place of its bytes: p_type, p_flags, p_offset, p_vaddr, p_paddr, p_filesz, p_memsz, p_align
+-- A program header, given the place of the segment's bytes: p_type, p_flags, p_offset, p_vaddr,
+-- p_paddr, p_filesz, p_memsz and p_align.
 unfoldable pub program : Piece → ℕ → List ℕ
 unfolding little
 program s place =
@@ -40,41 +41,42 @@ table (s ∷ pieces) place = program s place ++ table pieces (place + length s.c
 unfoldable pub contents : List Piece → List ℕ
 contents pieces = flat_map (λ s. s.content) pieces
 
--- a core file of so many segments
+-- A core file with these segments.
 unfoldable pub core_of : List Piece → List ℕ
 core_of pieces = head 4 (length pieces) ++ table pieces (64 + 56 * length pieces) ++ contents pieces
 
--- a note of the owner CORE, whose descriptor is a multiple of four bytes
+-- A note of the owner CORE, whose descriptor is a multiple of four bytes.
 unfoldable pub core_note : ℕ → List ℕ → List ℕ
 unfolding little
 core_note kind descriptor = little 4 5 ++ little 4 (length descriptor) ++ little 4 kind ++ codes "CORE\0" ++ replicate 3 0 ++ descriptor
 
--- a state: pr_cursig, pr_pid, and the 27 registers of pr_reg
+-- A state: pr_cursig, pr_pid, and the 27 registers of pr_reg.
 unfoldable pub state : ℕ → ℕ → List ℕ → List ℕ
 unfolding little
 state signal number registers =
     replicate 12 0 ++ little 2 signal ++ replicate 18 0 ++ little 4 number ++ replicate 76 0 ++ flat_map (little 8) registers ++ replicate 8 0
 
--- the registers r15 to rdi are 1 to 15, orig_rax is 99, cs and eflags are 51 and 514, and what is behind rsp is 0
+-- The registers r15 to rdi are 1 to 15, orig_rax is 99, cs and eflags are 51 and 514, and all after
+-- rsp are 0.
 abbrev pub registers : ℕ → ℕ → List ℕ
 registers rip rsp =
     1 ∷ 2 ∷ 3 ∷ 4 ∷ 5 ∷ 6 ∷ 7 ∷ 8 ∷ 9 ∷ 10 ∷ 11 ∷ 12 ∷ 13 ∷ 14 ∷ 15 ∷ 99 ∷ rip ∷ 51 ∷ 514 ∷ rsp ∷ 0 ∷ 0 ∷ 0 ∷ 0 ∷ 0 ∷ 0 ∷ 0 ∷ []
 
--- a mapping: its start, its end and its place in pages
+-- A mapping: its start, its end, and its place in the file in pages.
 unfoldable pub mapping : ℕ → ℕ → ℕ → List ℕ
 unfolding little
 mapping start end offset = little 8 start ++ little 8 end ++ little 8 offset
 
--- a note of so many mappings
+-- A note of mapped files, with this many mappings.
 unfoldable pub files : ℕ → List ℕ → List ℕ → List ℕ
 unfolding little
 files count mappings texts = core_note 0x46494c45 (little 8 count ++ little 8 4096 ++ mappings ++ texts)
 
--- a thread of number 1 and signal 11
+-- A note with the state of a thread of number 1 and signal 11.
 unfoldable pub thread_note : List ℕ
 thread_note = core_note 1 (state 11 1 (registers 0x555555551005 0x7000))
 
--- a loaded file: one loaded segment that is code, and a note with a build id behind the headers
+-- A loaded file: one loaded segment that is code, and a note with a build id after the headers.
 unfoldable pub image : List ℕ
 unfolding little hex bytes
 image =

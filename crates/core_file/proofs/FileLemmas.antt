@@ -1,4 +1,4 @@
--- The mappings of a note, one by one.
+-- The mappings of a note, read one by one.
 use Rattle.std.proofs.Common.{◌≡◌, ℕ, suc, ◌+◌, ◌-◌, ◌*◌, ◌<◌, ◌≤◌, true, false, List, [], ◌∷◌, ◌++◌, length, drop, get_or, min, refl, sym, ◌∙◌, ap, arith, length-drop, append_assoc}
 use Rattle.std.specs.Prelude.{◌==◌, not, map, nat_le}
 use Rattle.std.specs.List.{prefix_len}
@@ -15,7 +15,7 @@ use Rattle.core_file.proofs.BoolLemmas.{and_left, and_right}
 use Rattle.core_file.proofs.PartLemmas.{drop_drop}
 use Rattle.core_file.proofs.NoteLemmas.{rest_behind}
 
--- a text ends at a zero
+-- A text ends at a zero.
 pub text_ends : (note : List ℕ) (from size : ℕ) → from + size < length note → get_or note (from + size) 0 ≡ 0 → size + prefix_len (λ b. not (b == 0)) (drop size (drop from note)) ≡ size
 text_ends note from size inside zeros =
     let e : prefix_len (λ b. not (b == 0)) (drop size (drop from note)) ≡ 0 =
@@ -35,7 +35,7 @@ text_past note from size past =
     let e : drop size (drop from note) ≡ [] = drop_all size (drop from note) (omega (arith, length-drop from note)) in
     ap (λ l. size + prefix_len (λ b. not (b == 0)) l) e ∙ omega arith
 
--- the numbers of a note that has its files are there
+-- A note that has its files has all numbers of the files.
 pub numbers_there : (note : List ℕ) → has_files note ≡ true → 16 + 24 * file_count note ≤ length note
 unfolding has_files files_size
 numbers_there note has =
@@ -54,7 +54,7 @@ next_text note text k next inside is =
     let e : next ≡ text + min (length note - text) k = omega arith in
     rest_behind note text k next inside e
 
--- one mapping more
+-- One mapping more.
 pub files_more : (note : List ℕ) (done : List FilePlace) (f : FilePlace) (left n at text next : ℕ) → left ≡ n + 1 → text ≤ length note → f.start ≡ u64_at note at → f.end ≡ u64_at note (at + 8) → f.offset ≡ u64_at note (at + 16) → f.text ≡ text → f.size ≡ prefix_len (λ b. not (b == 0)) (drop text note) → next ≡ min (length note) (text + f.size + 1) → map (file_view note) (done ++ f ∷ []) ++ files_from n (drop (at + 24) note) (drop next note) ≡ map (file_view note) done ++ files_from left (drop at note) (drop text note)
 unfolding files_from front_text behind_text
 files_more note done f left n at text next is inside start end offset place size after =
@@ -75,7 +75,7 @@ pub inside_push : (len : ℕ) (files : List FilePlace) (f : FilePlace) → IsIns
 inside_push len [] f all last = (last, tt)
 inside_push len (g ∷ files) f all last = (all.0, inside_push len files f all.1 last)
 
--- none yet, and all
+-- No mapping is read yet, or all are.
 pub files_none : (note : List ℕ) → files_from (file_count note) (drop 16 note) (drop (16 + 24 * file_count note) note) ≡ files_of note
 unfolding files_of files_size
 files_none note = refl

@@ -1,4 +1,4 @@
--- Runs of memory: how many addresses from one on have a byte.
+-- Runs of memory: how many consecutive addresses have a byte.
 use Rattle.std.proofs.Common.{◌≡◌, ℕ, zero, suc, ◌+◌, ◌-◌, ◌<◌, ◌≤◌, ◌^◌, true, List, ◌∷◌, Option, Some, None, length, get_or, refl, sym, ◌∙◌, ap, arith, ◌⊎◌, inl, inr, ⊎_elim}
 use Rattle.std.specs.Prelude.{is_some}
 use Rattle.std.proofs.lemmas.Bool.{le-ltb, cases_lt}
@@ -9,7 +9,7 @@ pub front_none : (memory : Memory) (a : ℕ) → length (front_at memory a 0) �
 unfolding front_at
 front_none memory a = refl
 
--- no byte lies past the addresses
+-- No address at or above 2^64 has a byte.
 pub byte_past : (memory : Memory) (a : ℕ) → 2 ^ 64 ≤ a → byte_at memory a ≡ None
 unfolding byte_at
 byte_past memory a past = rw (le-ltb a address_end past) refl
@@ -18,7 +18,7 @@ some_is : {X : Type 0} (o : Option X) (P : Type 0) → is_some o ≡ true → ((
 some_is None P is next = cc
 some_is (Some x) P is next = next x refl
 
--- all addresses have a byte
+-- If all addresses of a run have a byte, the run has as many bytes as addresses.
 all_front : (memory : Memory) (n a : ℕ) → ((j : ℕ) → j < n → is_some (byte_at memory (a + j)) ≡ true) → length (front_at memory a n) ≡ n
 unfolding front_at
 all_front memory zero a all = refl
@@ -35,7 +35,7 @@ front_cases memory n a (Some b) is long (suc j) inside later =
     let e : a + suc j ≡ a + 1 + j = omega arith in
     rw e (later (omega arith) j (omega arith))
 
--- as many bytes as addresses are those of the addresses
+-- If a run has as many bytes as addresses, these are the bytes of the addresses.
 front_all : (memory : Memory) (n a : ℕ) → length (front_at memory a n) ≡ n → (j : ℕ) → j < n → byte_at memory (a + j) ≡ Some (get_or (front_at memory a n) j 0)
 unfolding front_at
 front_all memory zero a long j inside = absurd (omega arith)
@@ -51,7 +51,7 @@ pub front_below : (memory : Memory) (a n j : ℕ) → length (front_at memory a 
 front_below memory a n j long inside =
     ⊎_elim (λ below. below) (λ past. absurd (none_some (byte_at memory (a + j)) _ (byte_past memory (a + j) past) (front_all memory n a long j inside))) (cases_lt (a + j) (2 ^ 64))
 
--- more addresses that have a byte
+-- A run is followed by more addresses that have a byte.
 more_some : (memory : Memory) (a n at k all j : ℕ) → at ≡ a + n → length (front_at memory a n) ≡ n → ((i : ℕ) → i < all → is_some (byte_at memory (at + i)) ≡ true) → k ≤ all → j < n + k → (j < n) ⊎ (n ≤ j) → is_some (byte_at memory (a + j)) ≡ true
 more_some memory a n at k all j is long some within inside (inl before) = ap is_some (front_all memory n a long j before)
 more_some memory a n at k all j is long some within inside (inr behind) =
@@ -66,7 +66,7 @@ stop_cases : (o : Option ℕ) (n : ℕ) (xs ys : List ℕ) → length (front_by 
 stop_cases None n xs ys long same = refl
 stop_cases (Some b) n xs ys long same = ap (λ l. b ∷ l) (same (omega arith))
 
--- an address without a byte ends a run
+-- An address without a byte ends a run.
 pub front_stop : (memory : Memory) (n want a : ℕ) → length (front_at memory a n) ≡ n → n ≤ want → byte_at memory (a + n) ≡ None → front_at memory a want ≡ front_at memory a n
 unfolding front_at
 front_stop memory zero zero a long within none = refl

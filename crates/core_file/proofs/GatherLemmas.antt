@@ -1,4 +1,4 @@
--- What is gathered over notes, one by one.
+-- The threads and files that are gathered over notes, one by one.
 use Rattle.std.proofs.Common.{◌≡◌, ℕ, zero, suc, ◌+◌, ◌<◌, ◌≤◌, Bool, true, false, List, [], ◌∷◌, ◌++◌, length, take, drop, get_or, refl, sym, ◌∙◌, ap, arith, length-drop, append_assoc}
 use Rattle.std.specs.Prelude.{◌==◌, ◌||◌, not, count_by, nat_le, Option, None, Some, find, filter, map, position}
 use Rattle.std.proofs.lemmas.List.{get_or-drop, take-append-le, append-nil, take_all}
@@ -36,14 +36,14 @@ thread_room limit xs more x = ap (take limit) (sym (append_assoc xs (x ∷ []) m
 pub thread_full : {X : Type 0} (limit : ℕ) (xs more : List X) (x : X) → limit ≤ length xs → take limit (xs ++ x ∷ more) ≡ take limit (xs ++ more)
 thread_full limit xs more x full = take-append-le limit xs (x ∷ more) full ∙ sym (take-append-le limit xs more full)
 
--- a state is no note of mapped files
+-- A state of a thread is not a note of mapped files.
 state_no_files : (note : NoteParts) → is_prstatus note ≡ true → is_files note ≡ false
 unfolding is_prstatus is_files
 state_no_files note is =
     let k : note.kind ≡ 1 = eqb-true note.kind 1 (and_right (bytes_eq note.name core_owner) (note.kind == 1) is) in
     rw k (and_false (bytes_eq note.name core_owner))
 
--- what each type asks
+-- What each type of note requires.
 pub whole_state : (note : NoteParts) → is_prstatus note ≡ true → is_whole_note note ≡ nat_le 272 (length note.descriptor)
 unfolding is_whole_note has_state
 whole_state note is = rw is refl
@@ -73,7 +73,7 @@ threads_later : (note : NoteParts) (more : List NoteParts) → is_prstatus note 
 unfolding threads_of
 threads_later note more none = rw none refl
 
--- a state adds its thread
+-- A state adds its thread.
 pub gathered_state : (limit : ℕ) (a b : Gathered) (note : NoteParts) → is_prstatus note ≡ true → b.files ≡ a.files → ((more : List Thread) → take limit (a.threads ++ thread_of note.descriptor ∷ more) ≡ take limit (b.threads ++ more)) → (more : List NoteParts) → gathered limit a (note ∷ more) ≡ gathered limit b more
 unfolding gathered
 gathered_state limit a b note is files threads more =
@@ -83,7 +83,7 @@ gathered_state limit a b note is files threads more =
     first_state a.files note more (state_no_files note is) ∙ ap (λ o. option_or o (first_files more)) (sym files) in
     rw (t, f) refl
 
--- a note of mapped files is kept where it is the first
+-- A note of mapped files is kept if it is the first one.
 pub gathered_files : (limit : ℕ) (a b : Gathered) (note : NoteParts) → is_prstatus note ≡ false → is_files note ≡ true → b.threads ≡ a.threads → b.files ≡ option_or a.files (Some note.descriptor) → (more : List NoteParts) → gathered limit a (note ∷ more) ≡ gathered limit b more
 unfolding gathered
 gathered_files limit a b note other is threads files more =
@@ -93,7 +93,7 @@ gathered_files limit a b note other is threads files more =
     first_here a.files note more is ∙ ap (λ o. option_or o (first_files more)) (sym files) in
     rw (t, f) refl
 
--- another note adds nothing
+-- A note of another type adds nothing.
 pub gathered_other : (limit : ℕ) (a : Gathered) (note : NoteParts) → is_prstatus note ≡ false → is_files note ≡ false → (more : List NoteParts) → gathered limit a (note ∷ more) ≡ gathered limit a more
 unfolding gathered
 gathered_other limit a note other none more =
@@ -106,7 +106,7 @@ or_none : {X : Type 0} (o : Option X) → option_or o None ≡ o
 or_none None = refl
 or_none (Some x) = refl
 
--- notes to the end
+-- No note is left.
 pub gathered_end : (limit : ℕ) (a : Gathered) → length a.threads ≤ limit → gathered limit a [] ≡ a
 unfolding gathered threads_of first_files
 gathered_end limit a few =
@@ -114,7 +114,7 @@ gathered_end limit a few =
     let f : option_or a.files None ≡ a.files = or_none a.files in
     rw (t, f) refl
 
--- a note taken, and those that are left
+-- One note is taken, and the others are left.
 pub gather_step : (limit own : ℕ) (a b : Gathered) (bytes rest : List ℕ) (note : NoteParts) → own ≡ limit → has_note bytes ≡ true → note ≡ note_at bytes → rest ≡ after_note bytes → ((more : List NoteParts) → gathered own a (note ∷ more) ≡ gathered own b more) → gathered limit b (notes rest) ≡ gathered limit a (notes bytes)
 gather_step limit own a b bytes rest note same has is after taken =
     ap (λ n. gathered n b (notes rest)) (sym same) ∙ sym (taken (notes rest))
@@ -125,14 +125,14 @@ or_false : (l m : Bool) → (not l || m) ≡ false → l ≡ true
 or_false true m is = refl
 or_false false m is = cc
 
--- a segment of notes that is not bad lies in the file
+-- A segment of notes that is not bad lies in the file.
 pub noted_inside : (file : List ℕ) (s : Segment) → is_bad file s ≡ false → s.kind ≡ 4 → s.offset + s.file_size ≤ length file
 unfolding is_bad
 noted_inside file s fine kind =
     let k : (s.kind == 4) ≡ true = eq-eqb s.kind 4 kind in
     leb-true (s.offset + s.file_size) (length file) (or_false (nat_le (s.offset + s.file_size) (length file)) _ (rw k at fine))
 
--- no segment up to here is bad
+-- No segment up to this one is bad.
 pub segment_fine : (file : List ℕ) (segments : List Segment) (k : ℕ) (d : Segment) → position (is_bad file) segments ≡ None → k < length segments → is_bad file (get_or segments k d) ≡ false
 segment_fine file segments k d fine inside = place_no (is_bad file) segments k d fine inside
 
@@ -155,7 +155,7 @@ take_front zero xs ys = refl
 take_front (suc n) [] ys = refl
 take_front (suc n) (x ∷ xs) ys = ap (λ l. x ∷ l) (take_front n xs ys)
 
--- the notes of one list and then of another
+-- The notes of one list, and then those of another.
 pub gathered_append : (limit : ℕ) (a : Gathered) (xs ys : List NoteParts) → gathered limit a (xs ++ ys) ≡ gathered limit (gathered limit a xs) ys
 unfolding gathered
 gathered_append limit a xs ys =
@@ -165,7 +165,7 @@ gathered_append limit a xs ys =
     ∙ sym (take_front limit (a.threads ++ threads_of xs) (threads_of ys)) in
     rw (t, first_or xs ys a.files) refl
 
--- a segment's notes, and those of the segments that are left
+-- The notes of one segment, and then those of the segments that are left.
 pub segments_step : (file : List ℕ) (segments : List Segment) (k limit own : ℕ) (d : Segment) (a b : Gathered) → k < length segments → own ≡ limit → b ≡ gathered own a (notes_of file (get_or segments k d)) → gathered limit b (all_notes file (drop (k + 1) segments)) ≡ gathered limit a (all_notes file (drop k segments))
 unfolding all_notes
 segments_step file segments k limit own d a b inside same is =

@@ -1,4 +1,4 @@
--- Build ids among notes, one by one.
+-- The first build id among notes, found one by one.
 use Rattle.std.proofs.Common.{◌≡◌, ℕ, ◌+◌, ◌<◌, ◌≤◌, ◌^◌, true, false, List, [], ◌∷◌, ◌++◌, Option, Some, None, length, drop, get_or, find, refl, sym, ◌∙◌, ap}
 use Rattle.std.specs.Option.{option_map, option_or}
 use Rattle.std.specs.List.{flat_map}
@@ -21,7 +21,7 @@ pub first_none : first_id [] ≡ None
 unfolding first_id
 first_none = refl
 
--- an id in the note in front, or not
+-- The first note has a build id, or has none.
 pub id_in_front : (bytes : List ℕ) (note : NoteParts) → has_note bytes ≡ true → note ≡ note_at bytes → is_build_id note ≡ true → Some note.descriptor ≡ first_id (notes bytes)
 id_in_front bytes note has is test =
     sym (ap first_id (notes_here bytes has ∙ ap (λ n. n ∷ notes (after_note bytes)) (sym is)) ∙ first_front note (notes (after_note bytes)) test)
@@ -37,7 +37,7 @@ id_of_none bytes none = sym (ap first_id (notes_end bytes none) ∙ first_none)
 pub id_at_end : (bytes : List ℕ) → length bytes ≡ 0 → None ≡ first_id (notes bytes)
 id_at_end bytes none = sym (ap first_id (notes_of_none bytes none) ∙ first_none)
 
--- a place past the addresses has no notes
+-- There are no notes at or above address 2^64.
 pub id_past : (memory : Memory) (a n : ℕ) → 2 ^ 64 ≤ a → None ≡ first_id (notes (front_at memory a n))
 id_past memory a n past = id_at_end (front_at memory a n) (past_empty memory a n past)
 
@@ -57,7 +57,7 @@ id_behind : (first later : List NoteParts) → first_id first ≡ None → first
 unfolding first_id
 id_behind first later none = ap (option_map (λ note. note.descriptor)) (find-append is_build_id first later) ∙ or_none (find is_build_id first) (find is_build_id later) none
 
--- an id of this segment, or none
+-- This segment has a build id, or has none.
 pub id_here : {X : Type 0} (f : X → List NoteParts) (all : List X) (k : ℕ) (d : X) (id : List ℕ) → k < length all → Some id ≡ first_id (f (get_or all k d)) → Some id ≡ first_id (flat_map f (drop k all))
 id_here f all k d id inside is =
     sym (ap (λ l. first_id (flat_map f l)) (drop_more all k d inside) ∙ id_before (f (get_or all k d)) (flat_map f (drop (k + 1) all)) id (sym is))

@@ -12,12 +12,12 @@ use Rattle.core_file.specs.LoadedImages.{is_load, is_file_header, table_at, head
 use Rattle.core_file.proofs.FrontLemmas.{front_past, front_none}
 use Rattle.core_file.proofs.BoolLemmas.{and_false}
 
--- no file header
+-- There is no file header.
 pub headers_none : (memory : Memory) (start : ℕ) → is_file_header (front_at memory start 64) ≡ false → [] ≡ headers_at memory start
 unfolding headers_at headers_by
 headers_none memory start none = rw none refl
 
--- the table is not wholly in memory
+-- The table of program headers is not wholly in memory.
 pub headers_cut : (memory : Memory) (start at size count : ℕ) → count ≡ (header_of (front_at memory start 64)).program_count → at ≡ start + (header_of (front_at memory start 64)).program_table → size ≡ 56 * count → (length (front_at memory at size) == size) ≡ false → [] ≡ headers_at memory start
 unfolding headers_at headers_by table_at
 headers_cut memory start at size count counts is sizes cut =
@@ -25,7 +25,7 @@ headers_cut memory start at size count counts is sizes cut =
     rw (← counts, ← is, ← sizes) cut in
     rw (c, and_false (is_file_header (front_at memory start 64))) refl
 
--- it is
+-- The table of program headers is wholly in memory.
 pub headers_whole : (memory : Memory) (start at size count : ℕ) → is_file_header (front_at memory start 64) ≡ true → count ≡ (header_of (front_at memory start 64)).program_count → at ≡ start + (header_of (front_at memory start 64)).program_table → size ≡ 56 * count → length (front_at memory at size) ≡ size → segments_from (front_at memory at size) 0 count ≡ headers_at memory start
 unfolding headers_at headers_by table_at
 headers_whole memory start at size count has counts is sizes whole =
@@ -44,7 +44,7 @@ past_empty memory a n past =
     let z : a + 0 ≡ a = omega arith in
     ap length (front_past memory 0 n a (front_none memory a) (omega arith) (omega arith)) ∙ front_none memory a
 
--- the table stands past the addresses
+-- The table of program headers begins at or above address 2^64.
 pub headers_past : (memory : Memory) (start : ℕ) → is_file_header (front_at memory start 64) ≡ true → 2 ^ 64 ≤ start + (header_of (front_at memory start 64)).program_table → [] ≡ headers_at memory start
 unfolding headers_at headers_by table_at
 headers_past memory start has past =

@@ -4,7 +4,7 @@ use Rattle.std.proofs.lemmas.List.{get_or-append_right, get_or_append_left, get_
 use Rattle.std.proofs.Math.Nat.{mul-div-le, lt_of_mul-lt-mul_left}
 use Rattle.core_file.specs.internal.Joined.{block_of, joined, AreInside}
 
--- each block has `size` bytes
+-- Each block has `size` bytes.
 pub length_block : (size : ℕ) (held : List ℕ) (p : ℕ) → size * p ≤ length held → length (block_of size held p) ≡ size
 unfolding block_of
 length_block size held zero inside = length-replicate size 0
@@ -17,7 +17,7 @@ length_joined size held (p ∷ places) inside =
     length-append (block_of size held p) (joined size held places)
     ∙ omega (arith, length_block size held p inside.0, length_joined size held places inside.1)
 
--- the byte at a place is that of its block
+-- The byte at a place is a byte of the block that contains the place.
 byte_of : (size : ℕ) (held places : List ℕ) (q r : ℕ) → AreInside size (length held) places → q < length places → r < size → get_or (joined size held places) (size * q + r) 0 ≡ get_or (block_of size held (get_or places q 0)) r 0
 unfolding joined
 byte_of size held [] q r inside within short = absurd (omega arith)
@@ -33,7 +33,7 @@ byte_of size held (p ∷ places) (suc q) r inside within short =
     ∙ get_or-append-add (block_of size held p) (joined size held places) (size * q + r) 0
     ∙ byte_of size held places q r inside.1 (omega arith) short
 
--- a place in front of the end of the blocks lies in one of them
+-- A place before the end of the blocks lies in one of them.
 pub place_in_block : (size n at : ℕ) → 0 < size → at < size * n → at / size < n
 place_in_block size n at some before = lt_of_mul-lt-mul_left size (omega (arith, mul-div-le at size))
 
@@ -42,7 +42,7 @@ inside_at size len [] q inside within = absurd (omega arith)
 inside_at size len (p ∷ places) zero inside within = inside.0
 inside_at size len (p ∷ places) (suc q) inside within = inside_at size len places q inside.1 (omega arith)
 
--- the byte at a place in front of the end of the blocks
+-- The byte at a place before the end of the blocks.
 byte_before : (size : ℕ) (held places tail : List ℕ) (at : ℕ) → 0 < size → AreInside size (length held) places → at < size * length places → get_or (joined size held places ++ tail) at 0 ≡ get_or (block_of size held (get_or places (at / size) 0)) (at % size) 0
 byte_before size held places tail at some inside before =
     let l : length (joined size held places) ≡ size * length places = length_joined size held places inside in
@@ -74,12 +74,12 @@ byte_of_block size held places tail at some inside before nonzero =
     let r : at % size < size = omega arith in
     byte_before size held places tail at some inside before ∙ of_held size held (get_or places (at / size) 0) (at % size) nonzero r
 
--- the byte behind the blocks
+-- The byte at a place after the blocks.
 pub byte_behind : (size : ℕ) (held places tail : List ℕ) (at : ℕ) → AreInside size (length held) places → size * length places ≤ at → get_or (joined size held places ++ tail) at 0 ≡ get_or tail (at - size * length places) 0
 byte_behind size held places tail at inside behind =
     get_or-append_right (joined size held places) tail (size * length places) at 0 (length_joined size held places inside) behind
 
--- a byte of a held block is held
+-- A byte of a held block is among the held bytes.
 pub block_before : (size len p r : ℕ) → 0 < p → r < size → size * p ≤ len → size * (p - 1) + r < len
 block_before size len zero r some short inside = absurd (omega arith)
 block_before size len (suc k) r some short inside = let e : suc k - 1 ≡ k = omega arith in rw e (omega arith)

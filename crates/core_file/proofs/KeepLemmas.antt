@@ -1,4 +1,4 @@
--- Blocks that are kept one after the other.
+-- Blocks that are added one after the other.
 use Rattle.std.proofs.Common.{◌≡◌, ℕ, zero, suc, ◌+◌, ◌*◌, ◌/◌, ◌^◌, ◌<◌, ◌≤◌, true, false, cond, List, [], ◌∷◌, ◌++◌, length, take, drop, refl, sym, ◌∙◌, ap, arith, add-one, length-append, append_assoc}
 use Rattle.std.proofs.lemmas.Bool.{eqb-true, lt-ltb, le-ltb}
 use Rattle.std.specs.Prelude.{replicate, ◌==◌, not}
@@ -17,7 +17,7 @@ use Rattle.core_file.proofs.BoolLemmas.{and_left, and_right}
 use Rattle.core_file.proofs.JoinedLemmas.{length_joined}
 use Rattle.core_file.proofs.BlockLemmas.{held_full, held_short, past_more, past_room}
 
--- one place more
+-- One block more.
 joined_push : (size : ℕ) (held places : List ℕ) (p : ℕ) → joined size held (places ++ p ∷ []) ≡ joined size held places ++ block_of size held p
 unfolding joined
 joined_push size held [] p = append-nil (block_of size held p)
@@ -25,7 +25,7 @@ joined_push size held (q ∷ places) p =
     ap (λ l. block_of size held q ++ l) (joined_push size held places p)
     ∙ sym (append_assoc (block_of size held q) (joined size held places) (block_of size held p))
 
--- held bytes more
+-- A block does not change if held bytes are added.
 block_same : (size : ℕ) (held more : List ℕ) (p : ℕ) → size * p ≤ length held → block_of size (held ++ more) p ≡ block_of size held p
 unfolding block_of
 block_same size held more zero inside = refl
@@ -44,7 +44,7 @@ inside_push : (size n m : ℕ) (places : List ℕ) (p : ℕ) → AreInside size 
 inside_push size n m [] p inside more last = (last, tt)
 inside_push size n m (q ∷ places) p inside more last = (omega (arith, inside.0), inside_push size n m places p inside.1 more last)
 
--- zeros are a block of zeros
+-- Bytes that are all zeros are a block of zeros.
 zeros_are : (n : ℕ) (bytes : List ℕ) → length bytes ≡ n → list_all (λ b. b == 0) bytes ≡ true → bytes ≡ replicate n 0
 zeros_are zero [] long zeros = refl
 zeros_are zero (b ∷ bytes) long zeros = absurd (omega arith)
@@ -54,7 +54,7 @@ zeros_are (suc n) (b ∷ bytes) long zeros =
     let t : list_all (λ c. c == 0) bytes ≡ true = and_right (b == 0) (list_all (λ c. c == 0) bytes) zeros in
     ap (λ c. c ∷ bytes) h ∙ ap (λ l. 0 ∷ l) (zeros_are n bytes (omega arith) t)
 
--- nothing changed but the tail
+-- Only the bytes after the blocks changed.
 pub kept_same : (a b : Blocks) → SameSizes a b → b.count ≡ a.count → b.places.items ≡ a.places.items → b.held.items ≡ a.held.items → IsKept a → IsKept b
 kept_same a b sizes count places held kept = record {
   some = rw sizes.size kept.some;
@@ -71,7 +71,7 @@ kept_same a b sizes count places held kept = record {
 pub joined_kept : (a b : Blocks) → SameSizes a b → b.places.items ≡ a.places.items → b.held.items ≡ a.held.items → joined b.size b.held.items b.places.items ≡ joined a.size a.held.items a.places.items
 joined_kept a b sizes places held = rw (sizes.size, places, held) refl
 
--- a block of zeros
+-- A block of zeros is added.
 pub joined_zeros : (a b : Blocks) → IsKept a → length a.tail.items ≡ a.size → list_all (λ c. c == 0) a.tail.items ≡ true → SameSizes a b → b.places.items ≡ a.places.items ++ 0 ∷ [] → b.held.items ≡ a.held.items → joined b.size b.held.items b.places.items ≡ joined a.size a.held.items a.places.items ++ a.tail.items
 unfolding block_of
 joined_zeros a b kept full zeros sizes places held =
@@ -95,7 +95,7 @@ kept_zeros a b kept full zeros sizes count places held =
       fits = rw sizes.limit kept.fits;
     }
 
--- a held block
+-- A held block is added.
 pub joined_block : (a b : Blocks) → IsKept a → length a.tail.items ≡ a.size → SameSizes a b → b.places.items ≡ a.places.items ++ (a.count + 1) ∷ [] → b.held.items ≡ a.held.items ++ a.tail.items → joined b.size b.held.items b.places.items ≡ joined a.size a.held.items a.places.items ++ a.tail.items
 unfolding block_of
 joined_block a b kept full sizes places held =
@@ -127,17 +127,17 @@ kept_block a b kept full some sizes room count places held =
       fits = rw sizes.limit kept.fits;
     }
 
--- no room for a held block
+-- There is no room for a held block.
 pub no_room : (a : Blocks) → IsKept a → length a.tail.items ≡ a.size → list_all (λ c. c == 0) a.tail.items ≡ false → a.room < a.size + length a.held.items → a.room < a.size * held_blocks a.size (all_bytes a)
 no_room a kept full some past = rw (count_by_one a kept full some) (omega (arith, kept.counted))
 
--- there are few held blocks, if they are not very small
+-- There are less than 2^31 held blocks.
 pub few_blocks : (a : Blocks) → IsKept a → a.size + length a.held.items ≤ a.room → a.count < 2 ^ 31
 few_blocks a kept room =
     let e : 4 * (a.count + 1) ≤ a.size * (a.count + 1) = mul-le-mul_right (a.count + 1) kept.large in
     omega (arith, kept.counted, kept.few)
 
--- a block is ended: what was behind the blocks is a block
+-- The bytes after the blocks become a block.
 pub bytes_ended : (a b c : Blocks) → SameSizes a b → joined b.size b.held.items b.places.items ≡ joined a.size a.held.items a.places.items ++ a.tail.items → c.size ≡ b.size → c.held ≡ b.held → c.places ≡ b.places → c.tail.items ≡ [] → all_bytes c ≡ all_bytes a
 bytes_ended a b c sizes joins size held places empty =
     rw (empty, size, held, places) (append-nil (joined b.size b.held.items b.places.items) ∙ joins)
@@ -147,25 +147,25 @@ bytes_dropped a b c joins size held places empty =
     let e : all_bytes c ≡ joined a.size a.held.items a.places.items = rw (empty, size, held, places) (append-nil (joined b.size b.held.items b.places.items) ∙ joins) in
     rw e (omega (arith, length-append (joined a.size a.held.items a.places.items) a.tail.items))
 
--- where a front of the bytes has no room, neither have they
+-- If a prefix of the added bytes is already too much, all of them are.
 pub past_front : (a b : Blocks) (front rest bytes : List ℕ) → 0 < a.size → joined b.size b.held.items b.places.items ≡ joined a.size a.held.items a.places.items → b.tail.items ≡ a.tail.items ++ front → front ++ rest ≡ bytes → a.room < a.size * held_blocks a.size (all_bytes b) → is_past a.size a.limit a.room (all_bytes a ++ bytes) ≡ true
 past_front a b front rest bytes some joins tail whole past =
     let e : all_bytes a ++ bytes ≡ all_bytes b ++ rest =
     ap (λ l. all_bytes a ++ l) (sym whole) ∙ rw (joins, tail) (simp append_assoc) in
     rw e (past_more a.size a.limit a.room (all_bytes b) rest some (past_room a.size a.limit a.room (all_bytes b) past))
 
--- a fault is handed on with what it means
+-- A fault is returned, and what it means still holds.
 pub handed_on : {A B F : Type 0} → (stop : Stop F) (P : A → Type 0) (S : B → Type 0) (Q R : Type 0) → MatchStop (Err stop) P (λ _. Q) (Unit {0}) → (Q → R) → MatchStop (Err stop) S (λ _. R) (Unit {0})
 handed_on (Fault f) P S Q R is leads = leads is
 handed_on NoMemory P S Q R is leads = tt
 
--- how many bytes there are
+-- How many bytes there are.
 pub length_all : (b : Blocks) → IsKept b → length (all_bytes b) ≡ b.size * length b.places.items + length b.tail.items
 length_all b kept =
     length-append (joined b.size b.held.items b.places.items) b.tail.items
     ∙ ap (λ n. n + length b.tail.items) (length_joined b.size b.held.items b.places.items kept.inside)
 
--- more than the limit are too many, and what is held never is
+-- More bytes than the limit are too many; the held bytes never are.
 pub past_limit : (size limit room : ℕ) (xs : List ℕ) → limit < length xs → is_past size limit room xs ≡ true
 unfolding is_past
 past_limit size limit room xs more = rw (lt-ltb limit (length xs) more) refl
@@ -182,19 +182,19 @@ held_is_short b held short =
 pub few_places : (b : Blocks) → IsHeld b → b.size * length b.places.items < 2 ^ 63
 few_places b held = omega (arith, length_all b held.kept, held.long, held.kept.fits)
 
--- no block
+-- No block is held.
 pub none_held : (size : ℕ) → 0 < size → held_blocks size [] ≡ 0
 unfolding held_blocks first_blocks
 none_held size some = let e : 0 / size ≡ 0 = omega arith in rw e refl
 
--- all is added, and not too much
+-- All bytes are added, and they are not too many.
 pub all_added : (a b : Blocks) (rest bytes : List ℕ) → IsHeld b → length b.tail.items < b.size → SameSizes a b → all_bytes b ++ rest ≡ all_bytes a ++ bytes → length rest ≡ 0 → (all_bytes b ≡ all_bytes a ++ bytes) × (is_past a.size a.limit a.room (all_bytes a ++ bytes) ≡ false)
 all_added a b rest bytes held short sizes added none =
     let r : rest ≡ [] = nil_from_length rest none in
     let e : all_bytes b ≡ all_bytes a ++ bytes = sym (append-nil (all_bytes b)) ∙ ap (λ l. all_bytes b ++ l) (sym r) ∙ added in
     (e, rw (← e, ← sizes.size, ← sizes.limit, ← sizes.room) (held_is_short b held short))
 
--- the sizes of a stream are those of the limits of a core file
+-- The sizes of a stream are the limits of a core file.
 pub stream_past : (b : Blocks) → IsStream b → (bytes : List ℕ) → is_past b.size b.limit b.room bytes ≡ is_too_long bytes
 unfolding is_too_long
 stream_past b stream bytes = rw (stream.size, stream.limit, stream.room) refl
@@ -208,7 +208,7 @@ stream_more a b stream sizes held short = record {
   room = sizes.room ∙ stream.room;
 }
 
--- no byte
+-- An empty stream.
 pub new_stream : (b : Blocks) → b.size ≡ 4096 → b.limit ≡ 2 ^ 40 → b.room ≡ 2 ^ 32 → b.count ≡ 0 → b.places.items ≡ [] → b.held.items ≡ [] → b.tail.items ≡ [] → IsStream b
 unfolding joined
 new_stream b size limit room count places held tail =

@@ -24,7 +24,7 @@ pub stretches_end : (file : List ℕ) (i : ℕ) (done : List Stretch) → done +
 unfolding stretches_of
 stretches_end file i done = append-nil done
 
--- a segment that gives bytes, and one that gives none
+-- The stretch of a segment that gives bytes is added; a segment that gives none adds nothing.
 pub stretch_more : (file : List ℕ) (i : ℕ) (s : Segment) (later : List Segment) (done : List Stretch) → s.kind ≡ 1 → 0 < present file s → (done ++ stretch_of file i s ∷ []) ++ stretches_of file (i + 1) later ≡ done ++ stretches_of file i (s ∷ later)
 unfolding stretches_of
 stretch_more file i s later done load some =
@@ -40,7 +40,7 @@ pub stretches_push : (xs : List Stretch) (x : Stretch) → AreStretches xs → x
 stretches_push [] x all last = (last, tt)
 stretches_push (y ∷ xs) x all last = (all.0, stretches_push xs x all.1 last)
 
--- the segment that was found gives the byte
+-- The segment that was found gives the byte.
 find_by : {X : Type 0} (p : X → Bool) (y x : X) (b : Bool) (rest : Option X) → p y ≡ b → cond b (Some y) rest ≡ Some x → (rest ≡ Some x → p x ≡ true) → p x ≡ true
 find_by p y x true rest test is later = let e : y ≡ x = cc in ap p (sym e) ∙ test
 find_by p y x false rest test is later = later is
@@ -49,7 +49,7 @@ pub find_true : {X : Type 0} (p : X → Bool) (xs : List X) (x : X) → find p x
 find_true p [] x is = cc
 find_true p (y ∷ xs) x is = find_by p y x (p y) (find p xs) refl is (find_true p xs x)
 
--- what stands behind a place, and the element there
+-- The elements from a place on.
 drop_next : {X : Type 0} (i : ℕ) (xs ys : List X) (x : X) → drop i xs ≡ x ∷ ys → drop (i + 1) xs ≡ ys
 drop_next i xs ys x is = sym (drop_drop 1 i xs) ∙ ap (drop 1) is
 
@@ -61,7 +61,7 @@ here i xs ys x is =
     ap (λ j. get_or xs j x) z ∙ sym (get_or-drop i xs 0 x) ∙ ap (λ m. get_or m 0 x) is in
     slice_get-get_or xs i x (omega (arith, length-drop i xs)) ∙ ap Some e
 
--- a segment gives an address a byte where it gives any and its stretch has the address
+-- A segment gives an address a byte if it gives any bytes and its stretch has the address.
 gives_number : (k : Bool) (address n a : ℕ) → a < 2 ^ 64 → (k && (nat_le address a && nat_lt a (address + n))) ≡ ((k && nat_lt 0 n) && (nat_le address a && nat_le a (min (address + (n - 1)) (2 ^ 64 - 1))))
 gives_number true address n a below = grind (arith, nat_tests)
 gives_number false address n a below = refl
@@ -87,7 +87,7 @@ index_of : (all : List Segment) (stretches : List Stretch) (a : ℕ) (found : Op
 index_of all stretches a None = refl
 index_of all stretches a (Some s) = refl
 
--- the first stretch at an address is that of the first segment that gives it a byte
+-- The first stretch at an address is that of the first segment that gives the address a byte.
 pub are_firsts : (file : List ℕ) (segments : List Segment) (steps : Stepping (Option FirstItem)) → ((a : ℕ) → a < 2 ^ 64 → value_at None steps a ≡ first_item (stretches_of file 0 segments) a) → AreFirsts file segments steps
 unfolding first_item first_at
 are_firsts file segments steps is a below =
@@ -100,7 +100,7 @@ and_parts true true c is = (refl, refl, is)
 and_parts true false c is = cc
 and_parts false b c is = cc
 
--- what a segment that gives an address a byte has
+-- What is known of a segment that gives an address a byte.
 gives_parts : (file : List ℕ) (a : ℕ) (s : Segment) → gives file a s ≡ true → ((s.kind == pt_load) ≡ true) × (nat_le s.address a ≡ true) × (nat_lt a (s.address + present file s) ≡ true)
 unfolding gives
 gives_parts file a s is = and_parts (s.kind == pt_load) (nat_le s.address a) (nat_lt a (s.address + present file s)) is
@@ -115,7 +115,7 @@ pub gives_high : (file : List ℕ) (a : ℕ) (s : Segment) → gives file a s �
 unfolding present
 gives_high file a s is = omega (arith, gives_low file a s is, gives_end file a s is)
 
--- it gives one to all addresses from there up to its end
+-- The segment gives a byte to all addresses from this one up to its end.
 pub gives_more : (file : List ℕ) (a j : ℕ) (s : Segment) → gives file a s ≡ true → a + j < s.address + present file s → gives file (a + j) s ≡ true
 unfolding gives
 gives_more file a j s is before =
@@ -128,7 +128,7 @@ same_branches : {X : Type 0} (b : Bool) (x : X) → (if b then x else x) ≡ x
 same_branches true x = refl
 same_branches false x = refl
 
--- where no segment gives one there is no byte, and where one does there is
+-- An address has a byte if and only if some segment gives it one.
 pub none_at : (memory : Memory) (a : ℕ) → find (gives memory.file a) memory.segments ≡ None → byte_at memory a ≡ None
 unfolding byte_at
 none_at memory a none = rw none (same_branches (nat_lt a address_end) None)
@@ -140,7 +140,7 @@ also_by p q y x true false rest others test other is passes later =
     let f : false ≡ true = sym other ∙ ap q e ∙ passes in cc
 also_by p q y x false false rest others test other is passes later = later is
 
--- what one test finds another finds too, if it passes that
+-- If an element found by one test passes another test, the other test finds an element too.
 found_also : {X : Type 0} (p q : X → Bool) (xs : List X) (x : X) → find p xs ≡ Some x → q x ≡ true → is_some (find q xs) ≡ true
 found_also p q [] x is passes = cc
 found_also p q (y ∷ xs) x is passes =

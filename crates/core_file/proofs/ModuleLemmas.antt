@@ -1,4 +1,4 @@
--- Modules, one by one.
+-- The list of modules, to which one after the other is added.
 use Rattle.std.proofs.Common.{◌≡◌, ℕ, ◌<◌, ◌≤◌, ◌^◌, Bool, true, false, List, [], ◌∷◌, ◌++◌, Option, None, Some, length, take, refl, sym, ◌∙◌, ap, arith, append_assoc}
 use Rattle.std.specs.Prelude.{◌&&◌, ◌||◌, nat_le, nat_lt, map}
 use Rattle.std.specs.List.{list_any}
@@ -22,7 +22,7 @@ use Rattle.core_file.specs.internal.Listings.{IsListing}
 use Rattle.core_file.specs.internal.FilePlaces.{file_view}
 use Rattle.core_file.proofs.BoolLemmas.{and_false}
 
--- a mapping of the file more, or one that is not
+-- The next mapping is of the same file, or it is not.
 pub end_more : (text : List ℕ) (end : ℕ) (f : MappedFile) (later : List MappedFile) → bytes_eq f.text text ≡ true → 0 < f.offset → end_behind text f.end later ≡ end_behind text end (f ∷ later)
 unfolding end_behind
 end_more text end f later same some = rw (same, lt-ltb 0 f.offset some) refl
@@ -41,7 +41,7 @@ pub end_none : (note text : List ℕ) (end : ℕ) (files : List FilePlace) → l
 unfolding end_behind
 end_none note text end files none = rw (nil_from_length files none) refl
 
--- one module more: its pages
+-- The pages of one module more.
 own_more : (memory : Memory) (modules : List Module) (m : Module) (a : ℕ) → is_own_page memory (modules ++ m ∷ []) a ≡ (is_own_page memory modules a || ((lies_in m a && has_first_page a m.start (image_at memory m.start)) || false))
 unfolding is_own_page
 own_more memory modules m a = list_any-append (λ n. lies_in n a && has_first_page a n.start (image_at memory n.start)) modules (m ∷ [])
@@ -64,7 +64,7 @@ pages_loaded memory old new modules m image some is added a =
     added a ∙ ap (λ c. c || (lies_in m a && has_first_page a m.start (Some image))) (is a)
     ∙ sym (own_more memory modules m a ∙ or_false (is_own_page memory modules a) _ (lies_in m a && has_first_page a m.start (Some image)) (rw some refl))
 
--- its code
+-- The code of one module more.
 or_assoc : (x y z w : Bool) → z ≡ w → (x || (y || (z || false))) ≡ ((x || y) || w)
 or_assoc true y z w is = refl
 or_assoc false true z w is = refl
@@ -92,7 +92,7 @@ code_loaded memory modules m image old new some is added a below =
     added a below ∙ ap (λ c. c || has_code_by m.start a (Some image)) (is a below)
     ∙ sym (code_more memory modules m a (has_code_by m.start a (Some image)) (rw some refl))
 
--- the modules of the mappings that are left
+-- The modules of the mappings that are left.
 pub listed_begin : (limit : ℕ) (memory : Memory) (files : List MappedFile) (before : List Module) → before ≡ [] → take limit (before ++ modules_from memory before files) ≡ modules_in limit memory files
 unfolding modules_in
 listed_begin limit memory files before none = rw none refl
@@ -118,7 +118,7 @@ pub module_is : (memory : Memory) (f : MappedFile) (later : List MappedFile) (im
 unfolding module_of
 module_is memory f later image is = ap (module_by memory f later) is
 
--- a module without headers in memory, and one with them
+-- A module without headers in memory is added, or one with them.
 pub listing_plain : (memory : Memory) (old new : Listing) (m : Module) (start : ℕ) → m.start ≡ start → image_at memory start ≡ None → IsListing memory old → new.modules.items ≡ old.modules.items ++ m ∷ [] → new.pages ≡ old.pages → new.code ≡ old.code → IsListing memory new
 listing_plain memory old new m start starts none is modules pages code =
     let n : image_at memory m.start ≡ None = ap (image_at memory) starts ∙ none in

@@ -1,4 +1,4 @@
--- What follows the last slash, found from the front.
+-- What follows the last slash of a text, found from the front.
 use Rattle.std.proofs.Common.{◌≡◌, ℕ, Bool, true, false, List, [], ◌∷◌, refl, sym, ◌∙◌, ap, length, if◌then◌else◌}
 use Rattle.std.specs.Prelude.{◌==◌, ◌||◌}
 use Rattle.std.proofs.lemmas.Bool.{eq-eqb}
@@ -10,7 +10,7 @@ step : (has : Bool) (b : ℕ) (later name : List ℕ) → (b == 47) ≡ true →
 step true b later name is = refl
 step false b later name is = rw is refl
 
--- a slash in front, or none
+-- The next byte is a slash, or it is not.
 pub slash_here : (b : ℕ) (later name : List ℕ) → b ≡ 47 → behind_or later later ≡ behind_or (b ∷ later) name
 unfolding behind_or behind_slash
 slash_here b later name is =
@@ -43,7 +43,7 @@ unfolding behind_or
 begin_by true text is = rw is refl
 begin_by false text is = rw is (sym (none_behind text is))
 
--- at the begin and at the end
+-- The search at the start and at the end of the text.
 pub slash_begin : (text : List ℕ) → behind_or text text ≡ behind_slash text
 slash_begin text = begin_by (has_slash text) text refl
 

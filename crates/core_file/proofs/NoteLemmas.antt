@@ -1,4 +1,4 @@
--- Notes at a place, and those behind it.
+-- Notes at a place of the bytes, and the notes after them.
 use Rattle.std.proofs.Common.{◌≡◌, ℕ, zero, suc, ◌+◌, ◌-◌, ◌<◌, ◌≤◌, true, false, List, [], ◌∷◌, length, take, drop, min, if◌then◌else◌, refl, sym, ◌∙◌, ap, arith, length-drop, ◌⊎◌, inl, inr}
 use Rattle.leb_cursor.specs.Readings.{fixed_sum}
 use Rattle.std.proofs.lemmas.List.{drop_all}
@@ -12,7 +12,7 @@ use Rattle.core_file.specs.declared.notes.NotePlace.{NotePlace}
 use Rattle.core_file.specs.internal.NotePlaces.{note_view}
 use Rattle.core_file.proofs.PartLemmas.{drop_drop}
 
--- a number at a place of what is left stands at a place of the whole
+-- A number in the rest of the bytes is a number in all bytes.
 pub number_behind : (bytes : List ℕ) (at k n : ℕ) → n ≡ at + k → u32_at bytes n ≡ u32_at (drop at bytes) k
 unfolding u32_at
 number_behind bytes at k n is = ap (λ l. fixed_sum 4 l) (ap (λ i. drop i bytes) is ∙ sym (drop_drop k at bytes))
@@ -28,16 +28,16 @@ rest_by bytes at k m (inr past) inside =
 min_cases : (a b : ℕ) → (min a b ≡ b) ⊎ ((min a b ≡ a) × (a ≤ b))
 min_cases a b = grind arith
 
--- what is behind a note, also where its padding is not there
+-- The bytes after a note, even if its padding is missing.
 pub rest_behind : (bytes : List ℕ) (at k n : ℕ) → at ≤ length bytes → n ≡ at + min (length bytes - at) k → drop n bytes ≡ drop k (drop at bytes)
 rest_behind bytes at k n inside is =
     ap (λ i. drop i bytes) is ∙ rest_by bytes at k (min (length bytes - at) k) (min_cases (length bytes - at) k) inside
 
--- the two lengths of the note at a place
+-- The two lengths in the note at a place.
 name_len_at : (bytes : List ℕ) (at : ℕ) → u32_at (drop at bytes) 0 ≡ u32_at bytes at
 name_len_at bytes at = let e : at ≡ at + 0 = omega arith in sym (number_behind bytes at 0 at e)
 
--- no note fits at the place
+-- No note fits at the place.
 pub no_fit : (bytes : List ℕ) (at name_len size : ℕ) → at ≤ length bytes → name_len ≡ u32_at bytes at → size ≡ u32_at bytes (at + 4) → length bytes - at < 12 + padded name_len + size → has_note (drop at bytes) ≡ false
 unfolding has_note note_len
 no_fit bytes at name_len size inside name descriptor past =
@@ -46,7 +46,7 @@ no_fit bytes at name_len size inside name descriptor past =
     let f : u32_at (drop at bytes) 4 ≡ size = sym (number_behind bytes at 4 (at + 4) refl) ∙ sym descriptor in
     rw (e, f, l) (grind (arith, nat_tests))
 
--- a note fits at the place
+-- A note fits at the place.
 pub fits_here : (bytes : List ℕ) (at : ℕ) → at ≤ length bytes → 12 + padded (u32_at bytes at) + u32_at bytes (at + 4) ≤ length bytes - at → has_note (drop at bytes) ≡ true
 unfolding has_note note_len
 fits_here bytes at inside fits =
@@ -82,7 +82,7 @@ after_less : (n : ℕ) (bytes : List ℕ) → length bytes ≤ suc n → length 
 unfolding after_note
 after_less n bytes within = omega (arith, length-drop (12 + padded (u32_at bytes 0) + padded (u32_at bytes 4)) bytes)
 
--- more steps than bytes find no more notes
+-- More steps than bytes find no more notes.
 notes_enough : (n m : ℕ) (bytes : List ℕ) → length bytes ≤ n → length bytes ≤ m → notes_in n bytes ≡ notes_in m bytes
 unfolding notes_in
 notes_enough zero zero bytes a b = refl
@@ -99,7 +99,7 @@ left_enough (suc n) zero bytes a b = rw (no_bytes bytes b) refl
 left_enough (suc n) (suc m) bytes a b =
     ap (λ l. if has_note bytes then l else bytes) (left_enough n m (after_note bytes) (after_less n bytes a) (after_less m bytes b))
 
--- the notes are the one in front and those after it
+-- The notes are the first one and those after it.
 pub notes_each : (bytes : List ℕ) → notes bytes ≡ (if has_note bytes then note_at bytes ∷ notes (after_note bytes) else [])
 unfolding notes notes_in
 notes_each bytes =
@@ -122,7 +122,7 @@ notes_here bytes is = notes_each bytes ∙ rw is refl
 pub notes_end : (bytes : List ℕ) → has_note bytes ≡ false → notes bytes ≡ []
 notes_end bytes none = notes_each bytes ∙ rw none refl
 
--- whether all notes are whole, by the one in front
+-- Whether all notes are whole, if the first one is.
 pub whole_here : (bytes : List ℕ) → has_note bytes ≡ true → is_whole_note (note_at bytes) ≡ true → are_whole_notes bytes ≡ are_whole_notes (after_note bytes)
 unfolding are_whole_notes
 whole_here bytes is whole =

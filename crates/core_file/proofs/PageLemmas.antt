@@ -11,7 +11,7 @@ use Rattle.std.proofs.lemmas.Bool.Decides.{nat_tests}
 use Rattle.core_file.specs.Modules.{is_page}
 use Rattle.core_file.proofs.BoolLemmas.{and_false}
 
--- the tests of a page that was added
+-- The test for a set to which a page was added.
 added : (b e c rest : Bool) → (e ≡ true → b ≡ true) → (cond e true c || (b && rest)) ≡ (c || (b && (e || rest)))
 added b true true rest holds = refl
 added b true false rest holds = rw (holds refl) refl
@@ -41,7 +41,7 @@ page_above set start end page high a rest =
     passed (nat_le start a && nat_lt a end) (page == a) (contains nat_cmp set a) rest
     (λ is. let e : page ≡ a = eqb-true page a is in let n : nat_lt a end ≡ false = grind (arith, nat_tests) in rw n (and_false (nat_le start a)))
 
--- of a test of the elements, the one in front and those behind it
+-- A test of any element is that of the first one or of those after it.
 pub any_next : {X : Type 0} (f : X → Bool) (xs : List X) (k : ℕ) (d : X) → k < length xs → list_any f (drop k xs) ≡ (f (get_or xs k d) || list_any f (drop (k + 1) xs))
 any_next f xs k d inside = ap (list_any f) (drop_more xs k d inside)
 

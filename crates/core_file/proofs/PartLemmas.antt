@@ -1,4 +1,4 @@
--- Parts of lists, and parts of these.
+-- Parts of lists, and parts of such parts.
 use Rattle.std.proofs.Common.{◌≡◌, ℕ, zero, suc, ◌+◌, ◌-◌, ◌<◌, ◌≤◌, List, [], ◌∷◌, length, take, drop, get_or, refl, sym, ◌∙◌, ap, arith, length-drop}
 use Rattle.std.proofs.lemmas.List.{get_or-drop, get_or-take, length-take-le, drop-take}
 use Rattle.std.proofs.Math.Seq.{drop-nil}

@@ -16,20 +16,20 @@ first_is p x xs = not_cond (p x) (position_or_len p xs)
 at_drop : {X : Type 0} (p : X → Bool) (xs : List X) (k : ℕ) (d : X) → k < length xs → position_or_len p (drop k xs) ≡ cond (p (get_or xs k d)) 0 (1 + position_or_len p (drop (k + 1) xs))
 at_drop p xs k d inside = ap (position_or_len p) (drop_more xs k d inside) ∙ first_is p (get_or xs k d) (drop (k + 1) xs)
 
--- at this place
+-- The test holds at this place.
 pub place_here : {X : Type 0} (p : X → Bool) (xs : List X) (k : ℕ) (d : X) → k < length xs → position_or_len p xs ≡ k + position_or_len p (drop k xs) → p (get_or xs k d) ≡ true → position p xs ≡ Some k
 place_here p xs k d inside is test =
     let z : position_or_len p (drop k xs) ≡ 0 = at_drop p xs k d inside ∙ rw test refl in
     let e : position_or_len p xs ≡ k = omega arith in
     rw e (rw (lt-ltb k (length xs) inside) refl)
 
--- at none up to here
+-- The test holds at no place up to this one.
 pub place_later : {X : Type 0} (p : X → Bool) (xs : List X) (k : ℕ) (d : X) → k < length xs → position_or_len p xs ≡ k + position_or_len p (drop k xs) → p (get_or xs k d) ≡ false → position_or_len p xs ≡ (k + 1) + position_or_len p (drop (k + 1) xs)
 place_later p xs k d inside is test =
     let e : position_or_len p (drop k xs) ≡ 1 + position_or_len p (drop (k + 1) xs) = at_drop p xs k d inside ∙ rw test refl in
     is ∙ omega arith
 
--- at no place
+-- The test holds at no place of the list.
 pub place_none : {X : Type 0} (p : X → Bool) (xs : List X) (k : ℕ) → length xs ≤ k → position_or_len p xs ≡ k + position_or_len p (drop k xs) → position p xs ≡ None
 place_none p xs k past is =
     rw (le-ltb (position_or_len p xs) (length xs) (omega arith)) refl
@@ -38,7 +38,7 @@ past_end : {X : Type 0} (p : X → Bool) (xs : List X) (b : Bool) → nat_lt (po
 past_end p xs true test is = cc
 past_end p xs false test is = ltb-false (position_or_len p xs) (length xs) test
 
--- and so the test holds at none
+-- If no place was found, the test fails at each place.
 pub place_no : {X : Type 0} (p : X → Bool) (xs : List X) (k : ℕ) (d : X) → position p xs ≡ None → k < length xs → p (get_or xs k d) ≡ false
 place_no p xs k d is inside =
     fails_before_first p xs k d (omega (arith, past_end p xs (nat_lt (position_or_len p xs) (length xs)) refl is))

@@ -1,10 +1,10 @@
--- The program headers of a table, one by one.
+-- The program headers of a table, read one by one.
 use Rattle.std.proofs.Common.{◌≡◌, ℕ, ◌+◌, ◌*◌, List, [], ◌∷◌, ◌++◌, length, refl, arith}
 use Rattle.std.proofs.lemmas.List.FromFn.{map-range_with_len_more, length-map-range_with_len}
 use Rattle.elf_sections.specs.ElfNumbers.{program_header_size}
 use Rattle.core_file.specs.Segments.{segment_at, segments_from}
 
--- no header, and one more
+-- No program header, and one program header more.
 pub segments_none : (bytes : List ℕ) (table : ℕ) → segments_from bytes table 0 ≡ []
 unfolding segments_from
 segments_none bytes table = refl

@@ -1,4 +1,4 @@
--- A core file that is read in pieces; for `read_held`.
+-- A core file that is read in pieces, for `read_held`.
 use Rattle.std.proofs.Common.{◌≡◌, ℕ, ◌+◌, ◌^◌, ◌≤◌, true, false, List, [], ◌++◌, take, Option, Some, None, Result, Ok, Err, inl, inr, refl, sym, ◌∙◌, ap, arith, subst}
 use Rattle.std.proofs.lemmas.Bool.{cases_lt}
 use Rattle.sym_edges.specs.Outside.{Files, Opens, Rose, Reads, MatchStop}
@@ -13,7 +13,7 @@ use Rattle.core_file.specs.StoredFile.{IsHeld, IsPast, HeldRead}
 use Rattle.core_file.specs.internal.HeldRest.{HasTaken, HeldRest}
 use Rattle.core_file.proofs.BlockLemmas.{past_more}
 
--- nothing was read
+-- Nothing was read yet.
 parted_start : (left : Option (List ℕ)) → IsParted left [] left
 parted_start None = refl
 parted_start (Some bytes) = (bytes, refl, refl)
@@ -22,12 +22,12 @@ pub taken_start : (left : Option (List ℕ)) (bytes : List ℕ) → bytes ≡ []
 unfolding is_too_long is_past held_blocks first_blocks
 taken_start left bytes is = subst (HasTaken left left) (sym is) (parted_start left, refl)
 
--- a piece more
+-- One piece more was read.
 pub taken_more : (left mid after : Option (List ℕ)) (old new piece front : List ℕ) (n room : ℕ) → HasTaken left mid old → Reads mid n room (take n piece) after → front ≡ take n piece → new ≡ old ++ front → is_too_long (old ++ front) ≡ false → HasTaken left after new
 taken_more left mid after old new piece front n room taken reads same is short =
     subst (HasTaken left after) (sym is) (subst (λ l. IsParted left (old ++ l) after) (sym same) (parted_more left mid after old (take n piece) n room taken.0 reads), short)
 
--- there are too many
+-- There are too many bytes.
 past_parted : (left after : Option (List ℕ)) (bytes : List ℕ) → IsParted left bytes after → is_too_long bytes ≡ true → IsPast left
 unfolding is_too_long
 past_parted None after bytes parted past = (bytes, past)
@@ -37,20 +37,20 @@ pub taken_past : (left mid after : Option (List ℕ)) (old piece front : List �
 taken_past left mid after old piece front n room taken reads same past =
     past_parted left after (old ++ front) (subst (λ l. IsParted left (old ++ l) after) (sym same) (parted_more left mid after old (take n piece) n room taken.0 reads)) past
 
--- what a call that ended with a fault says of it
+-- What is known of a call that ended with a fault.
 pub at_fault : {A F : Type 0} (result : Result A (Stop F)) (stopped : Stop F) (fault : F) (P : A → Type 0) (Q : F → Type 0) (R : Type 0) → result ≡ Err stopped → stopped ≡ Fault fault → MatchStop result P Q R → Q fault
 at_fault {A} {F} (Ok x) stopped fault P Q R is same says = absurd (cc)
 at_fault {A} {F} (Err (Fault f)) stopped fault P Q R is same says = subst Q (let one : ◌≡◌ {A = Result A (Stop F)} (Err (Fault f)) (Err (Fault fault)) = is ∙ ap Err same in cc) says
 at_fault {A} {F} (Err NoMemory) stopped fault P Q R is same says = absurd (let one : ◌≡◌ {A = Result A (Stop F)} (Err NoMemory) (Err (Fault fault)) = is ∙ ap Err same in cc)
 
--- the file of a name
+-- The file of a name in the store.
 rose_later : (before mid after : ℕ) → before ≤ mid → mid ≤ after → Rose mid after → Rose before after
 rose_later before mid after first second rose = λ small. elim (cases_lt (mid + 1) (2 ^ 64)) [
   | inl low ↦ (let up = rose low in omega (arith, up, first))
   | inr high ↦ omega (arith, high, small, second)
 ]
 
--- what holds of the file that was opened, where it holds of some bytes whatever is told
+-- What holds of the opened file, whether its bytes are known or not.
 told : (P : Option (List ℕ) → Type 0) (files : Option Files) (name : List ℕ) (left : Option (List ℕ)) → ((bytes : List ℕ) → P (Some bytes) → P None) → Opens files name left → P left → HoldsFile files name P
 told P None name None some opens is = is
 told P None name (Some bytes) some opens is = some bytes is
@@ -67,7 +67,7 @@ opened_held (Err (Fault CantRead)) files name left before mid after opens first 
 opened_held (Err (Fault TooLong)) files name left before mid after opens first second rest = told IsPast files name left (λ whole past. (whole, past)) opens rest
 opened_held (Err NoMemory) files name left before mid after opens first second rest = tt
 
--- where no call of the store failed its count of faults stands still
+-- If no call of the store failed, its count of faults did not change.
 pub steady_behind : (result : Result (List ℕ) (Stop ReadEnd)) (before mid after : ℕ) → mid ≡ before → IsSteady result mid after → IsSteady result before after
 steady_behind (Ok bytes) before mid after same is = is ∙ same
 steady_behind (Err (Fault CantOpen)) before mid after same is = tt

@@ -1,4 +1,4 @@
--- A core of one thread and one module, part by part.
+-- Worked examples: the parts of a core of one thread and one module.
 use Rattle.std.proofs.Common.{◌≡◌, ℕ, true, false, List, [], ◌∷◌, ◌++◌, Some, None, codes, refl}
 use Rattle.sym_edges.proofs.Hex.{hex, little}
 use Rattle.core_file.specs.Memory.{byte_at, word_at}
@@ -59,7 +59,7 @@ modules : parts.modules ≡ record {
 unfolding cores_build core_file_computes one parts
 modules = refl
 
--- the byte and the word at an address, or none
+-- The byte and the word at an address, or none.
 a_byte : byte_at parts.memory 0x7000 ≡ Some 5
 unfolding cores_build core_file_computes one parts
 a_byte = refl
@@ -76,7 +76,7 @@ no_word : word_at parts.memory 0x7001 ≡ None
 unfolding cores_build core_file_computes one parts
 no_word = refl
 
--- code is what may be executed, by its size in memory
+-- Code is what may be executed, up to the segment's size in memory.
 in_code : is_code parts.memory parts.modules 0x555555553fff ≡ true
 unfolding cores_build core_file_computes one parts
 in_code = refl

@@ -9,7 +9,7 @@ use Rattle.core_file.specs.CoreNumbers.{et_core, pn_xnum}
 use Rattle.core_file.specs.declared.fault.CoreFault.{CoreFault}
 use Rattle.core_file.specs.declared.fault.CoreFault.TheVariants.{NotElf, Class, Order, Machine, Kind, ProgramTable}
 
--- the first fault of the header, without that of its program header table
+-- the first fault of the header, apart from a fault of the program header table
 unfoldable pub ident_fault : List ℕ → Option CoreFault
 ident_fault file = fault_if (is_not_elf file) NotElf
     (fault_if (not (slice_index file ei_class == elfclass64)) Class

@@ -20,7 +20,7 @@ front_text bytes = take (prefix_len (λ b. not (b == 0)) bytes) bytes
 unfoldable pub behind_text : List ℕ → List ℕ
 behind_text bytes = drop (prefix_len (λ b. not (b == 0)) bytes + 1) bytes
 
--- that many mappings: `numbers` has three numbers for each of them, `texts` its name
+-- this many mappings; for each of them `numbers` has three numbers, and `texts` has its name
 unfoldable pub files_from : ℕ → List ℕ → List ℕ → List MappedFile
 files_from zero numbers texts = []
 files_from (suc n) numbers texts =

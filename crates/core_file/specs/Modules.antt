@@ -28,12 +28,15 @@ without_deleted name =
 unfoldable pub module_name : List ℕ → List ℕ
 module_name text = cleaned (without_deleted (behind_slash text))
 
--- the end of the last mapping in the longest prefix of mappings that have this name and do not begin their file; `end` if that prefix is empty
+-- the end of a module that begins with a mapping of the file `text` up to `end`, given the mappings
+-- after it. While these are of the same file and not of its start, they belong to the module, and
+-- its end is the end of the last of them
 unfoldable pub end_behind : List ℕ → ℕ → List MappedFile → ℕ
 end_behind text end [] = end
 end_behind text end (f ∷ files) = if bytes_eq f.text text && nat_lt 0 f.offset then end_behind text f.end files else end
 
--- the module that begins with a mapping, by its own headers, or without them by the mappings after it
+-- the module that begins with a mapping. Its own headers in memory give its end, base and build id.
+-- Without them it ends with its mappings, and has no build id
 abbrev pub module_by : Memory → MappedFile → List MappedFile → Option LoadedImage → Module
 module_by memory f later None = record {
   start = f.start;
@@ -58,12 +61,12 @@ unfoldable pub first_page_of : ℕ → LoadedImage → Segment → Option ℕ
 first_page_of start image s =
     if is_load s && nat_lt s.offset page_size then option_map page_down (place_of start image s) else None
 
--- the address is that page
+-- the address `a` is this page
 abbrev pub is_page : ℕ → Option ℕ → Bool
 is_page a None = false
 is_page a (Some page) = page == a
 
--- the address is such a page of a loaded file
+-- the address is the page of such a segment of a loaded file
 abbrev pub has_first_page : ℕ → ℕ → Option LoadedImage → Bool
 has_first_page a start None = false
 has_first_page a start (Some image) = list_any (λ s. is_page a (first_page_of start image s)) image.headers
@@ -72,16 +75,17 @@ has_first_page a start (Some image) = list_any (λ s. is_page a (first_page_of s
 abbrev pub lies_in : Module → ℕ → Bool
 lies_in m a = nat_le m.start a && nat_lt a m.end
 
--- the address lies in one of the modules, and is a page at which that module's own file was mapped from its first page on: linkers map the first page
--- several times
+-- the address lies in one of the modules, and the module's own headers say that the first page of
+-- its file was mapped there. Linkers can map this page several times
 unfoldable pub is_own_page : Memory → List Module → ℕ → Bool
 is_own_page memory modules a = list_any (λ m. lies_in m a && has_first_page a m.start (image_at memory m.start)) modules
 
--- a mapping begins a module if it begins its file and does not belong to a module before it
+-- a mapping begins a module if it is of the start of its file, and does not belong to a module
+-- before it
 unfoldable pub begins_module : Memory → List Module → MappedFile → Bool
 begins_module memory before f = (f.offset == 0) && not (is_own_page memory before f.start)
 
--- the modules that begin with mappings, after the modules `before`
+-- the modules that begin with these mappings, given the modules `before` them
 unfoldable pub modules_from : Memory → List Module → List MappedFile → List Module
 modules_from memory before [] = []
 modules_from memory before (f ∷ later) =

@@ -8,12 +8,12 @@ use Rattle.sym_edges.specs.declared.whole_file.ReadEnd.{ReadEnd}
 use Rattle.sym_edges.specs.declared.whole_file.ReadEnd.TheVariants.{CantOpen, CantRead, TooLong}
 use Rattle.core_file.specs.HeldBlocks.{is_too_long}
 
--- if the bytes of the file are known, they are these; and these bytes are not too many
+-- these bytes are not too many, and they are the bytes of the file if those are known
 abbrev pub IsHeld : List ℕ → Option (List ℕ) → Type 0
 IsHeld bytes None = is_too_long bytes ≡ false
 IsHeld bytes (Some whole) = (whole ≡ bytes) × (is_too_long bytes ≡ false)
 
--- if the bytes of the file are known, they are too many; otherwise some unknown bytes are
+-- the bytes of the file are too many; if they are not known, there are bytes that are too many
 abbrev pub IsPast : Option (List ℕ) → Type 0
 IsPast None = (bytes : List ℕ) × (is_too_long bytes ≡ true)
 IsPast (Some whole) = is_too_long whole ≡ true

@@ -8,8 +8,10 @@ ghost use Rattle.core_file.specs.internal.Joined.{joined, block_of, AreInside, a
 use crate::fault::TooLong;
 use sym_edges::{OutOfMemory, Stop};
 
-/// Bytes that grow at their end: the complete blocks of `size` bytes, each by a number (0 for zeros, else that of a block in memory, from 1 on), and
-/// then less than one block. There are at most `limit` bytes, and at most `room` bytes in blocks in memory.
+/// Bytes to which more can be added at the end. Each complete block of `size` bytes is stored as a
+/// number: 0 for a block of zeros, otherwise the number of a block in memory, counted from 1. After
+/// the complete blocks come the bytes of a block that is not complete. There are at most `limit`
+/// bytes, and at most `room` bytes in blocks in memory.
 #[derive(Debug, Drop)]
 pub struct Blocks {
     pub size: usize,
@@ -21,7 +23,8 @@ pub struct Blocks {
     pub tail: Vec<u8>,
 }
 
-/// The byte at a place of this many blocks and of the bytes after them.
+/// The byte at a place, given the numbers of the blocks, the blocks in memory, and the bytes after
+/// the blocks.
 #[tactic(auto, using(crate::proofs::JoinedLemmas::byte_of_zeros, crate::proofs::JoinedLemmas::byte_of_block, crate::proofs::JoinedLemmas::byte_behind, crate::proofs::JoinedLemmas::place_in_block, crate::proofs::JoinedLemmas::block_before))]
 pub fn byte_in(size: usize, places: &[u32], held: &[u8], tail: &[u8], at: usize) -> u8
     requires some { 0 < size }
@@ -42,7 +45,8 @@ pub fn byte_in(size: usize, places: &[u32], held: &[u8], tail: &[u8], at: usize)
     held[size * (place - 1) + at % size]
 }
 
-/// Whether all bytes are zeros. The loop looks at all of them, since a loop without an early exit takes many at once.
+/// Whether all bytes are zeros. The loop looks at all of them, since a loop without an early exit
+/// can be vectorized.
 fn are_zeros(bytes: &[u8]) -> bool
     ensures { result ≡ list_all (λ b. b == 0) bytes.now }
 {

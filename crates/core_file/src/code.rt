@@ -18,7 +18,7 @@ fn is_executable(segment: &Segment) -> bool
     segment.kind == PT_LOAD && segment.flags & PF_X != 0
 }
 
-/// Adds the addresses from one up to, and without, another.
+/// Adds the addresses from `low` up to `high`, without `high`.
 #[tactic(auto, using(crate::proofs::CodeLemmas::range_empty, crate::proofs::CodeLemmas::range_past, crate::proofs::CodeLemmas::range_added, crate::proofs::MemoryLemmas::stretches_push))]
 fn add_range(code: &mut Vec<Stretch>, low: u128, high: u128) -> Result<(), OutOfMemory>
     requires some { AreStretches code.old.items }

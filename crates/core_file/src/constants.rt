@@ -26,10 +26,10 @@ pub const NT_GNU_BUILD_ID: u32 = 3;
 
 pub const NT_FILE: u32 = 0x4649_4c45;
 
-// Bytes of an Elf64_Ehdr and an Elf64_Phdr.
+// The sizes in bytes of an Elf64_Ehdr and of an Elf64_Phdr.
 pub const FILE_HEADER: usize = 64;
 
 pub const PROGRAM_HEADER: usize = 56;
 
-/// The bytes of a page.
+/// The size of a page in bytes.
 pub const PAGE: u64 = 4096;

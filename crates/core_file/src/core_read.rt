@@ -31,7 +31,7 @@ use std::marker::Model;
 use step_maps::{FirstItem, StepMap, first_items};
 use sym_edges::{OutOfMemory, Stop};
 
-/// The most threads of a core, and the most modules.
+/// How many threads, and how many modules, are read of a core at most.
 const MOST: usize = 65_536;
 
 /// A core file: the memory, the threads and the modules of its process.

@@ -46,7 +46,7 @@ impl CoreFault {
     }
 }
 
-/// A file has more bytes than are read.
+/// A file has more bytes than a core file may have.
 #[derive(Clone, Copy, Debug, PartialEq, Eq, Error)]
 #[error("the file is too long")]
 pub struct TooLong;

@@ -1,4 +1,4 @@
-//! Runs of memory.
+//! Runs of consecutive addresses in memory.
 ghost use Rattle.std.specs.Prelude.{◌≡◌, ◌≤◌, length};
 ghost use Rattle.core_file.specs.Memory.{front_at, word_at};
 

@@ -42,7 +42,7 @@ fn is_mapped(part: &FilePart<'_>, note: &NotePlace) -> bool
     stands_at(part, note.name, note.name_len, b"CORE\0") && note.kind == NT_FILE
 }
 
-/// How many zeros there are from a place on.
+/// How many zero bytes there are from a place on.
 #[tactic(auto, using(crate::proofs::GatherLemmas::zeros_yes, crate::proofs::GatherLemmas::zeros_no))]
 fn count_zeros(part: &FilePart<'_>, from: usize) -> usize
     requires { from ≤ length part.now }
@@ -161,7 +161,8 @@ pub fn gather<'a>(part: &FilePart<'a>, found: &mut Found<'a>) -> Result<bool, Ou
     Ok(true)
 }
 
-/// The same for any segment; it has no notes if it is no segment of notes.
+/// Keeps what is needed from the notes of a segment, if it is a segment of notes, and says whether
+/// all of them are whole. A segment of another type has no notes.
 #[tactic(auto, using(crate::proofs::GatherLemmas::noted_inside, crate::proofs::GatherLemmas::gathered_end), unfolding(crate::specs::CoreNotes::has_bad_note, crate::specs::CoreNotes::notes_of, crate::specs::Segments::bytes_of))]
 fn gather_segment<'a>(
     file: &'a HeldBytes,

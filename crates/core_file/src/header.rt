@@ -73,7 +73,7 @@ fn has_segments(file: &HeldBytes, header: Header) -> bool
         && header.count != PN_XNUM
 }
 
-/// The file header of a core file whose program header table lies in it.
+/// The file header of a core file, if its program header table lies in the file.
 #[tactic(auto, unfolding(crate::specs::CoreHeader::header_fault))]
 pub fn find_header(file: &HeldBytes) -> Result<Header, CoreFault>
     ensures read { MatchResult result

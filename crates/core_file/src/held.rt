@@ -10,7 +10,7 @@ use std::alloc::Global;
 use std::marker::Model;
 use sym_edges::Stop;
 
-/// The bytes of a block.
+/// The size of a block in bytes.
 const BLOCK: usize = 4096;
 
 /// How many bytes a core file may have: 2^40.
@@ -38,7 +38,7 @@ impl Model for HeldBytes {
 }
 
 impl HeldBytes {
-    /// No byte yet. Allocates no memory.
+    /// An empty stream. Allocates no memory.
     pub fn new(alloc: Global) -> HeldBytes
         ensures { result ≡ [] }
     {

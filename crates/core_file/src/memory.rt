@@ -126,7 +126,8 @@ impl<'a> ProcessMemory<'a> {
         }
     }
 
-    /// This many addresses from one on have a byte, perhaps more; 0 exactly if this address has no byte.
+    /// How many consecutive addresses, from this one on, surely have a byte; there may be more. The
+    /// result is 0 only if this address has no byte.
     #[tactic(auto, using(crate::proofs::MemoryLemmas::found_gives, crate::proofs::MemoryLemmas::none_at, crate::proofs::MemoryLemmas::some_at))]
     pub fn extent(&self, a: u64) -> u64
         ensures none { result ≡ 0 → byte_at self.now a ≡ None }

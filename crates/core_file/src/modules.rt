@@ -47,7 +47,8 @@ pub struct Listing {
     pub code: Vec<Stretch>,
 }
 
-/// The end of the last mapping in the longest prefix of mappings that have the text and do not begin their file.
+/// The end of a module without headers in memory, given the name of its file and the mappings after
+/// its first one.
 #[tactic(auto, using(crate::proofs::ModuleLemmas::end_more, crate::proofs::ModuleLemmas::end_other, crate::proofs::ModuleLemmas::end_begin, crate::proofs::ModuleLemmas::end_none))]
 fn end_behind(note: &FilePart<'_>, files: &[FilePlace], text: &[u8], end: u64) -> u64
     requires { IsInside (length note.now) files.now }
@@ -149,7 +150,7 @@ fn begins(source: &Source<'_, '_>, file: &FilePlace, listing: &Listing) -> bool
     file.offset == 0 && !listing.pages.contains(&file.start)
 }
 
-/// Adds the modules of the mappings, up to this many.
+/// Adds the modules that begin with these mappings, until there are `limit` modules.
 #[tactic(auto, using(crate::proofs::ModuleLemmas::listed_begin, crate::proofs::ModuleLemmas::listed_more, crate::proofs::ModuleLemmas::listed_other, crate::proofs::ModuleLemmas::listed_full, crate::proofs::ModuleLemmas::listed_end))]
 pub fn list_modules(
     source: &Source<'_, '_>,

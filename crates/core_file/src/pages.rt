@@ -1,4 +1,4 @@
-//! The pages of modules at which their own files were mapped from their first pages on.
+//! The pages of modules at which the first pages of their own files were mapped.
 ghost use Rattle.std.specs.Prelude.{◌≡◌, ℕ, ◌<◌, ◌^◌, ◌&&◌, ◌||◌, nat_le, nat_lt, Bool, OnOk};
 ghost use Rattle.std.specs.List.{list_any};
 ghost use Rattle.std.specs.Ordering.{nat_cmp};
@@ -26,7 +26,7 @@ fn first_page(start: u64, image: &Image, segment: &Segment) -> Option<u128>
     }
 }
 
-/// Adds a page, if it lies between two addresses.
+/// Adds a page, if its address lies from `start` up to `end`, without `end`.
 #[tactic(auto, using(crate::proofs::PageLemmas::page_added, crate::proofs::PageLemmas::page_below, crate::proofs::PageLemmas::page_above))]
 fn add_page(
     pages: &mut BTreeSet<u64>,
@@ -49,7 +49,7 @@ fn add_page(
     Ok(())
 }
 
-/// Adds the pages of a loaded file that lie in its module.
+/// Adds the pages that have the first page of a loaded file, if they lie in its module.
 #[tactic(auto, using(crate::proofs::PageLemmas::pages_step, crate::proofs::PageLemmas::pages_end))]
 pub fn add_pages(
     pages: &mut BTreeSet<u64>,

@@ -5,7 +5,7 @@ use crate::byte_list::ByteList;
 use crate::held::HeldBytes;
 use std::marker::Model;
 
-/// This many bytes of a file from a place on.
+/// A run of `size` bytes of a file, from the place `from` on.
 #[derive(Debug, Drop)]
 pub struct FilePart<'a> {
     bytes: &'a HeldBytes,
@@ -31,7 +31,7 @@ impl<'a> FilePart<'a> {
         FilePart { bytes, from, size }
     }
 
-    /// This many of these bytes from a place on.
+    /// A run of these bytes, from a place on.
     #[tactic(auto, using(crate::proofs::PartLemmas::part_of_part, crate::proofs::PartLemmas::length_part))]
     pub fn part(&self, at: usize, size: usize) -> FilePart<'a>
         requires { at + size ≤ length self.now }

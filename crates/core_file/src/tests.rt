@@ -1,4 +1,4 @@
-//! What no contract says: that memory suffices, even for many segments, notes and mappings.
+//! Tests of what no contract says: memory suffices even for many segments, notes and mappings.
 use crate::byte_list::ByteList;
 use crate::core_read::read_core;
 use crate::held::HeldBytes;
@@ -64,7 +64,7 @@ fn put_note(bytes: &mut Vec<u8>, kind: u32, descriptor: &[u8]) -> Result<(), Out
     Ok(())
 }
 
-/// This many states of 336 bytes, and a note of as many mappings, each of another file.
+/// This many notes with states of 336 bytes, and a note of as many mappings, each of another file.
 fn notes(alloc: Global, count: u16) -> Result<Vec<u8>, OutOfMemory> {
     let mut bytes = Vec::new(alloc);
     let state = zeros(alloc, 336)?;

@@ -2,7 +2,7 @@ use Rattle.std.proofs.Common.{◌≡◌, ℕ, ◌<◌, List, [], ◌∷◌, ◌+
 use Rattle.hex.specs.Hex.{encode_lower}
 use Rattle.debug_pair.specs.DebugPath.{debug_path}
 
--- texts one after another
+-- Texts that are joined one after another.
 pub joined : (a b c d e f p q r s t : List ℕ) → p ≡ a ++ b → q ≡ p ++ c → r ≡ q ++ d → s ≡ r ++ e → t ≡ s ++ f → t ≡ a ++ b ++ c ++ d ++ e ++ f
 joined a b c d e f p q r s t one two three four five =
     five ∙ ap (λ l. l ++ f) (four ∙ ap (λ l. l ++ e) (three ∙ ap (λ l. l ++ d) (two ∙ ap (λ l. l ++ c) one)))

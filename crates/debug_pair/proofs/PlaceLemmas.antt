@@ -1,4 +1,4 @@
--- The last place at which a part stands in a text, and what stands before and behind it.
+-- The last place at which a text has a part, and the text before and after it.
 use Rattle.std.proofs.Common.{◌≡◌, inl, inr, ℕ, zero, suc, ◌+◌, ◌<◌, Bool, true, false, cond, List, [], ◌∷◌, ◌++◌, length, take, drop, reverse, Some, None, refl, sym, ◌∙◌, ap, arith, length-append, length-drop}
 use Rattle.std.specs.List.{find, range_with_len}
 use Rattle.std.specs.Option.{option_map}
@@ -13,7 +13,6 @@ range_more : (a n : ℕ) → range_with_len a (suc n) ≡ range_with_len a n ++ 
 range_more a zero = let e : a ≡ a + 0 = omega arith in ap (λ k. k ∷ []) e
 range_more a (suc n) = let e : a + 1 + n ≡ a + suc n = omega arith in ap (λ l. a ∷ l) (range_more (a + 1) n ∙ ap (λ k. range_with_len (a + 1) n ++ k ∷ []) e)
 
--- the last of one number more
 last_more : (p : ℕ → Bool) (n : ℕ) → find p (reverse (range_with_len 0 (suc n))) ≡ cond (p n) (Some n) (find p (reverse (range_with_len 0 n)))
 last_more p n =
     let e : 0 + n ≡ n = omega arith in
@@ -33,7 +32,7 @@ none_is p zero none = refl
 none_is p (suc n) none =
     last_more p n ∙ ap (λ b. cond b (Some n) (find p (reverse (range_with_len 0 n)))) (none n (omega arith)) ∙ none_is p n (λ j inside. none j (omega arith))
 
--- where a part stands, and where it does not
+-- The text has the part at a place, or not.
 stands : (part text rest : List ℕ) (at : ℕ) → drop at text ≡ part ++ rest → stands_at part text at ≡ true
 stands part text rest at is = (starts_is Decides-eqb (drop at text) part (stands_at part text at) refl).1 rest is
 
@@ -53,7 +52,7 @@ no_place : (part text : List ℕ) → RFindsText part text None → last_place p
 unfolding last_place
 no_place part text none = none_is (stands_at part text) (length text) (λ k inside. lacks part text k (none k (omega arith)))
 
--- a text without the part
+-- The text does not have the part.
 pub none_before : (part text : List ℕ) → RFindsText part text None → None ≡ before_last part text
 unfolding before_last
 none_before part text none = sym (ap (option_map (λ at. take at text)) (no_place part text none))
@@ -62,7 +61,7 @@ pub none_behind : (part text : List ℕ) → RFindsText part text None → None 
 unfolding behind_last
 none_behind part text none = sym (ap (option_map (λ at. drop (at + length part) text)) (no_place part text none))
 
--- a text with it
+-- The text has the part.
 pub some_before : (part text front rest : List ℕ) → 0 < length part → SplitsAroundMatch (RFindsText part) text front rest → Some front ≡ before_last part text
 unfolding before_last
 some_before part text front rest some (i, j, found, is, behind, order, size, left) =

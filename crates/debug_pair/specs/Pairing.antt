@@ -7,7 +7,7 @@ use Rattle.elf_sections.specs.Pair.{paired}
 use Rattle.debug_pair.specs.declared.fault.PairFault.{PairFault}
 use Rattle.debug_pair.specs.declared.fault.PairFault.TheVariants.{NoBuildId, BuildId}
 
--- why two build ids make no pair
+-- why files with these two build ids are no pair
 abbrev pub pair_fault : Option (List ℕ) → Option (List ℕ) → Option PairFault
 pair_fault None debug = Some NoBuildId
 pair_fault (Some id) None = Some NoBuildId

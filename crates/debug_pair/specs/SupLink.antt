@@ -11,7 +11,8 @@ use Rattle.elf_sections.specs.Image.{ImageParts}
 use Rattle.debug_pair.specs.declared.fault.SupFault.{SupFault}
 use Rattle.debug_pair.specs.declared.fault.SupFault.TheVariants.{Link}
 
--- the path of a supplementary file, and its id: its build id if `by_build_id`, else the id in its `.debug_sup`
+-- the path of a supplementary file, and its id: its build id if `by_build_id`, otherwise the id in
+-- its `.debug_sup`
 pub record SupLink : Type 0 where
   pub path : List ℕ
   pub id : List ℕ
@@ -26,8 +27,8 @@ or_bad (Err fault) = Err Link
 abbrev pub all_ahead : List ℕ → Ahead
 all_ahead bytes = record { bytes = bytes; at = 0 }
 
--- the first two fields of `.debug_sup`: whether the version is 5 and the second field is `kind`. The second field says whether the file itself is
--- supplementary
+-- the first two fields of `.debug_sup`: whether the version is 5 and the second field is `kind`.
+-- The second field says whether the file itself is a supplementary file
 unfoldable pub sup_front_at : ℕ → Ahead → Result (Bool × Ahead) SupFault
 sup_front_at kind c =
     or_bad (fixed_at 2 c) >>= λ version.
@@ -60,19 +61,22 @@ abbrev pub link_by_fields : Option (List ℕ × List ℕ) → Result (Option Sup
 link_by_fields None = Ok None
 link_by_fields (Some fields) = checked (record { path = fields.0; id = fields.1; by_build_id = false })
 
--- the link in `.debug_sup`: there is none if the section has another version, or is that of a supplementary file itself
+-- the link in `.debug_sup`. There is none if the section has another version, or says that the file
+-- itself is a supplementary one
 abbrev pub link_in_sup : LinkPart → Result (Option SupLink) SupFault
 link_in_sup Missing = Ok None
 link_in_sup Unreadable = Err Link
 link_in_sup (Held bytes) = sup_fields 0 bytes >>= link_by_fields
 
--- the link in two sections: `.gnu_debugaltlink` takes precedence over `.debug_sup`
+-- the link in two sections: that of `.gnu_debugaltlink` if there is this section, otherwise that of
+-- `.debug_sup`
 abbrev pub link_in : LinkPart → LinkPart → Result (Option SupLink) SupFault
 link_in Missing sup = link_in_sup sup
 link_in Unreadable sup = Err Link
 link_in (Held bytes) sup = link_in_altlink bytes
 
--- the link of a file. A file without entries has none, since a stripped binary keeps the section with the link
+-- the link of a file. A file without entries has none, since a stripped binary keeps the section
+-- with the link
 unfoldable pub sup_link : ImageParts → Result (Option SupLink) SupFault
 sup_link i = if length i.info.bytes == 0 then Ok None else link_in i.altlink i.debug_sup
 
@@ -86,7 +90,8 @@ own_id Missing = None
 own_id Unreadable = None
 own_id (Held bytes) = id_by_fields (sup_fields 1 bytes)
 
--- the id of a supplementary file that is compared with that of a link: its build id, or the id in its `.debug_sup`
+-- the id of a supplementary file, to be compared with that of a link: its build id, or the id in
+-- its `.debug_sup`
 abbrev pub sup_id : ImageParts → Bool → Option (List ℕ)
 sup_id i true = i.build_id
 sup_id i false = own_id i.debug_sup

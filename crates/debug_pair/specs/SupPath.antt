@@ -23,18 +23,20 @@ behind_last part text = option_map (λ at. drop (at + length part) text) (last_p
 unfoldable pub has_parent : List ℕ → Bool
 has_parent path = is_some (last_place (codes "/../") (codes "/" ++ path ++ codes "/"))
 
--- the directory of debug files: the given root, or else what comes before the last `/.build-id/` in the name of the file that links
+-- the directory of debug files: the given root; without one, what comes before the last
+-- `/.build-id/` in the name of the file that links
 abbrev pub debug_root : Option (List ℕ) → List ℕ → Option (List ℕ)
 debug_root (Some root) name = Some root
 debug_root None name = before_last (codes "/.build-id/") name
 
--- the path below such a directory: the linked path from its last `/.dwz/` on. There is no path if the linked path has no `/.dwz/`, or has a component
--- `..` after the last one
+-- the path below such a directory: the linked path from its last `/.dwz/` on. There is no path if
+-- the linked path has no `/.dwz/`, or has a component `..` after the last one
 abbrev pub path_below : List ℕ → Option (List ℕ) → Option (List ℕ)
 path_below root None = None
 path_below root (Some rest) = if has_parent rest then None else Some (root ++ codes "/.dwz/" ++ rest)
 
--- without such a directory, a path that begins with `/` is used as it is, and any other path is relative to the folder of the file that links
+-- without such a directory, the path is used as it is if it begins with `/`; otherwise it is
+-- relative to the folder of the file that links
 abbrev pub folder_of : Option (List ℕ) → List ℕ
 folder_of None = []
 folder_of (Some folder) = folder ++ codes "/"
@@ -46,6 +48,7 @@ abbrev pub path_by : Option (List ℕ) → List ℕ → List ℕ → Option (Lis
 path_by None name path = Some (path_beside name path)
 path_by (Some root) name path = path_below root (behind_last (codes "/.dwz/") path)
 
--- the path of the supplementary file to which the file `name` links by `path`, or `None` if `path_below` gives none
+-- the path of the supplementary file to which the file `name` links by `path`, or `None` if there
+-- is a directory of debug files and no path below it
 unfoldable pub sup_path : Option (List ℕ) → List ℕ → List ℕ → Option (List ℕ)
 sup_path root name path = path_by (debug_root root name) name path

@@ -1,4 +1,4 @@
-//! Why two files are no pair, why a build id gives no path, and why a file is not read with its supplementary file.
+//! The faults of a pair of files, of a build id as a path, and of a link to a supplementary file.
 ghost use Rattle.std.specs.Prelude.{◌≡◌};
 ghost use Rattle.debug_pair.specs.declared.fault.SupFault.TheVariants.{Link};
 
@@ -47,7 +47,8 @@ impl ShortId {
 /// Why a file is not read with the supplementary file to which it links.
 #[derive(Clone, Copy, Debug, PartialEq, Eq)]
 pub enum SupFault {
-    /// The section with the link lacks a part, or the link leads nowhere.
+    /// The section with the link lacks a part, or the link gives no path below the directory of
+    /// debug files.
     Link,
     /// The file at that path has another id, or none.
     BuildId,

@@ -54,7 +54,7 @@ pub fn make_id(alloc: Global, identity: [u8; 16]) -> Result<Vec<u8>, OutOfMemory
     Ok(text)
 }
 
-/// The same id as a text.
+/// The same id, as a `String`.
 #[tactic(auto, unfolding(crate::specs::ModuleId::module_id))]
 pub(crate) fn id_text(alloc: Global, identity: [u8; 16]) -> Result<String, OutOfMemory>
     ensures { IfOk result (λ text. string_bytes text ≡ module_id identity) }

@@ -6,8 +6,8 @@
 //! given the build's identity of 16 bytes; [`build_identity`] gives that identity for a build id. [`symbol_path`] gives the path of the symbol file
 //! in a store.
 //!
-//! [`find_sup_link`] reads to which supplementary file an image links, [`sup_path`] gives the path of that file, and [`is_linked`] says whether a
-//! file is the one that the link means.
+//! [`find_sup_link`] reads the link of an image to its supplementary file, [`sup_path`] gives the
+//! path of that file, and [`is_linked`] says whether a file is the one that the link means.
 #![tactic(auto)]
 
 mod fault;

@@ -9,7 +9,7 @@ use elf_sections::Image;
 use std::alloc::Global;
 use sym_edges::Stop;
 
-/// Why two build ids are not of one build.
+/// Why files with these two build ids are no pair, if they are none.
 fn find_fault(binary: Option<&[u8]>, debug: Option<&[u8]>) -> Option<PairFault>
     ensures { result ≡ pair_fault (option_copied binary.entry) (option_copied debug.entry) }
 {
@@ -26,7 +26,8 @@ fn find_fault(binary: Option<&[u8]>, debug: Option<&[u8]>) -> Option<PairFault>
     }
 }
 
-/// The image of a stripped binary with its separate debug file, whose parts are slices of both files; or why they are no pair.
+/// The image of a stripped binary with its separate debug file, or why they are no pair. The parts
+/// of the image are slices of both files.
 pub fn pair<'a>(
     alloc: Global,
     binary: &Image<'a>,

@@ -9,7 +9,7 @@ use crate::fault::ShortId;
 use std::alloc::{AllocError, Global};
 use sym_edges::Stop;
 
-/// The path of a file below a root, given both parts of a build id.
+/// The path of a file below a root, given the first byte and the other bytes of a build id.
 #[tactic(auto, using(crate::proofs::PathLemmas::joined))]
 fn join_path(alloc: Global, root: &str, first: &[u8], rest: &[u8]) -> Result<String, AllocError>
     ensures { IfOk result (λ path. string_bytes path

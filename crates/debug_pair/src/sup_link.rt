@@ -40,7 +40,7 @@ fn cursor_over(bytes: &[u8]) -> Cursor<'_>
     Cursor::new(bytes, 0, bytes.len())
 }
 
-/// Whether the version is 5 and the second field is `kind`.
+/// Reads the first two fields: whether the version is 5 and the second field is `kind`.
 #[tactic(auto, unfolding(crate::specs::SupLink::sup_front_at))]
 fn read_front(kind: u8, cursor: &mut Cursor<'_>) -> Result<bool, SupFault>
     ensures { gave result cursor.new ≡ sup_front_at kind cursor.old }
@@ -50,7 +50,7 @@ fn read_front(kind: u8, cursor: &mut Cursor<'_>) -> Result<bool, SupFault>
     Ok(version == 5 && is_supplementary == kind)
 }
 
-/// The name and the id after the first two fields.
+/// Reads the name and the id after the first two fields.
 #[tactic(auto, unfolding(crate::specs::SupLink::sup_name_at))]
 fn read_name<'a>(cursor: &mut Cursor<'a>) -> Result<SupFields<'a>, SupFault>
     ensures { MatchResult result (λ fields. sup_name_at cursor.old ≡ Ok (fields_view fields)) (λ fault. sup_name_at cursor.old ≡ Err fault) }
@@ -61,7 +61,7 @@ fn read_name<'a>(cursor: &mut Cursor<'a>) -> Result<SupFields<'a>, SupFault>
     Ok(SupFields { name, id })
 }
 
-/// The name and the id of a `.debug_sup` of version 5 whose second field is `kind`.
+/// The name and the id in a `.debug_sup` of version 5 whose second field is `kind`.
 #[tactic(auto, unfolding(crate::specs::SupLink::sup_fields))]
 fn read_fields(kind: u8, bytes: &[u8]) -> Result<Option<SupFields<'_>>, SupFault>
     ensures { MatchResult result
@@ -95,7 +95,7 @@ fn check_link<'a>(path: &'a [u8], id: &'a [u8], by_build_id: bool) -> Result<Sup
     }
 }
 
-/// The bytes that a cursor has left.
+/// The bytes that the cursor has not read yet.
 #[tactic(auto, unfolding(leb_cursor::specs::Readings::take_at))]
 fn rest_of<'a>(mut cursor: Cursor<'a>) -> &'a [u8]
     ensures { result.now ≡ cursor.entry.bytes }
@@ -132,7 +132,8 @@ fn read_debug_sup<'a>(section: LinkSection<'a>) -> Result<Option<SupLink<'a>>, S
     }
 }
 
-/// The link of an image to its supplementary file, in the first of the two sections that is there.
+/// The link of an image to its supplementary file, in `.gnu_debugaltlink` if there is this section,
+/// otherwise in `.debug_sup`.
 #[tactic(auto, unfolding(crate::specs::SupLink::sup_link))]
 pub fn find_sup_link<'a>(image: &Image<'a>) -> Result<Option<SupLink<'a>>, SupFault>
     ensures exact { MatchResult result
@@ -162,7 +163,8 @@ fn own_id<'a>(section: LinkSection<'a>) -> Option<&'a [u8]>
     }
 }
 
-/// Whether a file is the supplementary file that a link means: whether it has the id of the link.
+/// Whether a file is the supplementary file that a link means, that is, whether it has the id of
+/// the link.
 #[tactic(auto, unfolding(crate::specs::SupLink::is_of_link))]
 pub fn is_linked(link: &SupLink<'_>, sup: &Image<'_>) -> bool
     ensures exact { result ≡ is_of_link (sup_link_view link.now) sup.now }

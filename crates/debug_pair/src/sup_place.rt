@@ -52,7 +52,8 @@ fn has_parent(alloc: Global, path: &str) -> Result<bool, AllocError>
     Ok(before_last(closed.as_str(), "/../").is_some())
 }
 
-/// The directory of debug files: the given root, or else the one in which a file lies according to its name.
+/// The directory of debug files: the given root; without one, the part of the name of the file
+/// before the last `/.build-id/`.
 fn debug_root<'t>(root: Option<&'t str>, name: &'t str) -> Option<&'t str>
     ensures { option_copied result ≡ debug_root (option_copied root.entry) name.now }
 {
@@ -62,7 +63,7 @@ fn debug_root<'t>(root: Option<&'t str>, name: &'t str) -> Option<&'t str>
     }
 }
 
-/// The path below a directory of debug files. It must not lead out of it.
+/// The path below a directory of debug files. It must not lead out of this directory.
 fn path_below(alloc: Global, root: &str, path: &str) -> Result<String, Stop<SupFault>>
     ensures { MatchStop result
         (λ found. path_below root.now (behind_last (codes "/.dwz/") path.now) ≡ Some (string_bytes found))
@@ -77,7 +78,8 @@ fn path_below(alloc: Global, root: &str, path: &str) -> Result<String, Stop<SupF
     Ok(join(alloc, root, "/.dwz/", rest)?)
 }
 
-/// The path as it is, or relative to the folder of the file `name`.
+/// The path itself if it begins with `/`; otherwise it is relative to the folder of the file
+/// `name`.
 #[tactic(auto, unfolding(crate::specs::SupPath::path_beside))]
 fn path_beside(alloc: Global, name: &str, path: &str) -> Result<String, AllocError>
     ensures { IfOk result (λ found. string_bytes found ≡ path_beside name.now path.now) }
@@ -91,8 +93,9 @@ fn path_beside(alloc: Global, name: &str, path: &str) -> Result<String, AllocErr
     }
 }
 
-/// The path of the supplementary file to which the file `name` links by `path`: below a root of debug files if one is given or the name has one, else
-/// relative to the folder of the file. The fault is `Link`.
+/// The path of the supplementary file to which the file `name` links by `path`. It is below a root
+/// of debug files, if one is given or the name has one; otherwise it is relative to the folder of
+/// the file. The fault is `Link`.
 #[tactic(auto, unfolding(crate::specs::SupPath::sup_path))]
 pub fn sup_path(
     alloc: Global,

@@ -13,13 +13,13 @@ use Rattle.elf_sections.specs.Programs.{is_code, code_range, is_in_code}
 use Rattle.elf_sections.specs.Symbols.{SymbolParts, is_function, is_nameless, function_of, has_nameless, functions}
 use Rattle.elf_sections.specs.internal.Steps.{ReadsSymbols}
 
--- a list of ranges holds what is in code by it
+-- An address is in code if the list of ranges holds it.
 pub in_code : (ranges : List Range) (a : ℕ) → is_in_code ranges a ≡ holds_any ranges a
 unfolding is_in_code
 in_code [] a = refl
 in_code (range ∷ ranges) a = ap (λ b. holds range a || b) (in_code ranges a)
 
--- two lists hold the same addresses
+-- Two lists hold the same addresses.
 pub record AlikeIn (set ranges : List Range) : Type 0 where
   pub same : (a : ℕ) → holds_any set a ≡ holds_any ranges a
 
@@ -59,11 +59,11 @@ alike_reading None set ranges strings found alike reads = sym (alike_fault set r
 alike_reading (Some list) set ranges strings found alike reads =
     (sym (alike_fault set ranges strings found alike) ∙ reads.0, reads.1 ∙ alike_symbols set ranges strings found alike)
 
--- what is read by one list of ranges is read by each other that holds the same addresses
+-- Two lists of ranges with the same addresses give the same function symbols.
 pub same_reading : (read : Option (List Symbol)) (set ranges : List Range) (strings : List ℕ) (found : List SymbolEntry) → ((a : ℕ) → holds_any set a ≡ holds_any ranges a) → ReadsSymbols read set strings found → ReadsSymbols read ranges strings found
 same_reading read set ranges strings found same reads = alike_reading read set ranges strings found (record { same = same }) reads
 
--- code starts at or above the base
+-- Code starts at or above the base.
 starts_above : (base : ℕ) (s : SectionHeader) → is_code base s ≡ true → base ≤ s.address
 unfolding is_code
 starts_above base s is =

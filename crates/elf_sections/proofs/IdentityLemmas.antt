@@ -8,7 +8,7 @@ use Rattle.std.specs.List.{fold, range_with_len}
 use Rattle.std.specs.Int.Bits.{bit_xor, xor_zero_r}
 use Rattle.elf_sections.specs.Identity.{folded, front16, folded_byte}
 
--- no byte folded
+-- The fold of no bytes.
 pub folded_none : (text : List ℕ) (j : ℕ) → folded_byte 0 text j ≡ 0
 unfolding folded_byte
 folded_none text j = refl
@@ -21,17 +21,16 @@ folded_more text n j b is =
     ∙ fold-append bit_xor 0 (map f (range_with_len 0 n)) (f n ∷ [])
     ∙ ap (λ t. bit_xor (fold bit_xor 0 (map f (range_with_len 0 n))) (cond t (get_or text n 0) 0)) is
 
--- one more byte joins the place that it belongs to
+-- One more byte changes the folded byte at its place modulo 16.
 pub folded_here : (text : List ℕ) (n j : ℕ) → n % 16 ≡ j → folded_byte (n + 1) text j ≡ bit_xor (folded_byte n text j) (get_or text n 0)
 folded_here text n j is = folded_more text n j true (eq-eqb (n % 16) j is)
 
--- and leaves the others
+-- It leaves the other folded bytes.
 pub folded_other : (text : List ℕ) (n j : ℕ) → n % 16 ≢ j → folded_byte (n + 1) text j ≡ folded_byte n text j
 folded_other text n j is =
     let other : (n % 16 == j) ≡ false = grind (arith, nat_tests) in
     folded_more text n j false other ∙ xor_zero_r (folded_byte n text j)
 
--- a list with the values of a function is its list of values
 values : (xs : List ℕ) (f : ℕ → ℕ) (a m : ℕ) → length xs ≡ m → ((j : ℕ) → j < m → get_or xs j 0 ≡ f (a + j)) → xs ≡ map f (range_with_len a m)
 values [] f a zero len each = refl
 values [] f a (suc m) len each = cc
@@ -41,14 +40,13 @@ values (x ∷ xs) f a (suc m) len each =
     let later = values xs f (a + 1) m (omega arith) (λ j lt. each (suc j) (omega arith) ∙ (let e : a + suc j ≡ (a + 1) + j = omega arith in ap f e)) in
     ap (λ y. y ∷ xs) first ∙ ap (λ ys. f a ∷ ys) later
 
--- sixteen bytes with the folded values are the fold
+-- Sixteen bytes with the folded values are the folded text.
 pub folded_is : (identity text : List ℕ) (limit n : ℕ) → n ≡ min limit (length text) → length identity ≡ 16 → ((j : ℕ) → j < 16 → get_or identity j 0 ≡ folded_byte n text j) → identity ≡ folded limit text
 unfolding folded
 folded_is identity text limit n is len each =
     values identity (folded_byte (min limit (length text)) text) 0 16 len
     (λ j lt. each j lt ∙ ap (λ k. folded_byte k text j) is ∙ (let e : j ≡ 0 + j = omega arith in ap (folded_byte (min limit (length text)) text) e))
 
--- zeros everywhere
 pub zero_at : (n j : ℕ) → ◌≡◌ {A = ℕ} (get_or (replicate n 0) j 0) 0
 zero_at zero j = refl
 zero_at (suc n) zero = refl
@@ -67,7 +65,7 @@ padded_to id m count is =
     drop-replicate count m 0 ∙ (let e : m - count ≡ m - length id = omega arith in ap (λ k. replicate k 0) e) in
     ap (λ r. take count id ++ r) rest ∙ ap (λ f. f ++ replicate (m - length id) 0) (front id m count is)
 
--- the id padded with zeros
+-- An id, padded with zeros.
 pub front16_is : (id : List ℕ) (count : ℕ) → count ≡ min (length id) 16 → take count id ++ drop count (replicate 16 0) ≡ front16 id
 unfolding front16
 front16_is id count is = padded_to id 16 count is
@@ -82,6 +80,6 @@ folded_set_by text identity n j false test inside is =
     get_or-set_other identity (n % 16) j (bit_xor (get_or identity (n % 16) 0) (get_or text n 0)) 0 other
     ∙ is ∙ sym (folded_other text n j (λ e. other (sym e)))
 
--- a byte folded into the identity
+-- One more byte folded into the identity.
 pub folded_set : (text identity : List ℕ) (n j : ℕ) → n % 16 < length identity → get_or identity j 0 ≡ folded_byte n text j → get_or (set identity (n % 16) (bit_xor (get_or identity (n % 16) 0) (get_or text n 0))) j 0 ≡ folded_byte (n + 1) text j
 folded_set text identity n j inside is = folded_set_by text identity n j (n % 16 == j) refl inside is

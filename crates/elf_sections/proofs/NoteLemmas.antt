@@ -8,18 +8,18 @@ use Rattle.elf_sections.specs.declared.section.SectionHeader.{SectionHeader}
 use Rattle.elf_sections.specs.Notes.{NoteParts, notes, notes_in, has_note, note_at, after_note, padded, first_id, is_build_id, notes_of}
 use Rattle.elf_sections.specs.Numbers.{u32_at}
 
--- no note in front: none
+-- If no note is in front, there is no build id.
 pub no_note : (n : ℕ) (bytes : List ℕ) → has_note bytes ≡ false → first_id (notes_in n bytes) ≡ None
 unfolding first_id notes_in
 no_note zero bytes none = refl
 no_note (suc n) bytes none = rw none refl
 
--- a build id in front is the first
+-- A build id in front is the first.
 pub next_id : (n m : ℕ) (bytes : List ℕ) → n ≡ m + 1 → has_note bytes ≡ true → is_build_id (note_at bytes) ≡ true → first_id (notes_in n bytes) ≡ Some (note_at bytes).descriptor
 unfolding first_id notes_in
 next_id n m bytes is some test = ap (λ k. first_id (notes_in k bytes)) (is ∙ add-one m) ∙ rw some (rw test refl)
 
--- another note in front leaves it to the rest
+-- If another note is in front, the first build id is that of the rest.
 pub next_other : (n m : ℕ) (bytes : List ℕ) → n ≡ m + 1 → has_note bytes ≡ true → is_build_id (note_at bytes) ≡ false → first_id (notes_in n bytes) ≡ first_id (notes_in m (after_note bytes))
 unfolding first_id notes_in
 next_other n m bytes is some test = ap (λ k. first_id (notes_in k bytes)) (is ∙ add-one m) ∙ rw some (rw test refl)
@@ -40,29 +40,28 @@ pub notes_begin : (bytes : List ℕ) (n : ℕ) → n ≡ length bytes → first_
 unfolding notes
 notes_begin bytes n is = ap (λ k. first_id (notes_in k bytes)) is
 
--- an id among the first notes is the first of all
+-- A build id among the first notes is the first of all notes.
 id_before : (first later : List NoteParts) (id : List ℕ) → first_id first ≡ Some id → first_id (first ++ later) ≡ Some id
 unfolding first_id
 id_before first later id is = ap (option_map (λ note. note.descriptor)) (find-append is_build_id first later) ∙ map_or_some (find is_build_id first) (find is_build_id later) id is
 
--- without one among the first notes it is the one of the later notes
+-- Without a build id among the first notes, that of the later notes counts.
 id_behind : (first later : List NoteParts) → first_id first ≡ None → first_id (first ++ later) ≡ first_id later
 unfolding first_id
 id_behind first later none = ap (option_map (λ note. note.descriptor)) (find-append is_build_id first later) ∙ map_or_none (find is_build_id first) (find is_build_id later) none
 
--- a section's id is the first where it has one
+-- If a section has a build id, it is the first.
 pub id_here : (file : List ℕ) (all : List SectionHeader) (i : ℕ) (d : SectionHeader) (id : List ℕ) → i < length all → Some id ≡ first_id (notes_of file (get_or all i d)) → Some id ≡ first_id (flat_map (notes_of file) (drop i all))
 id_here file all i d id inside found =
     sym (ap (λ l. first_id (flat_map (notes_of file) l)) (drop-cons all i d inside) ∙ id_before (notes_of file (get_or all i d)) (flat_map (notes_of file) (drop (suc i) all)) id (sym found))
 
--- a section without an id leaves it to the rest
+-- If a section has no build id, that of the later sections counts.
 pub id_later : (file : List ℕ) (all : List SectionHeader) (i : ℕ) (d : SectionHeader) → i < length all → None ≡ first_id (notes_of file (get_or all i d)) → first_id (flat_map (notes_of file) (drop (i + 1) all)) ≡ first_id (flat_map (notes_of file) (drop i all))
 id_later file all i d inside none =
     sym (ap (λ l. first_id (flat_map (notes_of file) l)) (drop-cons all i d inside)
     ∙ id_behind (notes_of file (get_or all i d)) (flat_map (notes_of file) (drop (suc i) all)) (sym none)
     ∙ ap (λ j. first_id (flat_map (notes_of file) (drop j all))) (sym (add-one i)))
 
--- after the last section there is none
 pub id_end : (file : List ℕ) (all : List SectionHeader) (i : ℕ) → length all ≤ i → None ≡ first_id (flat_map (notes_of file) (drop i all))
 unfolding first_id
 id_end file all i past = sym (ap (λ l. option_map (λ (note : NoteParts). note.descriptor) (find is_build_id (flat_map (notes_of file) l))) (drop_all i all past))
@@ -76,7 +75,7 @@ after_less : (n : ℕ) (bytes : List ℕ) → length bytes ≤ suc n → length 
 unfolding after_note
 after_less n bytes within = omega (arith, length-drop (12 + padded (u32_at bytes 0) + padded (u32_at bytes 4)) bytes)
 
--- more steps than bytes find no more notes
+-- With at least as many steps as bytes, all notes are found.
 notes_enough : (n m : ℕ) (bytes : List ℕ) → length bytes ≤ n → length bytes ≤ m → notes_in n bytes ≡ notes_in m bytes
 unfolding notes_in
 notes_enough zero zero bytes a b = refl
@@ -85,7 +84,7 @@ notes_enough (suc n) zero bytes a b = rw (no_bytes bytes b) refl
 notes_enough (suc n) (suc m) bytes a b =
     ap (λ l. if has_note bytes then note_at bytes ∷ l else []) (notes_enough n m (after_note bytes) (after_less n bytes a) (after_less m bytes b))
 
--- the notes are the one in front and those after it
+-- The notes are the one in front and those after it.
 pub notes_each : (bytes : List ℕ) → notes bytes ≡ (if has_note bytes then note_at bytes ∷ notes (after_note bytes) else [])
 unfolding notes notes_in
 notes_each bytes =

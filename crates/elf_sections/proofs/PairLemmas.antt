@@ -24,12 +24,12 @@ filtered_views set ranges [] same = refl
 filtered_views set ranges (s ∷ found) same =
     kept_view (is_in_code set s.address) s _ _ (filtered_views set ranges found same) ∙ rw (same s.address) refl
 
--- symbols that are kept by one list of ranges are kept by each other that holds the same addresses
+-- Two lists of ranges with the same addresses keep the same symbols.
 pub kept_views : (set ranges : List Range) (found kept : List Symbol) → ((a : ℕ) → holds_any set a ≡ holds_any ranges a) → kept ≡ filter (λ s. is_in_code set s.address) found → map symbol_view kept ≡ symbols_in ranges (map symbol_view found)
 unfolding symbols_in
 kept_views set ranges found kept same is = ap (map symbol_view) is ∙ filtered_views set ranges found (λ a. in_code set a ∙ same a ∙ sym (in_code ranges a))
 
--- the symbols of a file lie in its code, so that none is lost where the file is its own debug file
+-- The symbols of a file lie in its code, so none is lost if the file is its own debug file.
 named_at : (address : ℕ) (name : Option (List ℕ)) (s : SymbolParts) → named_symbol address name ≡ Some s → s.address ≡ address
 named_at address None s is = cc
 named_at address (Some []) s is = cc
@@ -74,7 +74,7 @@ file_kept : (file : List ℕ) → symbols_in (code file) (symbols file) ≡ symb
 unfolding symbols
 file_kept file = table_kept file (symbol_table (sections file))
 
--- a file with itself as its debug file has its own image
+-- A file that is its own debug file has its own image.
 pub paired_with_itself : (file : List ℕ) → paired (parts_of file) (parts_of file) ≡ parts_of file
 unfolding paired parts_of
 paired_with_itself file = rw (own_symbols (symbols file), file_kept file) refl

@@ -2,12 +2,12 @@ use Rattle.std.proofs.Common.{◌≡◌, ℕ, suc, ◌+◌, ◌*◌, ◌==◌, t
 use Rattle.elf_sections.specs.ElfNumbers.{program_header_size, pt_load}
 use Rattle.elf_sections.specs.Programs.{program_at, programs_from, loaded_address}
 
--- the first header of what is left
+-- The first program header of those that are left.
 programs_next : (file : List ℕ) (table k n : ℕ) → programs_from file table k (suc n) ≡ program_at file (table + program_header_size * k) ∷ programs_from file table (k + 1) n
 unfolding programs_from
 programs_next file table k n = refl
 
--- a loaded header in front gives the address, and any other leaves it to the rest
+-- The first loaded segment gives the address.
 pub address_found : (file : List ℕ) (table k n m : ℕ) → n ≡ m + 1 → ((program_at file (table + program_header_size * k)).kind == pt_load) ≡ true → loaded_address (programs_from file table k n) ≡ (program_at file (table + program_header_size * k)).address
 unfolding loaded_address
 address_found file table k n m is test =

@@ -1,4 +1,4 @@
--- The ends of a table's strings, and the strings by them.
+-- The ends of the strings of a table.
 use Rattle.std.proofs.Common.{◌≡◌, ℕ, ◌+◌, ◌-◌, ◌*◌, ◌/◌, ◌%◌, ◌<◌, ◌≤◌, ◌==◌, Bool, true, false, not, List, [], ◌∷◌, ◌++◌, Some, None, length, take, drop, get_or, nat_lt, nat_le, subst, refl, sym, ◌∙◌, ap, arith, length-drop, inl, inr, ◌⊎◌}
 use Rattle.std.proofs.lemmas.Grind.{common_steps}
 use Rattle.std.proofs.lemmas.Bool.{cases_lt, false_from_ne_true, lt-ltb, le-ltb, le-leb, lt-leb}
@@ -14,11 +14,11 @@ use Rattle.leb_cursor.specs.Texts.{front_text}
 use Rattle.elf_sections.specs.Strings.{string_at}
 use Rattle.elf_sections.specs.Kept.{string_end, AreEnds}
 
--- the place of the first zero byte, or the length
+-- The place of the first zero byte, or the length.
 abbrev span : List ℕ → ℕ
 span xs = position_or_len (λ b. b == 0) xs
 
--- a first zero at k ends the span there, and without one the span is all
+-- The first zero byte is the end of the span; without one the span is the whole.
 span_at : (xs : List ℕ) (k : ℕ) → IsFirstByte (is_byte 0) xs (Some k) → span xs ≡ k
 span_at xs k first =
     let high : k < length xs = first.0.high in
@@ -33,14 +33,12 @@ span_all xs none =
 span_within : (xs : List ℕ) → span xs ≤ length xs
 span_within xs = prefix_len-le-length (λ b. not (b == 0)) xs
 
--- a zero byte ends the span at the latest
 span_before : (xs : List ℕ) (k : ℕ) → (get_or xs k 0 == 0) ≡ true → span xs ≤ k
 span_before xs k zero = elim (cases_lt k (span xs)) [
   | inl below ↦ (let fails = fails_before_first (λ b. b == 0) xs k 0 below in cc)
   | inr past ↦ past
 ]
 
--- after a part of the span the rest of it is left
 span_drop : (xs : List ℕ) (n : ℕ) → n ≤ span xs → n + span (drop n xs) ≡ span xs
 span_drop xs n le =
     let within = span_within xs in
@@ -52,7 +50,6 @@ span_drop xs n le =
     ∙ passes_at_first (λ b. b == 0) xs 0 (omega arith)) in
     omega (arith, is)
 
--- a span that ends in a front ends there, and one that does not goes on
 span_front : (xs : List ℕ) (n : ℕ) → span (take n xs) < length (take n xs) → span xs ≡ span (take n xs)
 span_front xs n less =
     let size = length-take n xs in
@@ -72,7 +69,6 @@ span_past xs n same le =
       | inr past ↦ past
     ]
 
--- the text in front, by the span
 front_found : (xs : List ℕ) → span xs < length xs → front_text xs ≡ Some (take (span xs) xs)
 unfolding front_text
 front_found xs less = rw (lt-ltb (span xs) (length xs) less) refl
@@ -81,7 +77,7 @@ front_missing : (xs : List ℕ) → length xs ≤ span xs → front_text xs ≡ 
 unfolding front_text
 front_missing xs past = rw (le-ltb (span xs) (length xs) past) refl
 
--- the end where a first zero was found, and where none was
+-- The end of a string, if a zero byte was found, and if none was.
 pub end_found : (table : List ℕ) (at k : ℕ) → IsFirstByte (is_byte 0) (drop at table) (Some k) → string_end table at ≡ at + k
 unfolding string_end
 end_found table at k first = ap (λ n. at + n) (span_at (drop at table) k first)
@@ -90,7 +86,7 @@ pub end_missing : (table : List ℕ) (at : ℕ) → IsFirstByte (is_byte 0) (dro
 unfolding string_end
 end_missing table at none inside = omega (arith, span_all (drop at table) none, length-drop at table)
 
--- places in one text have one end
+-- All places up to the end of a string have the same end.
 pub end_again : (table : List ℕ) (p q : ℕ) → p ≤ q → q ≤ string_end table p → string_end table q ≡ string_end table p
 unfolding string_end
 end_again table p q le inside =
@@ -98,7 +94,7 @@ end_again table p q le inside =
     let moved = span_drop (drop p table) (q - p) (omega arith) in
     omega (arith, moved, ap span same)
 
--- the end by a zero in a front of what follows, and without one
+-- The end of a string if its block has a zero byte after its start, and if not.
 pub end_in_block : (table : List ℕ) (at n k : ℕ) → IsFirstByte (is_byte 0) (take n (drop at table)) (Some k) → string_end table at ≡ at + k
 unfolding string_end
 end_in_block table at n k first =
@@ -114,7 +110,7 @@ pub end_behind_block : (table : List ℕ) (at n next : ℕ) → IsFirstByte (is_
 end_behind_block table at n next none is inside =
     end_again table at next (omega arith) (behind table at n next (span_all (take n (drop at table)) none) is inside)
 
--- the string at an index, by its end
+-- The string at an index, given its end.
 pub string_found : (table : List ℕ) (at : ℕ) → at ≤ length table → string_end table at < length table → string_at table at ≡ Some (take (string_end table at - at) (drop at table))
 unfolding string_at string_end
 string_found table at inside less =
@@ -144,11 +140,11 @@ below_by table last at found (inr past) =
     (λ outside. absurd (omega arith)) in
     ap is_none (front_missing (drop at table) (omega (arith, all))) ∙ sym (le-leb (last + 1) at past)
 
--- what begins at or below the last zero byte is a string, and nothing else
+-- At each place at or below the last zero byte a string begins, and at no other.
 pub strings_below : (table : List ℕ) (last : ℕ) → IsLastByte (is_byte 0) table (Some last) → (at : ℕ) → is_none (string_at table at) ≡ nat_le (last + 1) at
 strings_below table last found at = below_by table last at found (cases_lt at (last + 1))
 
--- without a zero byte there is no string
+-- Without a zero byte there is no string.
 pub no_string : (table : List ℕ) → IsLastByte (is_byte 0) table None → (at : ℕ) → is_none (string_at table at) ≡ nat_le 0 at
 unfolding string_at
 no_string table none at =
@@ -169,18 +165,15 @@ pub end_order : (table : List ℕ) (at : ℕ) → at ≤ string_end table at
 unfolding string_end
 end_order table at = omega arith
 
--- one more end joins those of the blocks before
 pub ends_more : (table ends : List ℕ) (block k end : ℕ) → length ends ≡ k → ((j : ℕ) → j < k → get_or ends j 0 ≡ string_end table (j * block)) → end ≡ string_end table (k * block) → (j : ℕ) → j < k + 1 → get_or (ends ++ end ∷ []) j 0 ≡ string_end table (j * block)
 ends_more table ends block k end size each is j lt = ends_by table ends block k end size each is j lt (nat_lt j k) refl
 
--- the start of a block that begins in the table lies in it
 pub start_inside : (len block k : ℕ) → 0 < block → k < len / block + 1 → k * block ≤ len
 start_inside len block k some below =
     let le : k ≤ len / block = omega arith in
     let whole : block * (len / block) + len % block ≡ len = omega (arith, some) in
     grind (arith, mul-le-mul_right block le)
 
--- a place lies before the start of the next block
 order_by : (at block : ℕ) → 0 < block → (b : Bool) → nat_le ((at / block + 1) * block) at ≡ b → at ≤ (at / block + 1) * block
 order_by at block some true test =
     let past : (at / block + 1) * block ≤ at = grind (arith, nat_tests) in
@@ -190,7 +183,7 @@ order_by at block some false test = let less : at < (at / block + 1) * block = g
 block_order : (at block : ℕ) → 0 < block → at ≤ (at / block + 1) * block
 block_order at block some = order_by at block some (nat_le ((at / block + 1) * block) at) refl
 
--- where the rest of the block has no zero, the end is that of the next block
+-- If the rest of a block has no zero byte, the end is that from the start of the next block.
 pub end_by_next : (table ends front : List ℕ) (block at value : ℕ) → AreEnds table block ends → at / block + 1 < length ends → value ≡ get_or ends (at / block + 1) value → front ≡ take ((at / block + 1) * block - at) (drop at table) → IsFirstByte (is_byte 0) front None → value ≡ string_end table at
 end_by_next table ends front block at value are inside is cut none =
     let i = at / block + 1 in

@@ -1,10 +1,9 @@
--- The section headers of a table, one by one.
+-- The section headers of a table, read one by one.
 use Rattle.std.proofs.Common.{◌≡◌, ℕ, ◌+◌, ◌*◌, List, [], ◌∷◌, ◌++◌, length, refl, arith}
 use Rattle.std.proofs.lemmas.List.FromFn.{map-range_with_len_more, length-map-range_with_len}
 use Rattle.elf_sections.specs.ElfNumbers.{section_header_size}
 use Rattle.elf_sections.specs.Sections.{section_at, sections_from}
 
--- no header, and one more
 pub sections_none : (file : List ℕ) (table : ℕ) → sections_from file table 0 ≡ []
 unfolding sections_from
 sections_none file table = refl

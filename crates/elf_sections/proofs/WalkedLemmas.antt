@@ -1,4 +1,4 @@
--- Sections of notes over one run of bytes have the same notes.
+-- Sections of notes with the same offset and size have the same notes.
 use Rattle.std.proofs.Common.{◌≡◌, ◌≢◌, ℕ, Bool, true, false, cond, List, None, refl, sym, ◌∙◌, ap}
 use Rattle.std.proofs.lemmas.Bool.{ne_eqb}
 use Rattle.std.proofs.lemmas.Map.Lookups.{exact_unsigned, exact_pairs}
@@ -13,12 +13,12 @@ use Rattle.elf_sections.specs.Sections.{content, bytes_of, is_empty_kind}
 use Rattle.elf_sections.specs.Notes.{first_id, notes_of}
 use Rattle.elf_sections.specs.Kept.{run_cmp, GaveNone}
 
--- a section of another type has no notes
+-- A section of another type has no notes.
 pub no_notes : (file : List ℕ) (s : SectionHeader) → s.kind ≢ sht_note → None ≡ first_id (notes_of file s)
 unfolding notes_of first_id
 no_notes file s other = rw (ne_eqb s.kind sht_note other) refl
 
--- the notes of a section of notes, by its run of bytes
+-- Two sections of notes with the same offset and size have the same notes.
 same_notes : (file : List ℕ) (s t : SectionHeader) → s.kind ≡ sht_note → t.kind ≡ sht_note → s.offset ≡ t.offset → s.size ≡ t.size → notes_of file s ≡ notes_of file t
 unfolding notes_of bytes_of content is_empty_kind
 same_notes file s t a b offset size = rw (a, b, offset, size) refl
@@ -40,7 +40,7 @@ gave_by file old new s t true gave s_is t_is none same found =
     ap first_id (sym (same_notes file s t s_is t_is (ap (λ (r : ℕ × ℕ). r.0) run) (ap (λ (r : ℕ × ℕ). r.1) run))) ∙ sym none
 gave_by file old new s t false gave s_is t_is none same found = gave t t_is found
 
--- a run that gave none joins the set
+-- The offset and size of a section without a build id are added to the set.
 pub gave_none_more : (file : List ℕ) (old new : BTreeSet (ℕ × ℕ)) (s : SectionHeader) → GaveNone file old → s.kind ≡ sht_note → None ≡ first_id (notes_of file s) → Updates run_cmp old new (s.offset, s.size) true → GaveNone file new
 gave_none_more file old new s gave s_is none updates t t_is found =
     gave_by file old new s t (is_at (run_cmp (s.offset, s.size)) (t.offset, t.size)) gave s_is t_is none refl

@@ -1,4 +1,4 @@
--- A stripped binary and its debug file.
+-- Worked examples: a stripped binary and its debug file.
 use Rattle.std.proofs.Common.{◌≡◌, ℕ, List, [], ◌∷◌, map, codes, refl}
 use Rattle.sym_edges.proofs.Hex.{bytes}
 use Rattle.elf_sections.specs.Symbols.{SymbolParts}
@@ -7,11 +7,12 @@ use Rattle.elf_sections.specs.Pair.{paired}
 use Rattle.elf_sections.proofs.Computing.{elf_sections_computes}
 use Rattle.elf_sections.proofs.Elf.{Section, Symbol, plain, code_at, function, file_of, strings, symbol_table, note, elf_builds}
 
--- a section with bytes in the file, or of type NOBITS
+-- A section with bytes in the file, or of type NOBITS.
 abbrev loaded : List ℕ → ℕ → ℕ → List ℕ → Section
 loaded name kind address content = record { name = name; kind = kind; flags = 2; address = address; link = 0; content = content }
 
--- code at 1000, frame entries, function symbols, and both sections that only one of the two files is asked for
+-- A file with code at 1000, frame entries, function symbols, and sections that are asked of only
+-- one of the files.
 abbrev with_symbols : Section → ℕ → List ℕ → List ℕ → List Symbol → List ℕ
 with_symbols code kind units frames found =
     file_of 0x400 (plain [] 0 [] ∷ plain (codes ".note.gnu.build-id") 7 (note (bytes (codes "0102"))) ∷ code ∷ symbol_table 2 found
@@ -21,7 +22,7 @@ with_symbols code kind units frames found =
 abbrev binary : List Symbol → List ℕ
 binary found = with_symbols (code_at 0x1000 (bytes (codes "55905dc3"))) 1 (bytes (codes "aa")) (bytes (codes "bb")) found
 
--- its code goes on up to 1008, and has no bytes in the file
+-- A section of code up to 1008 without bytes in the file.
 abbrev more_code : Section
 more_code = record { name = codes ".text"; kind = 8; flags = 6; address = 0x1000; link = 0; content = bytes (codes "55905dc355905dc3") }
 
@@ -34,7 +35,7 @@ both first second = paired (parts_of (binary first)) (parts_of (debug second))
 abbrev part : ℕ → List ℕ → SectionPart
 part address content = record { bytes = content; address = address }
 
--- what is loaded is the binary's, and all else the debug file's
+-- The loaded sections are the binary's, and all others are the debug file's.
 whose_sections : (both [] []).text ∷ (both [] []).eh_frame ∷ (both [] []).info ∷ (both [] []).debug_frame ∷ []
     ≡ part 0x1000 (bytes (codes "55905dc3")) ∷ part 0x2000 (bytes (codes "00000000")) ∷ part 0 (bytes (codes "cc")) ∷ part 0 (bytes (codes "dd")) ∷ []
 unfolding elf_sections_computes elf_builds
@@ -47,17 +48,17 @@ binary_code = refl
 abbrev addresses : List SymbolParts → List ℕ
 addresses found = map (λ s. s.address) found
 
--- the debug file's symbols count where it has one, and those outside of the binary's code are dropped
+-- The debug file's symbols count if it has any. Those outside of the binary's code are dropped.
 debug_symbols : addresses (both (function (codes "f") 0x1001 ∷ []) (function (codes "g") 0x1000 ∷ function (codes "h") 0x1003 ∷ function (codes "i") 0x1004 ∷ [])).symbols ≡ 0x1000 ∷ 0x1003 ∷ []
 unfolding elf_sections_computes elf_builds
 debug_symbols = refl
 
--- the binary's are not asked for although none of the debug file's is in the binary's code
+-- The debug file has symbols, but none in the binary's code: the binary's symbols do not count.
 all_outside : addresses (both (function (codes "f") 0x1001 ∷ []) (function (codes "g") 0x1004 ∷ [])).symbols ≡ []
 unfolding elf_sections_computes elf_builds
 all_outside = refl
 
--- a symbol outside of the debug file's own code is none
+-- A symbol outside of the debug file's own code does not count.
 no_debug_symbol : addresses (both (function (codes "f") 0x1001 ∷ []) (function (codes "g") 0x1008 ∷ [])).symbols ≡ 0x1001 ∷ []
 unfolding elf_sections_computes elf_builds
 no_debug_symbol = refl

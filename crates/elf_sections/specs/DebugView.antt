@@ -1,4 +1,4 @@
--- The sections of debugging information that the code gives, as the specs see them.
+-- How the specs see `DebugParts`, the sections of debugging information of an image.
 use Rattle.elf_sections.specs.Image.{DebugSections, part_view}
 use Rattle.elf_sections.specs.declared.image.DebugParts.{DebugParts}
 

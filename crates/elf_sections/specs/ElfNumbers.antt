@@ -2,7 +2,8 @@
 -- machine; and of the GNU extensions where a comment names them.
 use Rattle.std.specs.Prelude.{ℕ}
 
--- two places in e_ident, each with a value for it: 64-bit objects, and numbers with the lowest byte first
+-- two places in e_ident, each with the value that is accepted there: 64-bit objects, and numbers
+-- with the lowest byte first
 abbrev pub ei_class : ℕ
 ei_class = 4
 

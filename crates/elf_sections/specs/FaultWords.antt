@@ -3,7 +3,7 @@ use Rattle.std.specs.Prelude.{ℕ, List, ◌++◌, Option, Some, None, codes, de
 use Rattle.elf_sections.specs.declared.fault.ElfFault.{ElfFault}
 use Rattle.elf_sections.specs.declared.fault.ElfFault.TheVariants.{NotElf, Class, Order, Machine, Kind, SectionTable, SectionNames, SectionBytes, Compressed, ProgramTable, SymbolTable, NoIdentity, InflatedTooLong, Inflate}
 
--- the word of a fault, for some with the index of a section
+-- the word of a fault; some words are followed by the index of a section
 abbrev pub fault_word : ElfFault → List ℕ
 fault_word NotElf = codes "not-elf"
 fault_word Class = codes "class"

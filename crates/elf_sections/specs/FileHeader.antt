@@ -47,25 +47,25 @@ is_not_elf file = nat_lt (length file) file_header_size || not (bytes_eq (take 4
 unfoldable pub is_other_kind : List ℕ → Bool
 is_other_kind file = not (type_of file == et_exec || type_of file == et_dyn)
 
--- the section header table lies within `len` bytes, at an offset above 0; it has at least one and fewer than `shn_loreserve` headers, of 64 bytes
--- each
+-- the section header table lies within `len` bytes, at an offset above 0. It has at least one and
+-- fewer than `shn_loreserve` headers, of 64 bytes each
 unfoldable pub has_sections : FileHeader → ℕ → Bool
 has_sections header len =
     (nat_lt 0 header.section_table && (nat_lt 0 header.section_count && nat_lt header.section_count shn_loreserve))
     && ((header.section_size == section_header_size) && nat_le (header.section_table + section_header_size * header.section_count) len)
 
--- the first fault of the header that is looked for before the file's type
+-- the first of the faults of the header that are looked for before the file's type
 unfoldable pub machine_fault : List ℕ → Option ElfFault
 machine_fault file = fault_if (is_not_elf file) NotElf
     (fault_if (not (slice_index file ei_class == elfclass64)) Class
     (fault_if (not (slice_index file ei_data == elfdata2lsb)) Order
     (fault_if (not (machine_of file == em_x86_64)) Machine None)))
 
--- the first fault of the header, without that of its tables
+-- the first of the faults of the header that are looked for before its section header table
 unfoldable pub ident_fault : List ℕ → Option ElfFault
 ident_fault file = option_or (machine_fault file) (fault_if (is_other_kind file) Kind None)
 
--- the fault of a file without a section header table
+-- the fault of a file whose section header table is missing or not as `has_sections` says
 unfoldable pub section_table_fault : List ℕ → Option ElfFault
 section_table_fault file = fault_if (not (has_sections (header_of file) (length file))) SectionTable None
 
@@ -73,6 +73,7 @@ section_table_fault file = fault_if (not (has_sections (header_of file) (length 
 unfoldable pub header_fault : List ℕ → Option ElfFault
 header_fault file = option_or (ident_fault file) (section_table_fault file)
 
--- the first fault of the header of a supplementary file, which may be of any type; most are relocatable
+-- the first fault of the header of a supplementary file, which may be of any type (most are
+-- relocatable)
 unfoldable pub sup_header_fault : List ℕ → Option ElfFault
 sup_header_fault file = option_or (machine_fault file) (section_table_fault file)

@@ -1,8 +1,9 @@
--- The 16 bytes that name a build.
+-- The 16 bytes that identify a build.
 use Rattle.std.specs.Prelude.{ℕ, ◌-◌, ◌%◌, ◌==◌, List, ◌++◌, length, take, map, fold, min, slice_index, replicate, bit_xor, if◌then◌else◌}
 use Rattle.std.specs.List.{range_with_len}
 
--- byte j of the exclusive or of groups of 16 bytes: the exclusive or of those of the first n bytes whose place is j modulo 16
+-- byte j of the folded text: the exclusive or of those of its first n bytes whose places are j
+-- modulo 16
 unfoldable pub folded_byte : ℕ → List ℕ → ℕ → ℕ
 folded_byte n text j = fold bit_xor 0 (map (λ k. if k % 16 == j then slice_index text k else 0) (range_with_len 0 n))
 

@@ -59,7 +59,7 @@ abbrev pub identity_of : List ℕ → Option (List ℕ) → List ℕ
 identity_of text None = folded identity_bytes text
 identity_of text (Some id) = front16 id
 
--- the fault `NoIdentity`, if the file has no build id and no bytes of `.text`
+-- the fault `NoIdentity`, if the file has no build id and `.text` has no bytes
 unfoldable pub identity_fault : List ℕ → Option ElfFault
 identity_fault file = fault_if (is_none (build_id file) && (length (part_named file (name_of Text)).bytes == 0)) NoIdentity None
 
@@ -85,8 +85,10 @@ pub record DebugSections : Type 0 where
   pub rnglists : SectionPart
   pub debug_frame : SectionPart
 
--- an image: its sections by name, its base, code, build id, identity and function symbols; the two sections that link to a supplementary file or
--- identify the file as one (`altlink`, `debug_sup`); and the sections of the supplementary file that was read with it (`sup`)
+-- an image: its sections by name, its base, code, build id, identity and function symbols.
+-- `altlink` and `debug_sup` are the sections that link to a supplementary file; the latter may
+-- instead say that the file is one. `sup` has the sections of the supplementary file that was read
+-- with this file
 pub record ImageParts : Type 0 where
   pub info : SectionPart
   pub abbrevs : SectionPart
@@ -109,7 +111,7 @@ pub record ImageParts : Type 0 where
   pub debug_sup : LinkPart
   pub sup : Option DebugSections
 
--- the parts of the image of a file
+-- the parts of the image of a file, as if it had no fault
 unfoldable pub parts_of : List ℕ → ImageParts
 parts_of file = record {
   info = part_named file (name_of Info);
@@ -167,7 +169,7 @@ with_sections debug i = record {
   sup = i.sup;
 }
 
--- a section of an image
+-- one of the twelve sections of an image
 abbrev pub section_of : ImageParts → Sect → SectionPart
 section_of i Info = i.info
 section_of i Abbrev = i.abbrevs

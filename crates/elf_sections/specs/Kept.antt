@@ -1,4 +1,5 @@
--- What the code keeps of a file and of a string table while it reads. No public clause cites it.
+-- What the code stores of a file and of a string table while it reads. No public contract cites
+-- these definitions.
 use Rattle.std.specs.Prelude.{◌≡◌, ℕ, ◌+◌, ◌*◌, ◌/◌, ◌^◌, ◌<◌, ◌==◌, true, List, None, length, drop, slice_index}
 use Rattle.std.specs.List.{position_or_len}
 use Rattle.std.specs.declared.cmp.Ordering.{Ordering}
@@ -11,22 +12,22 @@ use Rattle.elf_sections.specs.Sections.{sections, names}
 use Rattle.elf_sections.specs.declared.header.FileHeader.{FileHeader}
 use Rattle.elf_sections.specs.declared.section.SectionHeader.{SectionHeader}
 
--- what was read of a file whose header and names have no fault
+-- the file header, the section headers and the table of names, as they were read
 pub record AreTables (file : List ℕ) (header : FileHeader) (list : List SectionHeader) (table : List ℕ) : Type 0 where
   pub header_is : header ≡ header_of file
   pub list_is : list ≡ sections file
   pub table_is : table ≡ names file
   pub few : length list < 2 ^ 16
 
--- the order of runs of bytes: by offset, then by size
+-- the order of places in a file with a size: by offset, then by size
 abbrev pub run_cmp : ℕ × ℕ → ℕ × ℕ → Ordering
 run_cmp x y = ordering_then (nat_cmp x.0 y.0) (nat_cmp x.1 y.1)
 
--- if the set has the offset and the size of a section of notes, that section has no build id
+-- a section of notes whose offset and size are in the set has no build id
 abbrev pub GaveNone : List ℕ → BTreeSet (ℕ × ℕ) → Type 0
 GaveNone file runs = (s : SectionHeader) → s.kind ≡ sht_note → contains run_cmp runs (s.offset, s.size) ≡ true → first_id (notes_of file s) ≡ None
 
--- the place of the first zero byte at or after a place, or the table's end
+-- the place of the first zero byte at or after `at`, or the table's end
 unfoldable pub string_end : List ℕ → ℕ → ℕ
 string_end table at = at + position_or_len (λ b. b == 0) (drop at table)
 

@@ -18,7 +18,8 @@ pub record NoteParts : Type 0 where
 unfoldable pub padded : ℕ → ℕ
 padded n = (n + 3) / 4 * 4
 
--- the length of a note up to the end of its descriptor: three numbers, the padded name, and the descriptor, whose padding may be missing
+-- the length of a note up to the end of its descriptor: three numbers, the padded name, and the
+-- descriptor without its padding, which may be missing
 unfoldable pub note_len : List ℕ → ℕ
 note_len bytes = 12 + padded (u32_at bytes 0) + u32_at bytes 4
 
@@ -38,13 +39,13 @@ note_at bytes = record {
 unfoldable pub after_note : List ℕ → List ℕ
 after_note bytes = drop (12 + padded (u32_at bytes 0) + padded (u32_at bytes 4)) bytes
 
--- the notes at the start of the bytes, `n` at most; a note that does not fit ends them
+-- the notes at the start of the bytes, at most `n`; the first note that does not fit ends the list
 unfoldable pub notes_in : ℕ → List ℕ → List NoteParts
 notes_in zero bytes = []
 notes_in (suc n) bytes = if has_note bytes then note_at bytes ∷ notes_in n (after_note bytes) else []
 
--- the notes of a section. Each note has some bytes, so there are no more notes than bytes. (`find_id` ensures that they are the first note, and the
--- notes after it.)
+-- the notes of a section. Each note has some bytes, so there are no more notes than bytes. A clause
+-- of `find_id` says that this bound cuts off no note
 unfoldable pub notes : List ℕ → List NoteParts
 notes bytes = notes_in (length bytes) bytes
 

@@ -15,8 +15,10 @@ first_symbols binary (s ∷ debug) = s ∷ debug
 unfoldable pub symbols_in : List Range → List SymbolParts → List SymbolParts
 symbols_in ranges found = filter (λ s. is_in_code ranges s.address) found
 
--- the image of both files. The loaded sections, the base, the code and the ids are those of the binary, since the debug file has no bytes for loaded
--- sections. All other sections are those of the debug file. The symbols are those of one file (`first_symbols`), at addresses in the binary's code
+-- the image of both files. The loaded sections, the base, the code and the ids are those of the
+-- binary, since the debug file has no bytes for loaded sections. All other sections are those of
+-- the debug file. The symbols are those of one of the files (`first_symbols`), as far as their
+-- addresses are in the binary's code
 unfoldable pub paired : ImageParts → ImageParts → ImageParts
 paired binary debug = record {
   info = debug.info;

@@ -47,7 +47,7 @@ unfoldable pub content : List ℕ → SectionHeader → Option (List ℕ)
 content file s = if is_empty_kind s then Some [] else
     if nat_le (s.offset + s.size) (length file) then Some (take s.size (drop s.offset file)) else None
 
--- the same bytes, or no bytes
+-- the bytes of a section, or no bytes if they extend past the end of the file
 unfoldable pub bytes_of : List ℕ → SectionHeader → List ℕ
 bytes_of file s = unwrap_or (content file s) []
 
@@ -58,7 +58,8 @@ name_table file = option_and_then (content file) (slice_get (sections file) (hea
 unfoldable pub names : List ℕ → List ℕ
 names file = unwrap_or (name_table file) []
 
--- the section has this name: the table of names has it at the section's place, followed by a zero byte
+-- whether the section has this name: at the section's place, the table of names has it, followed by
+-- a zero byte
 unfoldable pub is_named : List ℕ → List ℕ → SectionHeader → Bool
 is_named table name s = starts_with nat_eq (drop s.name table) (name ++ 0 ∷ [])
 

@@ -7,7 +7,7 @@ use Rattle.elf_sections.specs.declared.section.SectionHeader.{SectionHeader}
 use Rattle.elf_sections.specs.declared.links.LinkSection.{LinkSection}
 use Rattle.elf_sections.specs.declared.links.LinkSection.TheVariants as code
 
--- the content of such a section
+-- the content of one of these sections
 pub data LinkPart : Type 0 where
   -- there is no section with this name
   Missing : LinkPart
@@ -31,7 +31,7 @@ abbrev pub held : Option (List ℕ) → LinkPart
 held None = Unreadable
 held (Some bytes) = Held bytes
 
--- the content of a section, if there is one
+-- the content of a section that may be missing
 abbrev pub link_of : List ℕ → Option SectionHeader → LinkPart
 link_of file None = Missing
 link_of file (Some s) = if has_flag shf_compressed s || s.kind == sht_nobits then Unreadable else held (content file s)

@@ -61,7 +61,7 @@ symbol_view s = record { address = s.address; name = s.name.now }
 unfoldable pub is_nameless : List Range → List ℕ → SymbolEntry → Bool
 is_nameless ranges strings e = is_function ranges e && is_none (string_at strings e.name)
 
--- a symbol with this address and this name, if there is a name and it is not empty
+-- a symbol with this address and this name, if the name is there and not empty
 abbrev pub named_symbol : ℕ → Option (List ℕ) → Option SymbolParts
 named_symbol address None = None
 named_symbol address (Some []) = None
@@ -79,7 +79,7 @@ has_nameless ranges strings found = list_any (is_nameless ranges strings) found
 unfoldable pub functions : List Range → List ℕ → List SymbolEntry → List SymbolParts
 functions ranges strings found = filter_map (function_of ranges strings) found
 
--- the fault and the function symbols of a symbol table, given the string table to which it links
+-- the fault of a symbol table, given the string table to which it links, if there is one
 abbrev pub linked_fault : List ℕ → List ℕ → Option SectionHeader → Option ElfFault
 linked_fault file table None = Some SymbolTable
 linked_fault file table (Some s) = fault_if (has_nameless (code file) (bytes_of file s) (entries table)) SymbolTable None
@@ -88,7 +88,7 @@ abbrev pub linked_symbols : List ℕ → List ℕ → Option SectionHeader → L
 linked_symbols file table None = []
 linked_symbols file table (Some s) = functions (code file) (bytes_of file s) (entries table)
 
--- the fault and the function symbols of a file, given its symbol table if it has one
+-- the fault of a file, given its symbol table, if it has one
 abbrev pub table_fault : List ℕ → Option SectionHeader → Option ElfFault
 table_fault file None = None
 table_fault file (Some table) = linked_fault file (bytes_of file table) (linked (sections file) table)

@@ -45,7 +45,7 @@ pub const STT_FUNC: u8 = 2;
 
 pub const STT_GNU_IFUNC: u8 = 10;
 
-// Bytes of an Elf64_Ehdr, an Elf64_Shdr, an Elf64_Phdr and an Elf64_Sym.
+// The sizes in bytes of an Elf64_Ehdr, an Elf64_Shdr, an Elf64_Phdr and an Elf64_Sym.
 pub const FILE_HEADER: usize = 64;
 
 pub const SECTION_HEADER: usize = 64;

@@ -12,7 +12,7 @@ use range_set::{RangeSet, of_ranges};
 use std::alloc::{AllocError, Global};
 use sym_edges::{OutOfMemory, Span};
 
-/// The symbols of the debug file if it has any, else those of the binary.
+/// The symbols of the debug file if it has any, otherwise those of the binary.
 fn choose_symbols<'s, 'a>(binary: &'s [Symbol<'a>], debug: &'s [Symbol<'a>]) -> &'s [Symbol<'a>]
     ensures { map symbol_view result.now ≡ first_symbols (map symbol_view binary.now) (map symbol_view debug.now) }
 {

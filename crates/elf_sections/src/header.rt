@@ -44,7 +44,8 @@ pub fn read_header(file: &[u8]) -> Result<FileHeader, ElfFault>
     header_with_sections(file)
 }
 
-/// The file header of a supplementary file: as `read_header`, for a file of any type.
+/// The file header of a supplementary file. The conditions are those of `read_header`, but the file
+/// may be of any type.
 #[tactic(auto, unfolding(crate::specs::FileHeader::sup_header_fault))]
 pub fn read_sup_header(file: &[u8]) -> Result<FileHeader, ElfFault>
     ensures read { MatchResult result
@@ -58,7 +59,8 @@ pub fn read_sup_header(file: &[u8]) -> Result<FileHeader, ElfFault>
     header_with_sections(file)
 }
 
-/// The fields of a file header whose section header table lies in the file.
+/// The fields of the file header, or the fault `SectionTable` if its section header table does not
+/// lie in the file.
 #[tactic(auto, unfolding(crate::specs::FileHeader::section_table_fault))]
 fn header_with_sections(file: &[u8]) -> Result<FileHeader, ElfFault>
     requires { file_header_size ≤ length file.now }

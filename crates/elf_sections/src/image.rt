@@ -1,4 +1,4 @@
-//! The image: what the rest of the program reads of an ELF file.
+//! The image: what the rest of the program uses of an ELF file.
 ghost use Rattle.std.specs.Prelude.{◌≡◌, ◌≤◌, [], length, unwrap_or, map};
 ghost use Rattle.std.specs.Option.{option_copied, option_map};
 ghost use Rattle.range_set.specs.Starts.{AllFrom};
@@ -13,7 +13,7 @@ use crate::symbols::Symbol;
 use std::marker::Model;
 use sym_edges::{Part, Sect, Span};
 
-/// What is read of an ELF file. Its parts are slices of the file.
+/// What is read of an ELF file. The sections and names are slices of the file.
 #[derive(Drop)]
 pub struct Image<'a> {
     pub(crate) info: Part<'a>,
@@ -120,7 +120,7 @@ impl<'a> Image<'a> {
         }
     }
 
-    /// The same image with this base, code, identity and symbols.
+    /// The same image with this base, code, identity and symbols in place of its own.
     pub(crate) fn with_loaded(
         mut self,
         base: u64,
@@ -138,7 +138,7 @@ impl<'a> Image<'a> {
         self
     }
 
-    /// The same image with the sections of its supplementary file.
+    /// The same image with the sections of debugging information of its supplementary file.
     #[tactic(auto, unfolding(crate::specs::Supplement::with_sup))]
     pub fn with_sup(mut self, sup: &Image<'a>) -> Image<'a>
         ensures { result ≡ with_sup self.entry sup.now }
@@ -185,7 +185,8 @@ impl<'a> Image<'a> {
         }
     }
 
-    /// The ELF address of the first loaded segment, or 0. Addresses in the text are ELF addresses minus the base.
+    /// The ELF address of the first loaded segment, or 0. Addresses in the symbol file are ELF
+    /// addresses minus the base.
     pub fn base(&self) -> u64
         ensures { result ≡ self.now.base }
     {
@@ -200,7 +201,7 @@ impl<'a> Image<'a> {
         self.code.as_slice()
     }
 
-    /// The GNU build id, of 1 to 64 bytes.
+    /// The GNU build id, of 1 to 64 bytes, if there is one.
     pub fn build_id(&self) -> Option<&'a [u8]>
         ensures id { option_copied result ≡ self.now.build_id }
         ensures short { length (unwrap_or self.now.build_id []) ≤ 64 }
@@ -208,7 +209,8 @@ impl<'a> Image<'a> {
         self.build_id
     }
 
-    /// The first 16 bytes of the build id, or without one the exclusive or of the first bytes of `.text`.
+    /// The first 16 bytes of the build id, padded with zeros. Without a build id, the exclusive or
+    /// of groups of 16 bytes at the start of `.text`.
     pub fn identity(&self) -> [u8; 16]
         ensures { result ≡ self.now.identity }
     {
@@ -229,14 +231,15 @@ impl<'a> Image<'a> {
         self.altlink
     }
 
-    /// The content of `.debug_sup`, which links to the supplementary file, or says that this file is one (DWARF 5, 7.3.6).
+    /// The content of `.debug_sup`, which links to the supplementary file or says that this file is
+    /// one (DWARF 5, 7.3.6).
     pub fn debug_sup(&self) -> LinkSection<'a>
         ensures { link_view result ≡ self.now.debug_sup }
     {
         self.debug_sup
     }
 
-    /// The sections of the supplementary file that was read with this one.
+    /// The sections of the supplementary file, if one was read with this file.
     pub fn sup(&self) -> Option<DebugParts<'a>>
         ensures { option_map debug_view result ≡ self.now.sup }
     {

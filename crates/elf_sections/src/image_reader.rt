@@ -25,7 +25,7 @@ use sym_edges::{OutOfMemory, Part, Sect, Span, Stop};
 /// How many bytes of `.text` give the identity of a file without a build id.
 const IDENTITY_BYTES: usize = 4096;
 
-/// A section's name, zero-ended.
+/// A section's name with a zero byte after it.
 fn ended_name(which: Sect) -> &'static [u8]
     ensures { result.now ≡ name_of which ++ 0 ∷ [] }
 {
@@ -105,8 +105,8 @@ fn find_identity(text: &[u8], build_id: Option<&[u8]>) -> Option<[u8; 16]>
     }
 }
 
-/// The image of a supplementary file, in which compressed sections are not inflated: its sections by name, its build id, and the sections that
-/// identify it as one.
+/// The image of a supplementary file: its sections by name, its build id, and the sections that
+/// identify it as one. Compressed sections are not inflated.
 #[tactic(auto, unfolding(crate::specs::Supplement::sup_parts_of, crate::specs::Image::parts_of, crate::specs::Notes::build_id))]
 pub fn read_sup_parts<'a>(alloc: Global, tables: &Tables<'a>) -> Result<Image<'a>, OutOfMemory>
     ensures { IfOk result (λ i. i ≡ sup_parts_of tables.now) }
@@ -136,7 +136,8 @@ pub fn read_sup_parts<'a>(alloc: Global, tables: &Tables<'a>) -> Result<Image<'a
     })
 }
 
-/// The image of a file whose sections have no fault, or its first fault after those of the sections. Compressed sections are not inflated.
+/// The image of a file, or its first fault, if its header and its sections have none. Compressed
+/// sections are not inflated.
 #[tactic(auto, unfolding(crate::specs::Image::loaded_fault, crate::specs::Image::parts_of, crate::specs::Supplement::sup_parts_of, crate::specs::Image::identity_fault, crate::specs::Programs::code, crate::specs::Notes::build_id))]
 pub fn read_loaded<'a>(alloc: Global, tables: &Tables<'a>) -> Result<Image<'a>, Stop<ElfFault>>
     ensures read { MatchStop result

@@ -1,12 +1,14 @@
 //! The image of an ELF64 x86-64 file: its sections, base, code, build id, identity and function symbols.
 //!
-//! `read_image` reads the file header, the section and program header tables, the notes and the symbol table (System V ABI, ELF64; LSB notes). If a
-//! file has any of twelve faults, it is refused with the first of them, in the order of `ElfFault`. Otherwise the result is an `Image`, each part of
-//! which is chosen from the list of all headers by a condition. `Image::with_debug` joins the image of a stripped binary and that of its separate
-//! debug file.
+//! `read_image` reads the file header, the section and program header tables, the notes and the
+//! symbol table (System V ABI, ELF64; LSB notes). If a file has any of twelve faults, it is refused
+//! with the first of them, in the order of `ElfFault`. Otherwise the result is an `Image`. Each of
+//! its parts is defined by a condition on the headers of the file. `Image::with_debug` joins the
+//! image of a stripped binary and that of its separate debug file.
 //!
-//! What a reader of compressed sections needs is public too: the [`Tables`] of a file; [`read_loaded`], which reads all but the sections of debugging
-//! information; and [`Image::with_sections`], which adds these sections.
+//! A reader of compressed sections uses the [`Tables`] of a file; [`read_loaded`], which gives the
+//! image with its sections as they are in the file; and [`Image::with_sections`], which puts
+//! inflated sections in their place.
 //!
 //! A file may share entries and strings with other files in a supplementary file (DWARF 5, 7.3.6). The image keeps the sections that link to that
 //! file. [`read_sup_tables`] and [`read_sup_parts`] read the file, and [`Image::with_sup`] adds its sections to the image.

@@ -8,12 +8,13 @@ use crate::constants::{SHF_COMPRESSED, SHT_NOBITS};
 use crate::section::{find_named, read_content};
 use crate::tables::Tables;
 
-/// The content of the first section named `.gnu_debugaltlink` or of the first named `.debug_sup`.
+/// The content of the first section named `.gnu_debugaltlink`, or of the first named `.debug_sup`.
 #[derive(Clone, Copy, Debug)]
 pub enum LinkSection<'a> {
     /// There is no such section.
     Missing,
-    /// It is compressed, has no bytes in the file (`SHT_NOBITS`), or extends past the end of the file.
+    /// The section is compressed, has no bytes in the file (`SHT_NOBITS`), or extends past the end
+    /// of the file.
     Unreadable,
     Held(&'a [u8]),
 }

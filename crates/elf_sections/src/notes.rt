@@ -115,7 +115,8 @@ fn id_in<'a>(file: &'a [u8], section: &SectionHeader) -> Option<&'a [u8]>
     }
 }
 
-/// The build id of one section, as in `id_in`. A run of bytes that had no build id before is not walked again.
+/// The build id of one section, if it is a section of notes. A section with the same offset and
+/// size as one without a build id is not searched again.
 #[tactic(auto, using(crate::proofs::WalkedLemmas::no_notes, crate::proofs::WalkedLemmas::none_again, crate::proofs::WalkedLemmas::gave_none_more))]
 fn id_unless_walked<'a>(
     file: &'a [u8],

@@ -31,7 +31,8 @@ fn read_program(file: &[u8], at: usize) -> ProgramHeader
     }
 }
 
-/// The address of the first loaded segment of a program header table, or 0. A table that is not empty lies in the file.
+/// The address of the first loaded segment of a program header table, or 0 if there is none. The
+/// table must lie in the file unless it is empty.
 #[tactic(auto, using(crate::proofs::ProgramLemmas::address_found, crate::proofs::ProgramLemmas::address_passed, crate::proofs::ProgramLemmas::address_none))]
 fn find_loaded(file: &[u8], table: usize, count: usize) -> u64
     requires { 0 < count → table + program_header_size * count ≤ length file.now }

@@ -46,7 +46,7 @@ pub fn read_section(file: &[u8], at: usize) -> SectionHeader
     }
 }
 
-/// The bytes of a section, or none if they extend past the end of the file.
+/// The bytes of a section, or `None` if they extend past the end of the file.
 #[tactic(auto, unfolding(crate::specs::Sections::content, crate::specs::Sections::is_empty_kind))]
 pub fn read_content<'a>(file: &'a [u8], section: &SectionHeader) -> Option<&'a [u8]>
     ensures { option_copied result ≡ content file.now section.now }

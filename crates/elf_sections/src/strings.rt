@@ -8,11 +8,12 @@ use memchr::memchr;
 use std::alloc::{AllocError, Global};
 use std::marker::Model;
 
-/// The bytes of a block of a string table.
+/// The number of bytes of a block of a string table.
 const BLOCK: usize = 4096;
 
-/// A string table. The first zero at or after the start of each block is known. So the search for the end of a string passes at most one block,
-/// however many strings end at one zero.
+/// A string table. For the start of each block, the place of the first zero byte from there on is
+/// known. So the search for the end of a string passes at most one block, however many strings end
+/// at the same zero byte.
 #[derive(Drop)]
 pub struct StringTable<'a> {
     table: &'a [u8],
@@ -31,7 +32,7 @@ impl<'a> Model for StringTable<'a> {
     ghost invariant = { λ t. AreEnds t.table.now t.block t.ends.items };
 }
 
-/// The place of the first zero at or after a place, or the end of the table.
+/// The place of the first zero byte at or after a place, or the end of the table.
 #[tactic(auto, using(crate::proofs::StringLemmas::end_found, crate::proofs::StringLemmas::end_missing))]
 fn find_end(table: &[u8], at: usize) -> usize
     requires { at ≤ length table.now }
@@ -45,7 +46,8 @@ fn find_end(table: &[u8], at: usize) -> usize
     }
 }
 
-/// For the start of each block, the place of the first zero from there on, or the end of the table.
+/// For the start of each block, the place of the first zero byte from there on, or the end of the
+/// table.
 #[tactic(auto, using(crate::proofs::StringLemmas::end_again))]
 fn find_ends(alloc: Global, table: &[u8], block: usize) -> Result<Vec<usize>, AllocError>
     requires { 0 < block }
@@ -76,7 +78,7 @@ impl<'a> StringTable<'a> {
         })
     }
 
-    /// The place of the first zero at or after a place, or the end of the table.
+    /// The place of the first zero byte at or after a place, or the end of the table.
     #[tactic(auto, using(crate::proofs::StringLemmas::end_in_block, crate::proofs::StringLemmas::end_behind_block, crate::proofs::StringLemmas::end_order))]
     fn end_of(&self, at: usize) -> usize
         requires { at < length self.now }
@@ -95,7 +97,7 @@ impl<'a> StringTable<'a> {
         }
     }
 
-    /// The string at an index, or none if no zero byte follows.
+    /// The string at an index, or `None` if no zero byte follows.
     #[tactic(auto, using(crate::proofs::StringLemmas::string_found, crate::proofs::StringLemmas::string_missing, crate::proofs::StringLemmas::string_outside))]
     pub fn string(&self, at: usize) -> Option<&'a [u8]>
         ensures { option_copied result ≡ string_at self.now at }

@@ -100,7 +100,8 @@ pub fn find_linked<'s>(
     }
 }
 
-/// What an entry is: a function without a zero-ended name, no function symbol, or a function symbol.
+/// What an entry is: a function in code without a zero-ended name, no function symbol, or a
+/// function symbol.
 enum Found<'a> {
     Nameless,
     Other,
@@ -124,7 +125,8 @@ fn classify<'a>(code: &RangeSet, strings: &StringTable<'a>, entry: &SymbolEntry)
     }
 }
 
-/// The function symbols of a table, given the set of all addresses in code; none if some function has no zero-ended name.
+/// The function symbols of a table, given the set of all addresses in code. `None` if some function
+/// has no zero-ended name.
 #[tactic(auto, using(crate::proofs::SymbolLemmas::reading_begins, crate::proofs::SymbolLemmas::reading_other, crate::proofs::SymbolLemmas::reading_found, crate::proofs::SymbolLemmas::reading_nameless))]
 fn read_symbols<'a>(
     alloc: Global,
@@ -147,7 +149,7 @@ fn read_symbols<'a>(
     Ok(Some(symbols))
 }
 
-/// The function symbols of a table, in its order; none if some function has no zero-ended name.
+/// The function symbols of a table, in its order. `None` if some function has no zero-ended name.
 #[tactic(auto, using(crate::proofs::CodeLemmas::same_reading))]
 pub fn read_functions<'a>(
     alloc: Global,

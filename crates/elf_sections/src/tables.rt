@@ -52,7 +52,8 @@ pub fn read_tables(alloc: Global, file: &[u8]) -> Result<Tables<'_>, Stop<ElfFau
     }
 }
 
-/// The same for a supplementary file, which may be of any type.
+/// The tables of a supplementary file, which may be of any type, or the first fault of its header,
+/// its section table and its names.
 pub fn read_sup_tables(alloc: Global, file: &[u8]) -> Result<Tables<'_>, Stop<ElfFault>>
     ensures read { MatchStop result
         (λ tables. (option_or (sup_header_fault file.now) (names_fault file.now) ≡ None) × (tables ≡ file.now))
@@ -123,7 +124,8 @@ impl<'a> Tables<'a> {
         self.names
     }
 
-    /// The fault of the first section that is read and extends past the end of the file, else of the first that is compressed.
+    /// The fault of the first section that is read and extends past the end of the file. If there
+    /// is none, the fault of the first section that is compressed.
     #[tactic(auto, unfolding(crate::specs::Sections::bytes_fault, crate::specs::Sections::compressed_fault))]
     pub fn find_section_fault(&self) -> Option<ElfFault>
         ensures { result ≡ option_or (bytes_fault self.now) (compressed_fault self.now) }
@@ -160,7 +162,8 @@ pub fn read_sections(
     Ok(sections)
 }
 
-/// The bytes of the section with this index, or none if there is no such section or it extends past the end of the file.
+/// The bytes of the section with this index. `None` if there is no such section, or if it extends
+/// past the end of the file.
 pub fn content_at<'a>(file: &'a [u8], sections: &[SectionHeader], index: usize) -> Option<&'a [u8]>
     ensures { option_copied result ≡ option_and_then (content file.now) (slice_get sections.now index) }
 {
@@ -170,7 +173,8 @@ pub fn content_at<'a>(file: &'a [u8], sections: &[SectionHeader], index: usize) 
     }
 }
 
-/// The place after the last zero byte: a string begins at each place below it, and at no other.
+/// The place after the last zero byte, or 0 if there is none. A string begins at each place below
+/// it, and at no other.
 #[tactic(auto, using(crate::proofs::StringLemmas::strings_below, crate::proofs::StringLemmas::no_string))]
 fn end_of_strings(table: &[u8]) -> usize
     ensures { (at : ℕ) → is_none (string_at table.now at) ≡ nat_le result at }

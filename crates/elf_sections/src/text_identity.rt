@@ -2,7 +2,8 @@
 ghost use Rattle.std.specs.Prelude.{◌≡◌, ◌≤◌, length};
 ghost use Rattle.elf_sections.specs.Identity.{folded, front16, folded_byte};
 
-/// The exclusive or of all groups of 16 bytes among the first `limit` bytes.
+/// The exclusive or of all groups of 16 bytes among the first `limit` bytes; bytes after the end
+/// count as zero.
 #[tactic(auto, using(crate::proofs::IdentityLemmas::folded_is))]
 pub fn fold_text(text: &[u8], limit: usize) -> [u8; 16]
     ensures { result ≡ folded limit text.now }
@@ -16,7 +17,7 @@ pub fn fold_text(text: &[u8], limit: usize) -> [u8; 16]
     identity
 }
 
-/// The first 16 bytes, padded with zeros.
+/// The first 16 bytes of an id; a shorter id is padded with zeros.
 #[tactic(auto, using(crate::proofs::IdentityLemmas::front16_is))]
 pub fn pad_id(id: &[u8]) -> [u8; 16]
     ensures { result ≡ front16 id.now }

@@ -1,4 +1,4 @@
--- Registers and offsets of steps; for `steps_have_bounds`.
+-- The bounds of the registers and offsets of steps; for `steps_have_bounds`.
 use Rattle.std.proofs.Common.{◌≡◌, ◌-◌, ◌^◌, ℕ, ℤ, zero, suc, Bool, true, false, nat_eq, nat_le, ◌&&◌, cond, List, [], ◌∷◌, length, Option, None, Some, Result, Ok, Err, refl, subst}
 use Rattle.std.specs.Option.{option_and_then}
 use Rattle.std.specs.List.{list_all}
@@ -17,7 +17,7 @@ use Rattle.expr_steps.specs.Operations.{or_unread, behind_opcode, operation_at, 
 use Rattle.expr_steps.specs.Steps.{in_front, mask_size, with_and, with_ge, with_alone, steps_of, steps}
 use Rattle.expr_steps.specs.Standing.{has_bounds}
 
--- the offset of an operation is a number of 64 bits
+-- The offset of an operation is a signed number of 64 bits.
 abbrev fits : Operation → Bool
 fits (Breg register offset) = fits_i64 offset
 fits _ = true
@@ -100,7 +100,7 @@ next_fits : (c : Ahead) → IfNext (next_operation c)
 unfolding next_operation operation_at
 next_fits c = next_by (nat_eq (length c.bytes) 0) c _ (operation_fits (fixed_at 1 c))
 
--- all operations
+-- The offsets of all operations are signed numbers of 64 bits.
 abbrev IfAll : Result (List Operation × Ahead) Reason → Type 0
 IfAll (Ok x) = list_all fits x.0 ≡ true
 IfAll (Err why) = Unit {0}
@@ -123,7 +123,7 @@ unfolding list_in
 list_fits zero c = refl
 list_fits (suc n) c = by_fits (next_operation c) (list_in next_operation n) (next_fits c) (λ d. list_fits n d)
 
--- and the steps that they make
+-- All steps have bounds.
 abbrev IfSteps : Option (List Step) → Type 0
 IfSteps None = Unit {0}
 IfSteps (Some given) = list_all has_bounds given ≡ true

@@ -1,4 +1,4 @@
--- What a proof unfolds to compute the definitions of this crate where the input is written out.
+-- The definitions of this crate that a proof unfolds to compute a worked example.
 use Rattle.std.specs.Prelude.{⊤}
 use Rattle.std.specs.Int.{int_wrap}
 use Rattle.sym_edges.proofs.Hex.{bytes, hex}

@@ -1,5 +1,5 @@
--- The list of operations does not depend on how many readings are allowed: each operation passes a byte at the least; for `operations_follow`,
--- `StepReader::next` and `read_behind_constant`.
+-- The list of operations does not depend on how many readings are allowed, because each operation
+-- passes at least one byte; for `operations_follow`, `StepReader::next` and `read_behind_constant`.
 use Rattle.std.proofs.Common.{◌≡◌, ℕ, Bool, true, false, nat_eq, nat_le, ◌&&◌, cond, List, [], ◌∷◌, length, Option, None, Some, Result, Ok, Err, refl, sym, ap, ◌∙◌, arith}
 use Rattle.sym_edges.specs.declared.reason.Reason.{Reason}
 use Rattle.sym_edges.specs.Results.{◌>>=◌}
@@ -13,7 +13,7 @@ use Rattle.leb_cursor.proofs.ListLemmas.{weaker, list_follows}
 use Rattle.expr_steps.specs.declared.operation.Operation.{Operation}
 use Rattle.expr_steps.specs.Operations.{or_unread, one, behind_opcode, operation_at, next_operation, listed, operations_at}
 
--- how far a reading goes
+-- How many bytes each reading passes.
 or_passes : {A : Type 0} (reading : Result (A × Ahead) CursorFault) (least : ℕ) (c : Ahead) → Passes least c reading → Passes least c (or_unread reading)
 or_passes (Ok x) least c goes = goes
 or_passes (Err fault) least c goes = tt
@@ -75,7 +75,7 @@ next_goes c = either_goes (nat_eq (length c.bytes) 0) (operation_at c >>= λ x. 
 pub operations_are : (c : Ahead) → list_at next_operation c ≡ list_cases next_operation c
 operations_are c = list_follows next_operation next_goes c
 
--- the operations ahead by the next one
+-- The operations ahead are given by the next operation.
 abbrev pub front_of : Operation → Option (List Operation) → Option (List Operation)
 front_of operation None = None
 front_of operation (Some later) = Some (operation ∷ later)

@@ -1,4 +1,4 @@
--- How an expression stands, step by step; for `find_standing`.
+-- How an expression uses the CFA, computed step by step; for `find_standing`.
 use Rattle.std.proofs.Common.{◌≡◌, ◌≤◌, ◌<◌, ◌+◌, ◌-◌, ℕ, Bool, true, false, nat_le, ◌&&◌, cond, List, [], ◌∷◌, Option, None, Some, refl, sym, ap, ◌∙◌, add_assoc, arith}
 use Rattle.std.specs.List.{sum_by}
 use Rattle.std.specs.Option.{option_and_then}
@@ -12,7 +12,7 @@ use Rattle.expr_steps.specs.Steps.{in_front, steps}
 use Rattle.expr_steps.specs.Standing.{takes, words, after_step, depth_after, is_one, standing_by, standing_of, standing}
 use Rattle.expr_steps.specs.internal.Reading.{IsAtMost, stands, standing_behind}
 
--- a step has a word at least, and leaves one value more at most
+-- A step has at least one word, and raises the depth of the stack by at most one.
 pub some_words : (s : Step) → 0 < words s
 some_words (step.Constant value) = omega arith
 some_words (step.Register register offset) = omega arith
@@ -43,7 +43,7 @@ deeper s count more depth next is after low =
     let here : IsAtMost (count + 1 + 1) (option_and_then (after_step s) depth) = deeper_from s (count + 1) depth low in
     rw after (weaken (count + 1 + 1) (more + 1) (option_and_then (after_step s) depth) (omega arith) here)
 
--- one step more
+-- One step more is read.
 stands_step : (start : Bool) (count : ℕ) (free over : Option ℕ) (s : Step) (later : List Step)
     → stands start count free over (s ∷ later) ≡ stands start (count + words s) (option_and_then (after_step s) free) (option_and_then (after_step s) over) later
 unfolding stands depth_after
@@ -63,12 +63,12 @@ pub stands_more : (start : Bool) (count more : ℕ) (free over free_next over_ne
 stands_more start count more free over free_next over_next s old new is words_is free_is over_is =
     rw (is, words_is, free_is, over_is) (stands_front start count free over s new)
 
--- no step is left
+-- No step is left.
 pub stands_all : (start : Bool) (count : ℕ) (free over : Option ℕ) (left : Option (List Step)) → left ≡ Some [] → standing_behind start count free over left ≡ standing_by start count free over
 unfolding standing_behind stands depth_after
 stands_all start count free over left is = rw is (ap (λ n. standing_by start n free over) (omega arith))
 
--- too many words
+-- There are too many words.
 both_false : (a b : Bool) → b ≡ false → a && b ≡ false
 both_false true b is = is
 both_false false b is = refl
@@ -91,12 +91,12 @@ stands_long start count more free over s old new is words_is long =
     ap (standing_behind start count free over) is ∙ stands_front start count free over s new
     ∙ long_behind start (count + words s) (option_and_then (after_step s) free) (option_and_then (after_step s) over) new (omega arith)
 
--- what is left is not made of steps
+-- The operations that are left are not made of steps.
 pub stands_not : (start : Bool) (count : ℕ) (free over : Option ℕ) (left : Option (List Step)) → left ≡ None → standing_behind start count free over left ≡ None
 unfolding standing_behind
 stands_not start count free over left is = rw is refl
 
--- from the first step on
+-- The result of the loop, from the first step on, is the one that is defined.
 from_first : (start : Bool) (given : List Step) → stands start 0 (Some 0) (Some 1) given ≡ standing_of start given
 unfolding stands standing_of
 from_first start given = ap (λ n. standing_by start n (depth_after given (Some 0)) (depth_after given (Some 1))) (omega arith)

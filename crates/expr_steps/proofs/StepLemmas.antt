@@ -1,4 +1,5 @@
--- The steps ahead by the next operations; for `StepReader::new` and `next`, `read_behind` and `read_behind_constant`.
+-- The steps ahead are given by the next operations; for `StepReader::new` and `next`, `read_behind`
+-- and `read_behind_constant`.
 use Rattle.std.proofs.Common.{◌≡◌, ◌≤◌, ◌<◌, ◌≢◌, ◌-◌, ◌^◌, ℕ, zero, suc, Bool, true, false, cond, List, [], ◌∷◌, length, take, drop, Option, None, Some, Ok, Err, refl, sym, ap, ◌∙◌, arith}
 use Rattle.std.specs.Option.{option_and_then}
 use Rattle.std.proofs.Math.Seq.{take-length}
@@ -14,7 +15,7 @@ use Rattle.expr_steps.specs.Steps.{in_front, mask_size, with_and, step_alone, wi
 use Rattle.expr_steps.specs.internal.Reading.{constant_of, IsPair, IsAlone, IsNoStep, steps_behind}
 use Rattle.expr_steps.proofs.FollowLemmas.{front_of, operations_by}
 
--- a constant with `and`, `shl` and `ge`
+-- The steps of a constant with `and`, `shl` or `ge`.
 pub pair_and : (kept : Option ℕ) (value size : ℕ) → Some size ≡ mask_size 63 value → IsPair kept value And (step.Remainder size) (Some size)
 unfolding steps_of
 pair_and kept value size is = record { steps = λ later. ap (λ m. with_and m (steps_of later)) (sym is) }
@@ -43,7 +44,8 @@ pub no_and : (value : ℕ) → IsNoStep None value Ge
 unfolding steps_of
 no_and value = record { steps = λ later. refl }
 
--- the other operations leave it alone
+-- Whether an operation can be one step with a constant before it; before any other operation a
+-- constant is a step alone.
 abbrev pub pairs : Operation → Bool
 pairs (Constant value) = false
 pairs (Breg register offset) = false
@@ -69,7 +71,7 @@ constant_alone kept value (PlusUconst addend) off = record { steps = λ later. r
 constant_alone kept value Shl off = cc
 constant_alone kept value Ge off = cc
 
--- from lists to what is ahead
+-- The lemmas about lists of operations, applied to the operations ahead.
 behind_is : (operation : Operation) (kept : Option ℕ) (c : Ahead) (ahead : Option (List Operation)) → operations_at c ≡ ahead → steps_behind operation kept c ≡ option_and_then (λ ops. steps_of (operation ∷ ops) kept) ahead
 unfolding steps_behind
 behind_is operation kept c ahead is = ap (λ o. option_and_then (λ ops. steps_of (operation ∷ ops) kept) o) is
@@ -122,7 +124,7 @@ last_constant kept value c d is =
 pub unread_behind : (operation : Operation) (kept : Option ℕ) (c : Ahead) (why : Reason) → Err why ≡ next_operation c → steps_behind operation kept c ≡ None
 unread_behind operation kept c why is = behind_is operation kept c None (operations_by c (Err why) is)
 
--- an operation that is no constant
+-- Steps that do not begin with a constant.
 pub constant_is : (operation : Operation) (value : ℕ) → Some value ≡ constant_of operation → operation ≡ Constant value
 constant_is (Constant other) value is = cc
 constant_is (Breg register offset) value is = cc
@@ -166,7 +168,7 @@ none_by operation kept (Some later) off is = other_of operation kept later off �
 pub none_alone : (operation : Operation) (kept : Option ℕ) (c : Ahead) → None ≡ constant_of operation → None ≡ step_alone operation → steps_behind operation kept c ≡ None
 none_alone operation kept c off is = behind_is operation kept c (operations_at c) refl ∙ none_by operation kept (operations_at c) off is
 
--- a reader at the first byte, and the next step
+-- The reader at the first byte, and the next step.
 pub reads_all : (bytes : List ℕ) (c : Ahead) → c ≡ record { bytes = drop 0 (take (length bytes) bytes); at = 0 } → steps_at None c ≡ steps bytes
 unfolding steps steps_at operations
 reads_all bytes c is =
@@ -189,7 +191,7 @@ next_steps operation kept c d is =
 pub next_unread : (kept : Option ℕ) (c : Ahead) (why : Reason) → Err why ≡ next_operation c → steps_at kept c ≡ None
 next_unread kept c why is = at_is kept c None (operations_by c (Err why) is)
 
--- the power of two of a mask, from the highest down
+-- `mask_size` tries the powers of two from the highest down.
 pub mask_found : (bits value size : ℕ) → 0 < bits → size ≡ 2 ^ (bits - 1) → value ≡ size - 1 → mask_size bits value ≡ Some size
 unfolding mask_size
 mask_found zero value size some power is = absurd (omega arith)

@@ -1,11 +1,12 @@
--- Worked standings of expressions: with their values and with too few, over the CFA and without it, and the most words.
+-- Worked examples of how expressions use the CFA: with enough values and with too few, over the CFA
+-- and without it, and with the most words.
 use Rattle.std.proofs.Common.{◌≡◌, true, false, ◌∷◌, replicate, None, Some, refl}
 use Rattle.sym_edges.proofs.Hex.{hex}
 use Rattle.expr_steps.specs.declared.standing.Standing.TheVariants.{Free, OverCfa}
 use Rattle.expr_steps.specs.Standing.{standing}
 use Rattle.expr_steps.proofs.Computing.{expr_steps_computes}
 
--- an expression without an operation is the CFA
+-- An expression without an operation leaves the CFA on the stack, if it is there.
 nothing : standing false (hex "") ≡ None
 unfolding expr_steps_computes
 nothing = refl
@@ -14,7 +15,7 @@ nothing_with_cfa : standing true (hex "") ≡ Some OverCfa
 unfolding expr_steps_computes
 nothing_with_cfa = refl
 
--- each step alone, with what it takes and with too little
+-- Each step alone, with enough values and with too few.
 a_constant : standing false (hex "35") ≡ Some Free
 unfolding expr_steps_computes
 a_constant = refl
@@ -183,7 +184,7 @@ a_comparison_of_nothing_with_cfa : standing true (hex "3f 1a 3b 2a") ≡ Some Ov
 unfolding expr_steps_computes
 a_comparison_of_nothing_with_cfa = refl
 
--- one value is left
+-- Exactly one value has to be left.
 two_left : standing false (hex "31 32") ≡ None
 unfolding expr_steps_computes
 two_left = refl
@@ -200,7 +201,7 @@ two_left_over_the_cfa_with_cfa : standing true (hex "31 77 00 22 31") ≡ None
 unfolding expr_steps_computes
 two_left_over_the_cfa_with_cfa = refl
 
--- too few values in the middle
+-- A step in the middle finds too few values.
 too_few_first : standing false (hex "22 31") ≡ None
 unfolding expr_steps_computes
 too_few_first = refl
@@ -209,7 +210,7 @@ too_few_first_with_cfa : standing true (hex "22 31") ≡ None
 unfolding expr_steps_computes
 too_few_first_with_cfa = refl
 
--- what a linker writes for its table of jumps
+-- The expression that linkers write for the procedure linkage table.
 the_linkers : standing false (hex "77 08 80 00 3f 1a 3b 2a 33 24 22") ≡ Some Free
 unfolding expr_steps_computes
 the_linkers = refl
@@ -218,7 +219,7 @@ the_linkers_with_cfa : standing true (hex "77 08 80 00 3f 1a 3b 2a 33 24 22") �
 unfolding expr_steps_computes
 the_linkers_with_cfa = refl
 
--- an operation with nothing to take, a value too many, and an opcode that is not read
+-- A step without values, a value too many, and an opcode that is not read.
 arithmetic_without_values : standing false (hex "22") ≡ None
 unfolding expr_steps_computes
 arithmetic_without_values = refl
@@ -243,7 +244,7 @@ a_nop_with_cfa : standing true (hex "96") ≡ None
 unfolding expr_steps_computes
 a_nop_with_cfa = refl
 
--- 1,024 words, and one more
+-- With 1,024 words, and with one more.
 most_words : standing false (0x31 ∷ replicate 1023 0x06) ≡ Some Free
 unfolding expr_steps_computes
 most_words = refl

@@ -1,4 +1,5 @@
--- Worked operations and steps of expressions (DWARF 5, 2.5): each constant with its least and its greatest value, each step, and what is no step.
+-- Worked examples of operations and steps of expressions (DWARF 5, 2.5): each constant with its
+-- least and its greatest value, each step, and operations that are in no step.
 use Rattle.std.proofs.Common.{◌≡◌, ◌^◌, pos, negsuc, true, false, [], ◌∷◌, None, Some, refl}
 use Rattle.sym_edges.proofs.Hex.{hex}
 use Rattle.expr_steps.specs.declared.place.Place.{Place}
@@ -9,7 +10,7 @@ use Rattle.expr_steps.specs.Steps.{steps}
 use Rattle.expr_steps.specs.Places.{place_of, bytes_at}
 use Rattle.expr_steps.proofs.Computing.{expr_steps_computes}
 
--- constants without a sign and with one, by their bytes
+-- Unsigned and signed constants, by their size in bytes.
 one_byte_least : operations (hex "08 00") ≡ Some (Constant 0 ∷ [])
 unfolding expr_steps_computes
 one_byte_least = refl
@@ -94,7 +95,7 @@ literals : operations (hex "30 4f") ≡ Some (Constant 0 ∷ Constant 31 ∷ [])
 unfolding expr_steps_computes
 literals = refl
 
--- the other operations
+-- The other operations.
 registers : operations (hex "70 08 77 78 8f 00") ≡ Some (Breg 0 (pos 8) ∷ Breg 7 (negsuc 7) ∷ Breg 31 (pos 0) ∷ [])
 unfolding expr_steps_computes
 registers = refl
@@ -107,7 +108,7 @@ no_operation : operations (hex "") ≡ Some []
 unfolding expr_steps_computes
 no_operation = refl
 
--- opcodes that are not read, operands that are cut, and LEB128 numbers that are too long
+-- Opcodes that are not read, operands that are cut off, and LEB128 numbers that are too long.
 an_unknown_opcode : operations (hex "77 08 96") ≡ None
 unfolding expr_steps_computes
 an_unknown_opcode = refl
@@ -204,7 +205,7 @@ an_offset_too_long : operations (hex "77 80808080808080808001") ≡ None
 unfolding expr_steps_computes
 an_offset_too_long = refl
 
--- steps
+-- Each operation that is a step alone, and the limits of registers.
 each_alone : steps (hex "35 70 08 06 22 1c 1e 23 05") ≡ Some (step.Constant 5 ∷ step.Register 0 (pos 8) ∷ step.Fetch ∷ step.Add ∷ step.Subtract ∷ step.Multiply ∷ step.AddConstant 5 ∷ [])
 unfolding expr_steps_computes
 each_alone = refl
@@ -221,7 +222,7 @@ register_17 : steps (hex "81 00") ≡ None
 unfolding expr_steps_computes
 register_17 = refl
 
--- `and` with one less than a power of two, up to 2^62
+-- `and` with one less than a power of two, up to 2^62.
 and_with_0 : steps (hex "30 1a") ≡ Some (step.Remainder 1 ∷ [])
 unfolding expr_steps_computes
 and_with_0 = refl
@@ -258,7 +259,7 @@ and_first : steps (hex "1a") ≡ None
 unfolding expr_steps_computes
 and_first = refl
 
--- `shl` by at most 62
+-- `shl` by at most 62.
 shift_by_0 : steps (hex "30 24") ≡ Some (step.Product 1 ∷ [])
 unfolding expr_steps_computes
 shift_by_0 = refl
@@ -275,7 +276,7 @@ shift_behind_no_constant : steps (hex "06 24") ≡ None
 unfolding expr_steps_computes
 shift_behind_no_constant = refl
 
--- `ge` directly behind an `and`, with at most its power of two
+-- `ge` directly after an `and`, with at most the power of two of the `and`.
 ge_with_0 : steps (hex "3f 1a 30 2a") ≡ Some (step.Remainder 16 ∷ step.Reaches 16 16 ∷ [])
 unfolding expr_steps_computes
 ge_with_0 = refl
@@ -312,7 +313,7 @@ ge_behind_no_constant : steps (hex "3f 1a 2a") ≡ None
 unfolding expr_steps_computes
 ge_behind_no_constant = refl
 
--- a constant and its operation with another between them, and two constants
+-- A constant and an `and` with an operation between them, and two constants.
 a_pair_that_is_split : steps (hex "3f 06 1a") ≡ None
 unfolding expr_steps_computes
 a_pair_that_is_split = refl
@@ -329,7 +330,7 @@ a_bad_byte_behind_steps : steps (hex "70 00 96") ≡ None
 unfolding expr_steps_computes
 a_bad_byte_behind_steps = refl
 
--- places
+-- Places of expressions.
 a_place : place_of true 0xffffffff 0 ≡ (let p : Place = record { own = true; start = 0xffffffff; len = 0 } in Some p)
 unfolding expr_steps_computes
 a_place = refl

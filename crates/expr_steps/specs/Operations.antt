@@ -16,14 +16,14 @@ abbrev pub or_unread : {A : Type 0} → Result A CursorFault → Result A Reason
 or_unread (Ok x) = Ok x
 or_unread (Err fault) = Err reason.Expression
 
--- an operation without an operand, and an operation with one
+-- an operation without an operand, and an operation with one operand
 abbrev pub alone : Operation → Ahead → Result (Operation × Ahead) Reason
 alone operation c = Ok (operation, c)
 
 abbrev pub one : {A : Type 0} → (Ahead → Result (A × Ahead) CursorFault) → (A → Operation) → Ahead → Result (Operation × Ahead) Reason
 one operand make c = or_unread (operand c) >>= λ x. Ok (make x.0, x.1)
 
--- a constant with a sign, of a given width: its value modulo 2^64
+-- a constant that is read as a signed number of a given width: its value modulo 2^64
 abbrev pub signed : Width → ℕ → Operation
 signed w n = Constant (cast_unsigned w64 (cast_signed w n))
 
@@ -60,7 +60,7 @@ operation_at c = or_unread (fixed_at 1 c) >>= λ opcode. behind_opcode opcode.0 
 unfoldable pub next_operation : Ahead → Result (Option Operation × Ahead) Reason
 next_operation c = if length c.bytes == 0 then Ok (None, c) else (operation_at c >>= λ x. Ok (Some x.0, x.1))
 
--- the operations ahead, if each of them can be read
+-- the operations ahead, or none if one of them cannot be read
 abbrev pub listed : Result (List Operation × Ahead) Reason → Option (List Operation)
 listed (Ok x) = Some x.0
 listed (Err why) = None

@@ -7,6 +7,6 @@ unfoldable pub place_of : Bool → ℕ → ℕ → Option Place
 place_of own start len =
     if nat_lt start (2 ^ 32) && nat_lt len (2 ^ 32) then Some (record { own = own; start = start; len = len }) else None
 
--- the bytes at a place, as far as they are there
+-- the bytes at a place, as far as the instructions have them
 unfoldable pub bytes_at : Place → List ℕ → List ℕ → List ℕ
 bytes_at place first own = take place.len (drop place.start (if place.own then own else first))

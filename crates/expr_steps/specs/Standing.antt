@@ -1,5 +1,5 @@
--- Which expressions rule text can express: they are made of steps, each step finds its values on the stack, one value is left, and the steps take at
--- most 1,024 words.
+-- Which expressions rule text can express. They are made of steps, each step finds its values on
+-- the stack, one value is left, and the steps take at most 1,024 words.
 use Rattle.std.specs.Prelude.{ℕ, ◌+◌, ◌-◌, ◌==◌, ◌&&◌, nat_le, Bool, true, false, if◌then◌else◌, List, [], ◌∷◌, Option, None, Some}
 use Rattle.std.specs.List.{sum_by}
 use Rattle.std.specs.Option.{option_and_then}
@@ -36,7 +36,8 @@ words (Remainder size) = 2
 words (Product factor) = 2
 words (Reaches lift size) = 4
 
--- how many values are on the stack after a step, if it finds the values that it takes; it leaves one
+-- how many values are on the stack after a step, or none if the stack has fewer values than the
+-- step takes; the step leaves one value
 abbrev pub after_step : Step → ℕ → Option ℕ
 after_step s depth = if nat_le (takes s) depth then Some (depth - takes s + 1) else None
 
@@ -49,9 +50,11 @@ abbrev pub is_one : Option ℕ → Bool
 is_one None = false
 is_one (Some depth) = depth == 1
 
--- the standing of steps of `count` words, given how many values they leave on an empty stack and on a stack with the CFA. Free: they leave one value
--- on the empty stack. Otherwise over the CFA: the CFA may be there, and they leave one value in its place; the CFA is one more word. There may be at
--- most 1,024 words
+-- how an expression uses the CFA, given the count of the words of its steps, and how many values
+-- the steps leave on an empty stack (`free`) and on a stack with the CFA (`over`). It is `Free` if
+-- they leave one value on the empty stack. Otherwise it is `OverCfa`, if the CFA may be on the
+-- stack and they leave one value in place of the CFA, which is one more word. There may be at most
+-- 1,024 words
 unfoldable pub standing_by : Bool → ℕ → Option ℕ → Option ℕ → Option Standing
 standing_by start count free over =
     if is_one free && nat_le count 1024 then Some Free else
@@ -60,11 +63,13 @@ standing_by start count free over =
 unfoldable pub standing_of : Bool → List Step → Option Standing
 standing_of start given = standing_by start (sum_by words given) (depth_after given (Some 0)) (depth_after given (Some 1))
 
--- the standing of an expression, or none if rule text cannot express it; `start` says that the CFA may be on the stack
+-- how an expression uses the CFA, or none if rule text cannot express it; `start` says that the CFA
+-- may be on the stack
 unfoldable pub standing : Bool → List ℕ → Option Standing
 standing start bytes = option_and_then (standing_of start) (steps bytes)
 
--- the register of a step is one of the sixteen or rip, and its offset is a signed number of 64 bits
+-- the register of a step is one of the sixteen general registers or rip, and its offset is a signed
+-- number of 64 bits
 abbrev pub has_bounds : Step → Bool
 has_bounds (Constant value) = true
 has_bounds (Register register offset) = nat_le register 16 && fits_i64 offset

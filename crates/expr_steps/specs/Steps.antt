@@ -1,6 +1,8 @@
--- The steps of an expression that rule text can express. Each is one operation, or a constant with the operation directly after it. `and` keeps low
--- bits, so it is the remainder of a division by a power of two. `shl` is a multiplication by a power of two. `ge` takes a value that an `and` just
--- left below a power of two, so it is a division by this power.
+-- The steps of an expression that rule text can express. Each is one operation, or a constant with
+-- the operation directly after it. `and` with 2^k - 1 is the remainder of a division by 2^k. `shl`
+-- is a multiplication by a power of two. `ge` compares a value with a constant, directly after an
+-- `and` has made the value less than a power of two. So after the power minus the constant is
+-- added, a division by the power gives the result.
 use Rattle.std.specs.Prelude.{ℕ, zero, suc, ◌-◌, ◌^◌, ◌==◌, nat_le, if◌then◌else◌, List, [], ◌∷◌, Option, None, Some}
 use Rattle.std.specs.Option.{option_and_then}
 use Rattle.leb_cursor.specs.Ahead.{Ahead}
@@ -15,7 +17,7 @@ abbrev pub in_front : Step → Option (List Step) → Option (List Step)
 in_front s None = None
 in_front s (Some steps) = Some (s ∷ steps)
 
--- the power of two below 2^n that is one more than a constant, if there is one
+-- the power of two that is one more than the constant `c`, if it is at most 2^(n - 1)
 unfoldable pub mask_size : ℕ → ℕ → Option ℕ
 mask_size zero c = None
 mask_size (suc n) c = if c == 2 ^ n - 1 then Some (2 ^ n) else mask_size n c
@@ -34,7 +36,8 @@ abbrev pub with_ge : ℕ → Option ℕ → Option (List Step) → Option (List 
 with_ge c None later = None
 with_ge c (Some size) later = if nat_le c size then in_front (step.Reaches (size - c) size) later else None
 
--- the step of an operation alone; its register must be one of the sixteen, or rip as 16
+-- the step of an operation alone; its register must be one of the sixteen general registers, or rip
+-- with the number 16
 abbrev pub step_alone : Operation → Option Step
 step_alone (Constant value) = Some (step.Constant value)
 step_alone (Breg register offset) = if nat_le register 16 then Some (step.Register register offset) else None
@@ -51,7 +54,8 @@ abbrev pub with_alone : Option Step → Option (List Step) → Option (List Step
 with_alone None later = None
 with_alone (Some s) later = in_front s later
 
--- the steps of operations, or none if an operation is in no step; `kept` is the power of two below which the step before them kept the bits
+-- the steps of operations, or none if an operation is in no step. If the step before them was an
+-- `and`, `kept` is its power of two
 unfoldable pub steps_of : List Operation → Option ℕ → Option (List Step)
 steps_of [] kept = Some []
 steps_of (Constant c ∷ And ∷ later) kept = with_and (mask_size 63 c) (steps_of later)

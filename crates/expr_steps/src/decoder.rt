@@ -13,7 +13,7 @@ use code_table::{
 use leb_cursor::Cursor;
 use sym_edges::Reason;
 
-/// A constant without a sign, read by a call of the cursor.
+/// A constant without a sign, which a call of the cursor reads.
 macro_rules! unsigned {
     ($cursor:ident.$call:ident) => {
         match $cursor.$call() {

@@ -22,7 +22,8 @@ pub fn operands_are_those_of_the_table()
     ensures { All (TakesOperands behind_opcode) expr_opcodes }
 {}
 
-/// The registers of an expression's steps are the sixteen and rip, and their offsets are signed numbers of 64 bits.
+/// The registers of an expression's steps are the sixteen general registers and rip, and the
+/// offsets are signed numbers of 64 bits.
 #[tactic(auto, using(crate::proofs::BoundLemmas::steps_bounded))]
 pub fn steps_have_bounds()
     ensures { (bytes : List ℕ) (given : List Step) → steps bytes ≡ Some given → list_all has_bounds given ≡ true }

@@ -26,8 +26,8 @@ impl Place {
         })
     }
 
-    /// The bytes at the place, in the CIE's instructions `first` or in the entry's `own`; if the place reaches beyond their end, only those that are
-    /// there.
+    /// The bytes at the place, in the CIE's instructions `first` or in the entry's `own`. If the
+    /// place reaches beyond their end, only those before the end.
     #[tactic(auto, unfolding(crate::specs::Places::bytes_at))]
     pub fn bytes<'a>(self, first: &'a [u8], own: &'a [u8]) -> &'a [u8]
         ensures { result.now ≡ bytes_at self first.now own.now }

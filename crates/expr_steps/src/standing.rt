@@ -7,7 +7,7 @@ use crate::step_reader::StepReader;
 /// How an expression that rule text can express uses the CFA.
 #[derive(Clone, Copy, PartialEq, Eq, Debug)]
 pub enum Standing {
-    /// It needs no value below its own.
+    /// It needs no value below its own ones on the stack.
     Free,
     /// It begins with the CFA on the stack, and its value takes the CFA's place.
     OverCfa,
@@ -38,10 +38,11 @@ fn standing_by(start: bool, count: u32, free: Option<u32>, over: Option<u32>) ->
     None
 }
 
-/// The standing of an expression, or none exactly if rule text cannot express it. It cannot if a byte belongs to no operation that is read, an
-/// operation is in no step, a step does not find its values, the number of values that are left is not one, or there are more than 1,024 words.
-/// `start` says that the CFA may be on the stack. This is so for `DW_CFA_expression` and `DW_CFA_val_expression`, but not for
-/// `DW_CFA_def_cfa_expression`. Allocates no memory.
+/// How an expression uses the CFA, or none exactly if rule text cannot express it. It cannot in
+/// these cases: a byte belongs to no operation that is read, an operation is in no step, a step
+/// does not find its values, the number of values that are left is not one, or there are more than
+/// 1,024 words. `start` says that the CFA may be on the stack. This is so for `DW_CFA_expression`
+/// and `DW_CFA_val_expression`, but not for `DW_CFA_def_cfa_expression`. Allocates no memory.
 #[tactic(auto, using(crate::proofs::StandingLemmas::stands_all, crate::proofs::StandingLemmas::stands_more, crate::proofs::StandingLemmas::stands_long, crate::proofs::StandingLemmas::stands_not, crate::proofs::StandingLemmas::deeper, crate::proofs::StandingLemmas::some_words, crate::proofs::StandingLemmas::standing_is))]
 pub fn find_standing(expr: &[u8], start: bool) -> Option<Standing>
     ensures { result ≡ standing start expr.now }

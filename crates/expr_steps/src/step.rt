@@ -16,16 +16,16 @@ pub enum Step {
     Subtract,
     Multiply,
     AddConstant { addend: u64 },
-    /// Only the low bits: the remainder of a division by a power of two.
+    /// An `and` that keeps only the low bits: the remainder of a division by a power of two.
     Remainder { size: u64 },
     /// A shift to the left: a multiplication by a power of two.
     Product { factor: u64 },
-    /// Whether a value below `size` reaches `size` after `lift` is added: 1 or 0.
+    /// Whether a value below `size` is at least `size` after `lift` is added: 1 or 0.
     Reaches { lift: u64, size: u64 },
 }
 
 impl Step {
-    /// How many values it takes from the stack.
+    /// How many values the step takes from the stack.
     fn takes(self) -> u32
         ensures { result ≡ takes self }
     {
@@ -40,7 +40,7 @@ impl Step {
         }
     }
 
-    /// How many words of rule text express it.
+    /// How many words of rule text express the step.
     pub fn words(self) -> u32
         ensures { result ≡ words self }
     {
@@ -52,7 +52,8 @@ impl Step {
         }
     }
 
-    /// How many values are on the stack after it, if it finds the values that it takes.
+    /// How many values are on the stack after the step, or none if the stack has fewer values than
+    /// the step takes.
     pub(crate) fn after(self, depth: Option<u32>) -> Option<u32>
         requires room { IsAtMost 1025 depth }
         ensures { result ≡ option_and_then (after_step self) depth }

@@ -14,7 +14,7 @@ use sym_edges::Reason;
 #[derive(Drop)]
 pub struct StepReader<'a> {
     cursor: Cursor<'a>,
-    /// The power of two below which the previous step kept the bits.
+    /// The power of two of the previous step, if that was an `and`.
     kept: Option<u64>,
 }
 
@@ -28,14 +28,14 @@ impl<'a> Model for StepReader<'a> {
     ghost view = { λ r. steps_at r.kept r.cursor };
 }
 
-/// A step, and the power of two below which it kept the bits.
+/// A step and, if it is an `and`, its power of two.
 #[derive(Clone, Copy)]
 struct Found {
     step: Step,
     kept: Option<u64>,
 }
 
-/// A step that keeps no low bits.
+/// A step other than an `and`.
 fn alone(step: Step) -> Found
     ensures step { result.step ≡ step }
     ensures kept { result.kept ≡ None }
@@ -51,7 +51,7 @@ fn power_of_two(bits: u64) -> u64
     1u64 << bits
 }
 
-/// The power of two that is one more than a constant, up to 2^62.
+/// The power of two that is one more than a constant, if it is at most 2^62.
 #[tactic(auto, using(crate::proofs::StepLemmas::mask_found, crate::proofs::StepLemmas::mask_lower, crate::proofs::StepLemmas::mask_none, std::proofs::lemmas::Nat::pow_pos))]
 fn mask_size(value: u64) -> Option<u64>
     ensures { result ≡ mask_size 63 value }
@@ -105,7 +105,7 @@ fn step_alone(operation: Operation) -> Option<Step>
     }
 }
 
-/// A constant and `and`.
+/// The step of a constant and `and`.
 #[tactic(auto, using(crate::proofs::StepLemmas::pair_and, crate::proofs::StepLemmas::no_mask))]
 fn masked(value: u64) -> Result<Found, Reason>
     ensures { MatchResult result (λ read. (kept : Option ℕ) → IsPair kept value And read.step read.kept) (λ _. (kept : Option ℕ) → IsNoStep kept value And) }
@@ -119,7 +119,7 @@ fn masked(value: u64) -> Result<Found, Reason>
     }
 }
 
-/// A constant and `shl`.
+/// The step of a constant and `shl`.
 #[tactic(auto, using(crate::proofs::StepLemmas::pair_shl, crate::proofs::StepLemmas::far_shl))]
 fn shifted(value: u64) -> Result<Found, Reason>
     ensures { MatchResult result (λ read. (kept : Option ℕ) → IsPair kept value Shl read.step read.kept) (λ _. (kept : Option ℕ) → IsNoStep kept value Shl) }
@@ -132,7 +132,7 @@ fn shifted(value: u64) -> Result<Found, Reason>
     }))
 }
 
-/// A constant and `ge`.
+/// The step of a constant and `ge`.
 #[tactic(auto, using(crate::proofs::StepLemmas::pair_ge, crate::proofs::StepLemmas::far_ge, crate::proofs::StepLemmas::no_and))]
 fn compared(kept: Option<u64>, value: u64) -> Result<Found, Reason>
     ensures { MatchResult result (λ read. IsPair kept value Ge read.step read.kept) (λ _. IsNoStep kept value Ge) }
@@ -149,7 +149,8 @@ fn compared(kept: Option<u64>, value: u64) -> Result<Found, Reason>
     }))
 }
 
-/// The step of a constant and the operation after it, or none if the constant alone is a step.
+/// The step of a constant together with the operation after it, or none if the constant alone is a
+/// step.
 #[tactic(auto, using(crate::proofs::StepLemmas::constant_alone))]
 fn pair_of(kept: Option<u64>, value: u64, operation: Operation) -> Result<Option<Found>, Reason>
     ensures { MatchResult result
@@ -213,7 +214,7 @@ fn read_behind(
 }
 
 impl<'a> StepReader<'a> {
-    /// The steps of an expression are read from its first byte on.
+    /// A reader at the first byte of an expression.
     #[tactic(auto, using(crate::proofs::StepLemmas::reads_all))]
     pub fn new(expr: &'a [u8]) -> StepReader<'a>
         ensures { result ≡ steps expr.now }
@@ -224,8 +225,8 @@ impl<'a> StepReader<'a> {
         }
     }
 
-    /// The next step, or none if no byte is left. If what is left is not made of steps, a call is refused, at the latest at the byte that belongs to
-    /// no step.
+    /// The next step, or none if no byte is left. If what is left is not made of steps, some call
+    /// fails, at the latest at the byte that belongs to no step.
     #[tactic(auto, using(crate::proofs::StepLemmas::next_ends, crate::proofs::StepLemmas::next_steps, crate::proofs::StepLemmas::next_unread))]
     pub fn next(&mut self) -> Result<Option<Step>, Reason>
         ensures { MatchResult result

@@ -1,4 +1,4 @@
--- For src/lists.rt: a list more changes no other, and a list stands between two ends.
+-- Adding a list changes no other list, and each list lies between two ends (for `src/lists.rt`).
 use Rattle.std.proofs.Common.{◌≡◌, ◌<◌, ◌≤◌, ◌+◌, ◌-◌, ℕ, zero, suc, List, [], ◌∷◌, ◌++◌, length, take, drop, Some, None, get_or, refl, sym, ap, ◌∙◌, arith, length-append}
 use Rattle.std.specs.List.{slice_get}
 use Rattle.std.proofs.lemmas.List.{take_all, take-append-le, drop-append-le, drop_all, drop-take, length-drop}

@@ -1,4 +1,4 @@
--- Three lists in one, of which the second is empty.
+-- A worked example: three lists in one, of which the second is empty.
 use Rattle.std.proofs.Common.{◌≡◌, ℕ, List, [], ◌∷◌, Some, None, refl}
 use Rattle.std.specs.List.{slice_get}
 use Rattle.flat_lists.specs.Ends.{lists_to, begun}

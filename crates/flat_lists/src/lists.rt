@@ -1,4 +1,4 @@
-//! Lists in one list, each up to its end.
+//! A list of lists, stored as one list of members and the place where each list ends.
 ghost use Rattle.std.specs.Prelude.{◌≡◌, ◌<◌, ◌≤◌, ◌-◌, [], ◌∷◌, ◌++◌, Some, length, take, drop, IfOk, OnOk, OnErr};
 ghost use Rattle.std.specs.List.{slice_get};
 ghost use Rattle.std.specs.Option.{option_copied};
@@ -8,7 +8,8 @@ use std::alloc::Global;
 use std::marker::Model;
 use sym_edges::OutOfMemory;
 
-/// Lists that were added one after another. All have less than 2^32 members together: a list that would pass that is out of memory.
+/// A list of lists that grows at its end. All lists together have fewer than 2^32 members; adding a
+/// list that would exceed this fails like a lack of memory.
 #[derive(Drop)]
 pub struct FlatLists<T> {
     ends: Vec<u32>,
@@ -26,7 +27,7 @@ impl<T> Model for FlatLists<T> {
     ghost invariant = { λ l. AreEnds 0 l.ends.items (length l.members.items) };
 }
 
-/// Where the list of a number begins: at the end of the one before it.
+/// Where list `k` begins: at the end of the one before it, or at 0.
 #[inline]
 fn begun(ends: &[u32], k: usize) -> u32
     requires { k < length ends.now }
@@ -38,7 +39,7 @@ fn begun(ends: &[u32], k: usize) -> u32
     ends[k - 1]
 }
 
-/// The members from one place up to another.
+/// The members from `start` up to `end`, without `end`.
 #[inline]
 #[tactic(auto, using(crate::proofs::EndLemmas::part_is))]
 fn list_between<T>(members: &[T], start: usize, end: usize) -> &[T]
@@ -52,7 +53,7 @@ fn list_between<T>(members: &[T], start: usize, end: usize) -> &[T]
 }
 
 impl<T> FlatLists<T> {
-    /// No list yet. Takes no memory.
+    /// A list of no lists. Allocates no memory.
     pub fn new(alloc: Global) -> FlatLists<T>
         ensures { result ≡ [] }
     {
@@ -62,7 +63,7 @@ impl<T> FlatLists<T> {
         }
     }
 
-    /// No list yet, and room for so many with so many members.
+    /// A list of no lists, with memory for `lists` lists that have `members` members together.
     pub fn with_room(
         alloc: Global,
         lists: usize,
@@ -76,7 +77,8 @@ impl<T> FlatLists<T> {
         })
     }
 
-    /// Adds a list, whose members are moved. Where memory runs out, nothing changes.
+    /// Adds a list at the end, and moves its members. If there is not enough memory, nothing
+    /// changes.
     #[tactic(auto, using(crate::proofs::EndLemmas::list_added, crate::proofs::EndLemmas::end_added))]
     pub fn append(&mut self, list: &mut Vec<T>) -> Result<(), OutOfMemory>
         ensures added { OnOk result (self.new ≡ self.old ++ list.old.items ∷ []) }
@@ -92,7 +94,7 @@ impl<T> FlatLists<T> {
         Ok(())
     }
 
-    /// Gives back the room that no list took.
+    /// Frees the memory that no list uses.
     pub fn shrink(&mut self)
         ensures { self.new ≡ self.old }
     {
@@ -100,7 +102,7 @@ impl<T> FlatLists<T> {
         self.members.shrink_to_fit();
     }
 
-    /// How many lists there are.
+    /// The number of lists.
     #[inline]
     #[tactic(auto, using(crate::proofs::EndLemmas::count_is))]
     pub fn len(&self) -> usize
@@ -109,7 +111,7 @@ impl<T> FlatLists<T> {
         self.ends.len()
     }
 
-    /// The list of a number.
+    /// List `k`, or `None` if there are not that many.
     #[inline]
     pub fn get(&self, k: usize) -> Option<&[T]>
         ensures { option_copied result ≡ slice_get self.now k }
@@ -121,7 +123,7 @@ impl<T> FlatLists<T> {
         Some(list_between(self.members.as_slice(), start as usize, *end as usize))
     }
 
-    /// The list of a number that there is.
+    /// List `k`, which must exist.
     #[inline]
     pub fn at(&self, k: usize) -> &[T]
         requires { k < length self.now }
@@ -135,7 +137,7 @@ impl<T> FlatLists<T> {
 }
 
 impl<T: Copy> FlatLists<T> {
-    /// Adds a list. Where memory runs out, nothing changes.
+    /// Adds a copy of a list at the end. If there is not enough memory, nothing changes.
     #[tactic(auto, using(crate::proofs::EndLemmas::list_added, crate::proofs::EndLemmas::end_added))]
     pub fn push(&mut self, list: &[T]) -> Result<(), OutOfMemory>
         ensures added { OnOk result (self.new ≡ self.old ++ list.now ∷ []) }
@@ -151,7 +153,8 @@ impl<T: Copy> FlatLists<T> {
         Ok(())
     }
 
-    /// Forgets all lists, and makes room for so many: the memory of those before is used again.
+    /// Removes all lists, and makes room for `lists` new ones. The memory of the old ones is
+    /// reused.
     pub fn clear(&mut self, lists: usize) -> Result<(), OutOfMemory>
         ensures { OnOk result (self.new ≡ []) }
     {
@@ -161,7 +164,7 @@ impl<T: Copy> FlatLists<T> {
         Ok(())
     }
 
-    /// The same lists, in no more room than they take.
+    /// A copy of the lists that takes no more memory than they need.
     pub fn copied(&self, alloc: Global) -> Result<FlatLists<T>, OutOfMemory>
         ensures { IfOk result (λ lists. lists ≡ self.now) }
     {

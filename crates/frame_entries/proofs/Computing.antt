@@ -1,4 +1,5 @@
--- What a proof unfolds to compute the definitions of frame_entries and of leb_cursor where the input is written out.
+-- The definitions of frame_entries and leb_cursor that a proof unfolds to compute a result from
+-- given bytes.
 use Rattle.std.specs.Prelude.{⊤}
 use Rattle.leb_cursor.proofs.Computing.{leb_cursor_computes}
 use Rattle.frame_entries.specs.Cies.{is_version, is_letter, is_understood, is_augmented, sizes_at, column_at, numbers_at, augmentation_at, is_personality, personality_at, encoding_at, letter_at, letters_at, encodings_of, cie_fields, cie_behind, cie_of}

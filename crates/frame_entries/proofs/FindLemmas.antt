@@ -1,4 +1,4 @@
--- A search among CIEs whose places rise; for `count_before`, `find_cie`.
+-- Lemmas about the search among CIEs whose places rise, for `count_before` and `find_cie`.
 use Rattle.std.proofs.Common.{◌≡◌, ◌<◌, ℕ, zero, suc, Bool, true, false, eqb, List, [], ◌∷◌, length, get_or, None, Some, refl, sym, ◌∙◌, arith}
 use Rattle.std.specs.List.{find}
 use Rattle.std.proofs.lemmas.Bool.{cond-true, cond-false, eq-eqb}
@@ -8,7 +8,7 @@ use Rattle.frame_entries.specs.declared.cie.Cie.{Cie}
 use Rattle.frame_entries.specs.internal.CiePlaces.{places_of}
 use Rattle.frame_entries.specs.FrameEntries.{cie_from}
 
--- the first element that passes is found, and none where none does
+-- The search finds the first element that passes the test, and nothing if none passes.
 find_at : {X : Type 0} (test : X → Bool) (xs : List X) (k : ℕ) (d : X) → k < length xs → ((j : ℕ) → j < k → test (get_or xs j d) ≡ false) → test (get_or xs k d) ≡ true → find test xs ≡ Some (get_or xs k d)
 find_at test [] k d there before passes = absurd (omega arith)
 find_at test (x ∷ xs) zero d there before passes = cond-true _ _ _ passes

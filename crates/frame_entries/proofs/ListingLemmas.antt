@@ -1,4 +1,4 @@
--- The list of a section's entries, as the code makes it; for `read_listing`.
+-- Lemmas about the list of a section's entries, as the loop of `read_listing` makes it.
 use Rattle.std.proofs.Common.{◌≡◌, ◌+◌, ℕ, zero, suc, true, false, nat_eq, List, [], ◌∷◌, ◌++◌, length, Result, Ok, Err, refl, sym, ap, ◌∙◌, arith, append_assoc, append-nil}
 use Rattle.std.proofs.lemmas.Bool.{cond-true, cond-false}
 use Rattle.sym_edges.specs.declared.part.Sect.{Sect}
@@ -10,11 +10,11 @@ use Rattle.frame_entries.specs.declared.raw_entries.Mark.TheVariants.{Terminator
 use Rattle.frame_entries.specs.Raw.{Raw}
 use Rattle.frame_entries.specs.Listing.{mark_at, listed_from, listed_in}
 
--- entries that were read, and those still to come
+-- The entries that were read, followed by the entries still to be read.
 abbrev pub behind : List Raw → Result (List Raw) (Located FrameKind) → Result (List Raw) (Located FrameKind)
 behind done later = later >>= λ raws. Ok (done ++ raws)
 
--- one step of the list, where bytes are left
+-- If bytes are left, the list is the next mark and the list after it.
 step : (m n : ℕ) (which : Sect) (c : Ahead) → m ≡ n + 1 → nat_eq (length c.bytes) 0 ≡ false → listed_in m which c ≡ (mark_at which c >>= λ mark. listed_from mark.0 (listed_in n which mark.1))
 unfolding listed_in
 step zero n which c more left = absurd (omega arith)
@@ -35,7 +35,7 @@ no_fuel (suc n) which c none = absurd (omega arith)
 none_behind : (done : List Raw) (later : Result (List Raw) (Located FrameKind)) → later ≡ Ok [] → behind done later ≡ Ok done
 none_behind done later is = ap (behind done) is ∙ ap Ok (append-nil done)
 
--- the loop's steps
+-- The steps of the loop.
 pub listing_begins : (done : List Raw) (later : Result (List Raw) (Located FrameKind)) → done ≡ [] → behind done later ≡ later
 listing_begins done (Ok raws) none = ap (λ xs. Ok (xs ++ raws)) none
 listing_begins done (Err fault) none = refl

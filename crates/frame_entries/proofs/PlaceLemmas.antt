@@ -1,4 +1,6 @@
--- The places of a section's entries rise, and its list does not depend on how many turns are allowed; for `entries`, `entries_follow`, `read_entry`, `front_id`, `read_listing`, `read_mark`.
+-- The places of a section's entries rise, and the list of the entries does not depend on the bound
+-- on the number of marks. The lemmas are for `entries`, `entries_follow`, `read_entry`, `front_id`,
+-- `read_listing` and `read_mark`.
 use Rattle.std.proofs.Common.{◌≡◌, ◌≤◌, ◌+◌, ℕ, zero, suc, Bool, true, false, nat_eq, nat_lt, nat_le, cond, eq-eqb, List, [], ◌∷◌, length, take, map, Result, Ok, Err, refl, sym, ap, ◌∙◌, subst, arith}
 use Rattle.std.specs.List.{filter}
 use Rattle.std.proofs.lemmas.Bool.{cond-true, cond-false, le-ltb, ltb-false}
@@ -24,7 +26,7 @@ use Rattle.sym_edges.specs.Rising.{RisesFrom}
 use Rattle.sym_edges.proofs.RisingLemmas.{rises_lower}
 use Rattle.frame_entries.specs.FrameEntries.{is_cie, cie_at, cies_of}
 
--- how far a mark goes
+-- A mark takes at least four bytes.
 or_passes : {A : Type 0} (which : Sect) (at : ℕ) (reading : Result (A × Ahead) CursorFault) (least : ℕ) (c : Ahead) → Passes least c reading → Passes least c (or_length which at reading)
 or_passes which at (Ok x) least c goes = goes
 or_passes which at (Err fault) least c goes = tt
@@ -61,7 +63,7 @@ mark_passes which c =
     passes_then (or_length which c.at (fixed_at 4 c)) (λ count. mark_behind which c.at count.0 count.1) 4 0 c
     (or_passes which c.at (fixed_at 4 c) 4 c (fixed_passes 4 c)) (λ count. behind_passes which c.at count.0 count.1)
 
--- the place after a number of so many bytes
+-- The place after a number of fixed width.
 abbrev place_behind : ℕ → Result (ℕ × Ahead) CursorFault → ℕ
 place_behind at (Ok x) = x.1.at
 place_behind at (Err fault) = at
@@ -75,7 +77,7 @@ pub fixed_ends : (width n : ℕ) (c d : Ahead) → Ok (n, d) ≡ fixed_at width 
 unfolding fixed_at
 fixed_ends width n c d is = ends_by (nat_lt (length c.bytes) width) _ _ width c (n, d) is
 
--- what a number at the front is, and that it is there
+-- The value of a number that was read.
 number_by : (test : Bool) (fault : CursorFault) (sum : ℕ) (d : Ahead) (x : ℕ × Ahead) → Ok x ≡ cond test (Err fault) (Ok (sum, d)) → x.0 ≡ sum
 number_by true fault sum d x is = cc
 number_by false fault sum d x is = cc
@@ -91,7 +93,7 @@ front_there width n bytes fault is there =
     let never : ◌≡◌ {A = Result (ℕ × Ahead) CursorFault} (Err fault) (Ok (fixed_sum width bytes, passed width (from_start bytes))) = is ∙ cond-false _ _ _ enough in
     cc
 
--- how many bytes are taken
+-- The number of bytes that were taken.
 taken_by : (test : Bool) (fault : CursorFault) (n : ℕ) (c : Ahead) (x : List ℕ × Ahead) → nat_lt (length c.bytes) n ≡ test → Ok x ≡ cond test (Err fault) (Ok (take n c.bytes, passed n c)) → length x.0 ≡ n
 taken_by true fault n c x is took = cc
 taken_by false fault n c x is took =
@@ -102,14 +104,14 @@ pub taken_length : (n : ℕ) (c d : Ahead) (bytes : List ℕ) → Ok (bytes, d) 
 unfolding take_at
 taken_length n c d bytes is = taken_by (nat_lt (length c.bytes) n) _ n c (bytes, d) refl is
 
--- the end after a mark
+-- A mark leaves the end of the section where it was.
 pub mark_ends : (which : Sect) (c d : Ahead) (mark : Mark) → Ok (mark, d) ≡ mark_at which c → d.at + length d.bytes ≡ c.at + length c.bytes
 mark_ends which c d mark is =
     let P : Result (Mark × Ahead) (Located FrameKind) → Type 0 = λ reading. Passes 4 c reading in
     let goes = subst P (sym is) (mark_passes which c) in
     goes.1
 
--- an entry starts where its mark was looked for
+-- An entry starts where its mark was read.
 abbrev pub MarkStarts : ℕ → Mark → Type 0
 MarkStarts at Terminator = Unit {0}
 MarkStarts at Padding = Unit {0}
@@ -156,7 +158,7 @@ mark_starts which c =
     starts_then c.at (or_length which c.at (fixed_at 4 c)) (λ count. mark_behind which c.at count.0 count.1)
     (λ count. behind_starts which c.at count.0 count.1)
 
--- places
+-- The places of entries.
 abbrev pub starts_of : List Raw → List ℕ
 starts_of raws = map (λ raw. raw.at) raws
 
@@ -215,7 +217,7 @@ cies_rise which c raws cies is made =
     let cie_places = rises_cies c.at (filter (is_cie which) raws) chosen in
     subst (λ (xs : List Cie). RisesFrom 0 (places_of xs)) (sym made) (rises_lower c.at 0 _ (omega arith) cie_places)
 
--- the list of what is ahead, whatever number of turns is allowed
+-- Two bounds that allow enough marks give the same list.
 marks_same : (reading : Result (Mark × Ahead) (Located FrameKind)) (c : Ahead) (f g : Ahead → Result (List Raw) (Located FrameKind)) → Passes 4 c reading → ((d : Ahead) → length d.bytes + 4 ≤ length c.bytes → f d ≡ g d) → (reading >>= λ mark. listed_from mark.0 (f mark.1)) ≡ (reading >>= λ mark. listed_from mark.0 (g mark.1))
 marks_same (Ok mark) c f g goes same = ap (listed_from mark.0) (same mark.1 goes.0)
 marks_same (Err fault) c f g goes same = refl

@@ -1,4 +1,4 @@
--- The reasons for which entries are left out; for `reasons_are_of_fields`.
+-- Lemmas about the reasons for which entries are left out, for `reasons_are_of_fields`.
 use Rattle.std.proofs.Common.{ℕ, Bool, true, false, not, ◌&&◌, nat_eq, cond, List, [], ◌∷◌, drop, map, Option, None, Some, Result, Ok, Err}
 use Rattle.std.specs.Option.{IfSome, option_and_then}
 use Rattle.std.specs.List.{filter, find}
@@ -20,7 +20,7 @@ use Rattle.frame_entries.specs.FdeFields.{FdeFields}
 use Rattle.frame_entries.specs.Cies.{or_cie, is_version, is_understood, is_augmented, numbers_at, augmentation_at, is_personality, personality_at, encoding_at, letter_at, letters_at, encodings_of, cie_fields, cie_behind, cie_of}
 use Rattle.frame_entries.specs.FrameEntries.{IsOfFields, reason_in, is_cie, cie_at, cies_of, cie_place, cie_from, cie_named, address_at, fde_of, body_read, body_under, body_by, entry_of}
 
--- refused for a reason that fields give, if at all
+-- If something is refused, the reason comes from fields.
 abbrev pub OfFields : {A : Type 0} → Result A Reason → Type 0
 OfFields (Ok x) = Unit {0}
 OfFields (Err why) = IsOfFields why
@@ -123,7 +123,7 @@ cie_reason body =
     (unread (text_at version.1))
     (λ text. text_reason (is_version version.0) (is_understood text.0) version.0 text.0 body text.1))
 
--- a CIE that was found
+-- A CIE that was found has fields, or a reason that comes from fields.
 abbrev pub FoundOfFields : Option Cie → Type 0
 FoundOfFields None = Unit {0}
 FoundOfFields (Some cie) = OfFields cie.parts

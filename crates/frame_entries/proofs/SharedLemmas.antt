@@ -1,4 +1,5 @@
--- Entries of one section whose CIE stands at one place have one CIE's fields; for `entry`, `is_empty`, `len`.
+-- If the CIEs of two entries of a section are at the same place, the entries have the same fields
+-- of a CIE. The lemmas are for `entry`, `is_empty` and `len`.
 use Rattle.std.proofs.Common.{◌≡◌, ◌<◌, ℕ, Bool, true, false, nat_eq, cond, List, [], ◌∷◌, map, length, get_or, Option, None, Some, Result, Ok, Err, refl, sym, ap, ◌∙◌, pos, subst, arith}
 use Rattle.std.specs.List.{find, slice_get}
 use Rattle.std.specs.Option.{option_and_then, option_map}
@@ -22,7 +23,7 @@ use Rattle.frame_entries.specs.FdeFields.{FdeFields}
 use Rattle.frame_entries.specs.FrameEntries.{cie_place, cie_from, cie_named, address_at, fde_of, body_read, body_under, body_by, entry_of}
 use Rattle.frame_entries.specs.SharedCies.{HaveOneCie, ShareCies}
 
--- what the CIE at a place says, where one is there that can be used
+-- The fields of the CIE at a place, if there is one that can be used.
 abbrev no_fields : CieFields
 no_fields = record { code_align = 0; data_align = pos 0; encoding = 0; augmented = false; initial_instructions = [] }
 
@@ -37,7 +38,7 @@ fields_in None = no_fields
 fields_at : List Cie → ℕ → CieFields
 fields_at cies place = fields_in (cie_from cies place)
 
--- an entry has the fields of a CIE
+-- An entry has the fields of this CIE.
 record IsUnder (place : ℕ) (cie : CieFields) (e : FdeFields) : Type 0 where
   place_is : e.cie ≡ place
   code_align : e.code_align ≡ cie.code_align
@@ -61,7 +62,7 @@ fde_under place cie base body =
     (λ size. then place cie (augmentation_at cie.augmented size.1) _
     (λ augmentation. record { place_is = refl; code_align = refl; data_align = refl; encoding = refl; initial_instructions = refl })))
 
--- a CIE that is found is found at its own place
+-- A CIE that is found at a place has that place.
 abbrev or_this : {X : Type 0} → X → Option X → X
 or_this d None = d
 or_this d (Some x) = x
@@ -81,7 +82,7 @@ named_found cies (Some place) cie found =
     let at_place : cie.at ≡ place = eqb-true cie.at place (found_test (λ (c : Cie). nat_eq c.at place) cies cie found) in
     ap (λ n. find (λ (c : Cie). nat_eq c.at n) cies) at_place ∙ found
 
--- an entry that can be read has the fields of the CIE at its place
+-- An entry that can be read has the fields of the CIE at its CIE's place.
 abbrev good_or : FdeFields → Body → FdeFields
 good_or e (Good f) = f
 good_or e (Bad why) = e
@@ -114,7 +115,7 @@ entry_fields which address cies raw e is =
     named_fields cies (option_and_then (cie_from cies) (cie_place which raw)) (address_at address raw.body_at) raw.body e
     (named_found cies (cie_place which raw)) is
 
--- two entries with the fields of the CIEs at their places, which are one place
+-- Two entries that name the same place have the same fields of a CIE.
 both_under : (cies : List Cie) (e f : FdeFields) → IsUnder e.cie (fields_at cies e.cie) e → IsUnder f.cie (fields_at cies f.cie) f → e.cie ≡ f.cie → HaveOneCie e f
 both_under cies e f first second one =
     let same : fields_at cies e.cie ≡ fields_at cies f.cie = ap (fields_at cies) one in
@@ -144,7 +145,7 @@ entries_share which address cies raws entries are =
     let P : List Entry → Type 0 = λ xs. ShareCies xs in
     subst P (sym are) (fdes_share which address cies raws)
 
--- an entry of the list is read where it lies
+-- Each entry of the list is read from its bytes.
 pub entries_counted : (which : Sect) (address : ℕ) (cies : List Cie) (raws : List Raw) (entries : List Entry) → entries ≡ map (entry_of which address cies) raws → length entries ≡ length raws
 entries_counted which address cies raws entries are = ap length are ∙ length-map raws (entry_of which address cies)
 

@@ -1,4 +1,4 @@
--- Worked rows: the entries of a section up to its end, and the faults of their lengths.
+-- Worked examples: the entries of a section up to its end, and the faults of their lengths.
 use Rattle.std.proofs.Common.{◌≡◌, ℕ, negsuc, List, [], ◌∷◌, take, map, replicate, Some, Result, Ok, Err, refl}
 use Prim.Native.String.{String}
 use Rattle.std.specs.List.{range_with_len}
@@ -13,7 +13,7 @@ use Rattle.frame_entries.specs.FrameEntries.{frame_entries}
 use Rattle.sym_edges.proofs.Hex.{hex}
 use Rattle.frame_entries.proofs.Sections.{Seen, entries, fault_place, small, sections}
 
--- the same list, with no address
+-- The entries of a section that is loaded at address 0.
 unfoldable lists : Sect → String → Result (List (ℕ × Seen)) (Located FrameKind)
 unfolding hex entries
 lists which section = entries which 0 (hex section)
@@ -36,7 +36,7 @@ a_whole_entry : frame_entries small 0x2000 EhFrame ≡ Ok (record {
 unfolding sections
 a_whole_entry = refl
 
--- the section cut at each length: the fault stands at the entry that is cut
+-- If the section is cut, the fault is at the entry that is cut.
 cut_in_the_cie : map (λ size. fault_place (entries EhFrame 0x2000 (take size small))) (range_with_len 1 23) ≡ replicate 23 (Some 0)
 unfolding sections
 cut_in_the_cie = refl
@@ -65,7 +65,7 @@ not_cut : entries EhFrame 0x2000 (take 60 small) ≡ Ok ((0x18, Ok (0x1000, 0x20
 unfolding sections
 not_cut = refl
 
--- lengths that cannot be, in both sections
+-- Lengths that are refused, in both sections.
 format_64_in_eh_frame : lists EhFrame "ffffffff" ≡ Err (record { kind = Format64; section = EhFrame; at = 0 })
 unfolding sections lists
 format_64_in_eh_frame = refl
@@ -134,7 +134,8 @@ three_bytes_left_in_debug_frame : lists DebugFrame "000000" ≡ Err (record { ki
 unfolding sections lists
 three_bytes_left_in_debug_frame = refl
 
--- the 64-bit format in `.debug_frame`: lengths and ids of eight bytes, and entries of both formats beside each other
+-- The 64-bit format in `.debug_frame`: lengths and ids of eight bytes, and entries of both formats
+-- in one section.
 format_64 : lists DebugFrame "ffffffff 1800000000000000 ffffffffffffffff 01 00 01 78 10 0c0708 9001 000000000000 ffffffff 2000000000000000 0000000000000000 0010000000000000 2000000000000000 41 0e10 8602 000000" ≡ Ok ((0x24, Ok (0x1000, 0x20)) ∷ [])
 unfolding sections lists
 format_64 = refl
@@ -173,7 +174,7 @@ an_fde_of_64_bits_in_front_of_its_cie : lists DebugFrame "ffffffff 2000000000000
 unfolding sections lists
 an_fde_of_64_bits_in_front_of_its_cie = refl
 
--- the greatest id of four bytes is a place like others where an id has eight, and no place is counted modulo 2^32
+-- An id of eight bytes that is ffffffff is the place of a CIE, and no place is taken modulo 2^32.
 the_id_ffffffff_in_format_64 : lists DebugFrame "ffffffff 1800000000000000 ffffffffffffffff 01 00 01 78 10 0c0708 9001 000000000000 ffffffff 2000000000000000 ffffffff00000000 0010000000000000 2000000000000000 41 0e10 8602 000000" ≡ Ok ((0x24, Err reason.Cie) ∷ [])
 unfolding sections lists
 the_id_ffffffff_in_format_64 = refl
@@ -182,7 +183,8 @@ an_id_of_2_to_the_32 : lists DebugFrame "ffffffff 1800000000000000 fffffffffffff
 unfolding sections lists
 an_id_of_2_to_the_32 = refl
 
--- lengths below 8, one that leaves the section, one whose end leaves 64 bits, and one that is cut; a length of fffffff0 is none
+-- Lengths of the 64-bit format: below 8, past the section's end, past 2^64, fffffff0, and a cut
+-- one.
 no_room_for_the_id_0_in_format_64 : lists DebugFrame "ffffffff 0000000000000000 0000000000000000" ≡ Err (record { kind = Length; section = DebugFrame; at = 0 })
 unfolding sections lists
 no_room_for_the_id_0_in_format_64 = refl
@@ -211,7 +213,7 @@ a_cut_length_in_format_64 : lists DebugFrame "ffffffff 18000000000000" ≡ Err (
 unfolding sections lists
 a_cut_length_in_format_64 = refl
 
--- a length of 0 ends `.eh_frame`, and `.debug_frame` goes on after it
+-- A length of 0 ends `.eh_frame`. In `.debug_frame` entries may follow it.
 ended_by_zero : lists EhFrame "00000000 01000000" ≡ Ok []
 unfolding sections lists
 ended_by_zero = refl
@@ -224,14 +226,16 @@ zeros_alone : lists DebugFrame "00000000 00000000" ≡ Ok []
 unfolding sections lists
 zeros_alone = refl
 
--- a CIE after its FDE
+-- A CIE after its FDE.
 a_cie_behind_its_fde : lists DebugFrame "14000000 18000000 00100000 00000000 20000000 00000000 09000000 ffffffff 01 00 01 78 10" ≡ Ok ((0, Ok (0x1000, 0x20)) ∷ [])
 unfolding sections lists
 a_cie_behind_its_fde = refl
 
--- sections as compilers, assemblers and linkers write them, with the entries that `readelf --debug-dump=frames` shows
+-- Sections as compilers, assemblers and linkers write them, with the entries that `readelf
+-- --debug-dump=frames` shows.
 
--- gcc 12, a small program with the C library's start code and the linker's table of calls
+-- gcc 12: a small program with the C library's start code and the procedure linkage table of the
+-- linker.
 unfoldable gcc_eh : List ℕ
 unfolding hex
 gcc_eh = hex "14000000 00000000 017a5200 01781001 1b0c0708 90010710 14000000 1c000000 e0efffff 22000000 00000000 00000000 14000000 00000000 017a5200 01781001 1b0c0708 90010000 24000000 1c000000 90efffff 10000000 000e1046 0e184a0f 0b770880 003f1a3b 2a332422 00000000 14000000 44000000 78efffff 08000000 00000000 00000000 10000000 5c000000 59f0ffff 05000000 00000000 10000000 70000000 4af0ffff 2c000000 00000000 14000000 84000000 62f0ffff 2c000000 00440e18 670e0800 00000000"
@@ -240,7 +244,8 @@ gcc_eh_entries : entries EhFrame 0x2040 gcc_eh ≡ Ok ((0x18, Ok (0x1040, 0x22))
 unfolding sections gcc_eh
 gcc_eh_entries = refl
 
--- gas and ld: a personality with a table, a signal frame, a return address in a register, another return address column
+-- gas and ld: a personality with a table, a signal frame, a return address in a register, and
+-- another return address column.
 unfoldable gas_eh : List ℕ
 unfolding hex
 gas_eh = hex "1c000000 00000000 017a504c 52000178 10071bef efffff1b 1b0c0708 90010000 1c000000 24000000 d0efffff 03000000 04c7ffff ff410e10 8602410e 08000000 14000000 00000000 017a5253 00017810 011b0c07 08900100 10000000 1c000000 9befffff 02000000 00410710 14000000 00000000 017a5200 01781001 1b0c0708 90010000 14000000 1c000000 71efffff 03000000 00410910 02410803 14000000 00000000 017a5200 01780801 1b0c0708 90010000 10000000 1c000000 44efffff 02000000 00000000"
@@ -249,7 +254,7 @@ gas_eh_entries : entries EhFrame 0x402008 gas_eh ≡ Ok ((0x20, Ok (0x401000, 0x
 unfolding sections gas_eh
 gas_eh_entries = refl
 
--- gas and ld, `.debug_frame`
+-- gas and ld, `.debug_frame`.
 unfoldable gas_debug : List ℕ
 unfolding hex
 gas_debug = hex "14000000 ffffffff 01000178 100c0708 90010000 00000000 1c000000 00000000 00104000 00000000 03000000 00000000 410e1086 02410e08 1c000000 00000000 03104000 00000000 02000000 00000000 41071000 00000000 1c000000 00000000 05104000 00000000 03000000 00000000 41091002 41080300 14000000 ffffffff 01000178 080c0708 90010000 00000000 14000000 78000000 08104000 00000000 02000000 00000000"
@@ -258,7 +263,7 @@ gas_debug_entries : entries DebugFrame 0 gas_debug ≡ Ok ((0x18, Ok (0x401000, 
 unfolding sections gas_debug
 gas_debug_entries = refl
 
--- clang 14, `.debug_frame`
+-- clang 14, `.debug_frame`.
 unfoldable clang_debug : List ℕ
 unfolding hex
 clang_debug = hex "14000000 ffffffff 04000800 0178100c 07089001 00000000 14000000 00000000 30110000 00000000 07000000 00000000 14000000 00000000 40110000 00000000 26000000 00000000 14000000 00000000 70110000 00000000 35000000 00000000"

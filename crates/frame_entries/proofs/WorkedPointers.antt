@@ -1,4 +1,4 @@
--- Worked rows: pointers by their encoding, in a field of address ff0.
+-- Worked examples: pointers by their encoding, in a field at address ff0.
 use Rattle.std.proofs.Common.{◌≡◌, ℕ, true, false, [], ◌∷◌, map, replicate, Result, Ok, Err, refl}
 use Rattle.sym_edges.specs.Results.{◌>>=◌}
 use Rattle.leb_cursor.specs.declared.fault.CursorFault.{CursorFault}
@@ -7,7 +7,7 @@ use Rattle.frame_entries.specs.Pointers.{is_encoding, pointer_at}
 use Rattle.sym_edges.proofs.Hex.{hex}
 use Rattle.frame_entries.proofs.Computing.{frame_entries_computes}
 
--- the pointer that begins so many bytes after f0 of ten bytes, and the place after it
+-- The pointer that these ten bytes give in an encoding, and the place after it.
 unfoldable pointer : ℕ → Result (ℕ × ℕ) CursorFault
 unfolding hex
 pointer encoding =
@@ -77,7 +77,7 @@ a_cut_pointer : pointer_at 0x1b 0xff0 (record { bytes = hex "ffff"; at = 8 }) �
 unfolding frame_entries_computes
 a_cut_pointer = refl
 
--- the encodings that are read
+-- The encodings that are read.
 encodings_that_are_read : map is_encoding (0x00 ∷ 0x01 ∷ 0x02 ∷ 0x03 ∷ 0x04 ∷ 0x09 ∷ 0x0a ∷ 0x0b ∷ 0x0c ∷ 0x10 ∷ 0x1b ∷ 0x1c ∷ []) ≡ replicate 12 true
 unfolding frame_entries_computes
 encodings_that_are_read = refl

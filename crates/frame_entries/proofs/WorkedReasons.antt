@@ -1,4 +1,4 @@
--- Worked rows: what a CIE and an FDE say, and the reasons to leave an FDE out.
+-- Worked examples: what the fields of a CIE and an FDE say, and the reasons to leave an FDE out.
 use Rattle.std.proofs.Common.{◌≡◌, ◌++◌, take, Some, Ok, Err, refl}
 use Rattle.std.specs.Prelude.{slice_set}
 use Rattle.sym_edges.specs.declared.part.Sect.TheVariants.{EhFrame, DebugFrame}
@@ -6,7 +6,7 @@ use Rattle.sym_edges.specs.declared.reason.Reason.TheVariants as reason
 use Rattle.sym_edges.proofs.Hex.{hex}
 use Rattle.frame_entries.proofs.Sections.{entries, only, small, changed, under, sections}
 
--- one changed byte of the small section gives each reason
+-- For each reason, one changed byte of the small section gives it.
 version_2 : only (changed 8 2) ≡ Some (Err reason.Cie)
 unfolding sections
 version_2 = refl
@@ -63,7 +63,7 @@ augmentation_bytes_that_leave_the_fde : only (changed 40 0x7f) ≡ Some (Err rea
 unfolding sections
 augmentation_bytes_that_leave_the_fde = refl
 
--- addresses and sizes modulo 2^64
+-- Addresses and sizes are taken modulo 2^64.
 a_sum_that_passes_the_last_address : only (entries EhFrame 0xfffffffffffff000 (slice_set (slice_set (slice_set small 33 0x1f) 34 0) 35 0)) ≡ Some (Ok (0x1000, 0x20))
 unfolding sections
 a_sum_that_passes_the_last_address = refl
@@ -72,17 +72,17 @@ a_signed_size : only (entries EhFrame 0x2000 (slice_set (slice_set (slice_set (s
 unfolding sections
 a_signed_size = refl
 
--- a LEB128 of eleven bytes as the count of an FDE's augmentation
+-- A LEB128 of eleven bytes as the length of an FDE's augmentation data.
 a_count_of_an_fde_that_is_too_long : only (entries EhFrame 0x2000 (take 40 small ++ hex "80808080 80808080 80800000 00000000")) ≡ Some (Err reason.Entry)
 unfolding sections
 a_count_of_an_fde_that_is_too_long = refl
 
--- pointers of `.debug_frame` that are relative to their place count from the section's address
+-- In `.debug_frame`, relative pointers count from the section's address.
 a_relative_pointer_of_debug_frame : only (entries DebugFrame 0x7000 (hex "0d000000 ffffffff 01 7a5200 01 78 10 01 1b 0d000000 00000000 e79fffff 20000000 00")) ≡ Some (Ok (0x1000, 0x20))
 unfolding sections
 a_relative_pointer_of_debug_frame = refl
 
--- the body of a CIE by its version
+-- The body of a CIE of each version.
 version_1 : under "01 00 01 78 10" ≡ Some (Ok (0x1000, 0x20))
 unfolding sections
 version_1 = refl
@@ -139,7 +139,7 @@ a_signed_number_of_eleven_bytes : under "01 00 01 80808080 80808080 808000 10" �
 unfolding sections
 a_signed_number_of_eleven_bytes = refl
 
--- of many reasons the first counts
+-- If there are several reasons, the first counts.
 the_text_of_gcc_2 : under "01 656800 01 78 10" ≡ Some (Err reason.Augmentation)
 unfolding sections
 the_text_of_gcc_2 = refl
@@ -164,7 +164,7 @@ a_bad_encoding_and_another_column : under "01 7a5200 01 78 11 01 ff" ≡ Some (E
 unfolding sections
 a_bad_encoding_and_another_column = refl
 
--- an augmentation, letter by letter
+-- Augmentation strings, letter by letter.
 z_alone : under "01 7a00 01 78 10 00" ≡ Some (Ok (0x1000, 0x20))
 unfolding sections
 z_alone = refl
@@ -193,7 +193,8 @@ of_two_encodings_a_bad_first : under "01 7a525200 01 78 10 02 ff 00" ≡ Some (E
 unfolding sections
 of_two_encodings_a_bad_first = refl
 
--- a personality by its encoding: ff leaves it out, of the others the format counts, and 50 (aligned) is not read
+-- Personality pointers by their encoding: ff means that there is none, 50 (aligned) is not read,
+-- and for the others only the format matters.
 personality_ff : under "01 7a5000 01 78 10 01 ff" ≡ Some (Ok (0x1000, 0x20))
 unfolding sections
 personality_ff = refl

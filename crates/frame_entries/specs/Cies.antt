@@ -28,7 +28,8 @@ is_version version = version == 1 || version == 3 || version == 4
 unfoldable pub is_letter : ℕ → Bool
 is_letter letter = letter == 76 || letter == 80 || letter == 82 || letter == 83
 
--- an augmentation string that is understood: empty, or z and then these letters
+-- an augmentation string that is understood: empty, or z followed by any of the letters L, P, R and
+-- S
 unfoldable pub is_understood : List ℕ → Bool
 is_understood [] = true
 is_understood (first ∷ letters) = first == 122 && list_all is_letter letters
@@ -57,11 +58,13 @@ numbers_at version c =
     column_at version factor.1 >>= λ column.
     Ok (record { sizes = sizes.0; code_align = code.0; data_align = factor.0; column = column.0 }, column.1)
 
--- the bytes of the augmentation data, after their count; without augmentation data, none
+-- the bytes of the augmentation data, which follow their count; no bytes if there is no
+-- augmentation data
 unfoldable pub augmentation_at : Bool → Ahead → Result (List ℕ × Ahead) CursorFault
 augmentation_at augmented c = if augmented then (uleb_at c >>= λ count. take_at count.0 count.1) else Ok ([], c)
 
--- an encoding of a personality pointer that is read: a known format, and not aligned (50)
+-- a personality pointer is read if its encoding has a known format and is not aligned (50
+-- hexadecimal)
 unfoldable pub is_personality : ℕ → Bool
 is_personality encoding = is_format encoding && not (encoding / 16 % 8 == 5)
 
@@ -74,7 +77,8 @@ personality_at before c =
     then (or_cie (number_at (format_of encoding.0) encoding.1) >>= λ n. Ok (before, n.1))
     else Err reason.Encoding
 
--- the encoding of pointers; it may be one that is not read, which `known` says
+-- the encoding of pointers, given by R; `known` says whether each R so far gave an encoding that is
+-- read
 unfoldable pub encoding_at : Encodings → Ahead → Result (Encodings × Ahead) Reason
 encoding_at before c =
     or_cie (fixed_at 1 c) >>= λ encoding.
@@ -110,7 +114,8 @@ cie_fields augmented numbers encodings initial_instructions =
       initial_instructions = initial_instructions;
     })
 
--- the fields after an augmentation string that is understood; the instructions are the rest of the body
+-- the fields of a CIE whose augmentation string is understood; the instructions are the rest of the
+-- body
 unfoldable pub cie_behind : ℕ → List ℕ → List ℕ → Ahead → Result CieFields Reason
 cie_behind version text body c =
     or_cie (numbers_at version c) >>= λ numbers.

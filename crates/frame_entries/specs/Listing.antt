@@ -22,12 +22,13 @@ is_eh _ = false
 abbrev pub from_start : List ℕ → Ahead
 from_start bytes = record { bytes = bytes; at = 0 }
 
--- if a reading fails, the fault is `length`, at the place of the entry
+-- if a number or bytes cannot be read, the fault is `length`, at the place of the entry
 abbrev pub or_length : {A : Type 0} → Sect → ℕ → Result A CursorFault → Result A (Located FrameKind)
 or_length which at (Ok x) = Ok x
 or_length which at (Err fault) = Err (record { kind = Length; section = which; at = at })
 
--- the entry after a length in either format: `count` bytes, of which the first are the id, and the rest is the body
+-- the entry whose length, in either format, is `count`: its id and its body have `count` bytes
+-- together
 unfoldable pub entry_at : Sect → ℕ → Bool → ℕ → Ahead → Result (Mark × Ahead) (Located FrameKind)
 entry_at which at wide count c =
     if nat_lt count (id_width wide) then Err (record { kind = Length; section = which; at = at }) else
@@ -44,13 +45,15 @@ entry_at which at wide count c =
       bytes.1,
     ))
 
--- the entry after ffffffff: in `.debug_frame` a length of eight bytes follows; `.eh_frame` has no 64-bit format
+-- the entry whose length begins with ffffffff: in `.debug_frame` the length is in the next eight
+-- bytes; `.eh_frame` has no 64-bit format
 unfoldable pub wide_behind : Sect → ℕ → Ahead → Result (Mark × Ahead) (Located FrameKind)
 wide_behind which at c =
     if is_eh which then Err (record { kind = Format64; section = which; at = at }) else
     (or_length which at (fixed_at 8 c) >>= λ count. entry_at which at true count.0 count.1)
 
--- what follows a length of four bytes; a length of 0 is no entry, and ends `.eh_frame`
+-- what follows a length of four bytes: an entry, unless the length is 0; a length of 0 ends
+-- `.eh_frame`, and is skipped in `.debug_frame`
 unfoldable pub mark_behind : Sect → ℕ → ℕ → Ahead → Result (Mark × Ahead) (Located FrameKind)
 mark_behind which at count c =
     if count == 0 then Ok (if is_eh which then Terminator else Padding, c) else
@@ -58,11 +61,11 @@ mark_behind which at count c =
     if nat_le 0xfffffff0 count then Err (record { kind = Length; section = which; at = at }) else
     entry_at which at false count c
 
--- the next mark, which begins with its length
+-- the next mark, which is an entry or a length of 0; it begins with the length
 unfoldable pub mark_at : Sect → Ahead → Result (Mark × Ahead) (Located FrameKind)
 mark_at which c = or_length which c.at (fixed_at 4 c) >>= λ count. mark_behind which c.at count.0 count.1
 
--- the entries from a mark on, given those after it
+-- the entries from a mark on, given the entries after the mark
 abbrev pub listed_from : Mark → Result (List Raw) (Located FrameKind) → Result (List Raw) (Located FrameKind)
 listed_from Terminator later = Ok []
 listed_from Padding later = later

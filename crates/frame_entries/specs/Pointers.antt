@@ -13,7 +13,8 @@ use Rattle.frame_entries.specs.declared.pointer.Format.TheVariants.{U64, Uleb, U
 unfoldable pub is_format : ℕ → Bool
 is_format encoding = nat_le (encoding % 16) 4 || (nat_le 9 (encoding % 16) && nat_le (encoding % 16) 12)
 
--- the format of an encoding; 0 and 4 are numbers of eight bytes, and modulo 2^64 so is c
+-- the format of an encoding. The formats 0 and 4 are unsigned numbers of eight bytes; c is a signed
+-- one, which is the same modulo 2^64
 unfoldable pub format_of : ℕ → Format
 format_of encoding =
     if encoding % 16 == 1 then Uleb else
@@ -23,7 +24,8 @@ format_of encoding =
     if encoding % 16 == 10 then I16 else
     if encoding % 16 == 11 then I32 else U64
 
--- an encoding that is read: a known format; what is added is nothing or the address of the field (10); and not indirect (80)
+-- an encoding that is read: its format is known, nothing or the address of the field (10) is added,
+-- and it is not indirect (80)
 unfoldable pub is_encoding : ℕ → Bool
 is_encoding encoding = nat_lt encoding 0x20 && is_format encoding
 

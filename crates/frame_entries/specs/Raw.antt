@@ -1,7 +1,8 @@
 -- Entries as they are in their section.
 use Rattle.std.specs.Prelude.{ℕ, Bool, if◌then◌else◌, List}
 
--- how many bytes a length has, in the 64-bit format with the ffffffff before it, and how many bytes an id has (DWARF 5, 7.4)
+-- how many bytes a length and an id have (DWARF 5, 7.4); in the 64-bit format the length includes
+-- the ffffffff before it
 abbrev pub length_width : Bool → ℕ
 length_width wide = if wide then 12 else 4
 

@@ -127,7 +127,7 @@ fn read_letters(letters: &[u8], augmentation: &[u8]) -> Result<Encodings, Reason
     Ok(encodings)
 }
 
-/// The encoding of pointers, or why it cannot be known.
+/// The encoding of pointers, or the reason why the augmentation data cannot be read.
 #[tactic(auto, unfolding(crate::specs::Cies::encodings_of))]
 pub fn read_encodings(text: &[u8], augmentation: &[u8]) -> Result<Encodings, Reason>
     ensures read { result ≡ encodings_of text.now augmentation.now }

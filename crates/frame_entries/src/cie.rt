@@ -62,7 +62,8 @@ fn is_version(version: u8) -> bool
     version == 1 || version == 3 || version == 4
 }
 
-/// The fields of a CIE after all were read, or the reason against the encoding of pointers or the return address column.
+/// The fields of a CIE once all are read, or the reason why its encoding of pointers or its return
+/// address column is not accepted.
 #[tactic(auto, unfolding(crate::specs::Cies::cie_fields))]
 fn judge<'a>(
     augmented: bool,

@@ -13,8 +13,8 @@ use std::alloc::Global;
 use std::marker::Model;
 use sym_edges::{Part, Sect, Stop};
 
-/// Entries of one section in the order of their places. The list has the CIEs, each read once, and for each FDE where it is, in 24 bytes;
-/// [`EntryList::entry`] reads the FDE.
+/// Entries of one section in the order of their places. The list has the CIEs, each read once, and
+/// for each FDE 24 bytes that say where it is; [`EntryList::entry`] reads the FDE.
 #[derive(Debug, Drop)]
 pub struct EntryList<'a> {
     which: Sect,
@@ -71,8 +71,9 @@ fn keep_fdes(raws: &mut Vec<RawEntry<'_>>, which: Sect)
     raws.retain(|raw| !is_cie(which, raw));
 }
 
-/// The frame description entries of a section, in their order, or its first fault (DWARF 5, 6.4.1; LSB Core, ".eh_frame"). Each has its fields, or
-/// the first reason to leave it out. A section of more than 2^29 bytes, which no file that is dumped has, counts as out of memory.
+/// The frame description entries of a section, in their order, or its first fault (DWARF 5, 6.4.1;
+/// LSB Core, ".eh_frame"). Each has its fields, or the first reason to leave it out. A section of
+/// more than 2^29 bytes counts as out of memory; no file that is dumped has one.
 #[tactic(auto, using(crate::proofs::PlaceLemmas::cies_rise), unfolding(crate::specs::FrameEntries::frame_entries, crate::specs::FrameEntries::entries_of))]
 pub fn entries<'a>(
     alloc: Global,

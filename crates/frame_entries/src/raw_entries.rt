@@ -43,7 +43,7 @@ impl<'a> Model for RawEntry<'a> {
     ghost invariant = { λ r. id_width r.wide ≤ length r.bytes.now };
 }
 
-/// How many bytes a length has, in the 64-bit format with the ffffffff before it.
+/// How many bytes a length has; in the 64-bit format this includes the ffffffff before it.
 #[inline]
 fn length_width(wide: bool) -> u32
     ensures { result ≡ length_width wide }
@@ -97,7 +97,7 @@ fn front_id(bytes: &[u8], wide: bool) -> u64
 }
 
 impl<'a> RawEntry<'a> {
-    /// The place of its first byte.
+    /// The place of the entry's first byte.
     #[inline]
     pub fn at(&self) -> u32
         ensures { result ≡ self.now.at }
@@ -105,7 +105,7 @@ impl<'a> RawEntry<'a> {
         self.at
     }
 
-    /// Whether it has the 64-bit format.
+    /// Whether the entry has the 64-bit format.
     #[inline]
     pub fn wide(&self) -> bool
         ensures { result ≡ self.now.wide }
@@ -120,7 +120,7 @@ impl<'a> RawEntry<'a> {
         front_id(self.bytes, self.wide)
     }
 
-    /// The place of its id.
+    /// The place of the entry's id.
     #[inline]
     pub fn id_at(&self) -> u64
         ensures { result ≡ self.now.id_at }
@@ -128,7 +128,7 @@ impl<'a> RawEntry<'a> {
         u64::from(self.at) + u64::from(length_width(self.wide))
     }
 
-    /// The place of its body.
+    /// The place of the entry's body.
     #[inline]
     pub fn body_at(&self) -> u64
         ensures { result ≡ self.now.body_at }
@@ -152,7 +152,7 @@ pub enum Mark<'a> {
     Listed(RawEntry<'a>),
 }
 
-/// A cursor over all bytes.
+/// A cursor that has all bytes of the section ahead.
 #[inline]
 pub fn cursor_over(bytes: &[u8]) -> Cursor<'_>
     ensures { result ≡ from_start bytes.now }
@@ -254,8 +254,8 @@ fn read_mark<'a>(cursor: &mut Cursor<'a>, which: Sect) -> Result<Mark<'a>, Frame
     read_behind(cursor, which, at, count)
 }
 
-/// The entries of a section, or its first fault. A section of more than 2^29 bytes, which no file that is dumped has, counts as out of memory: places
-/// are stored in four bytes.
+/// The entries of a section, or its first fault. Places are stored in four bytes, so a section of
+/// more than 2^29 bytes counts as out of memory; no file that is dumped has one.
 #[tactic(auto, using(crate::proofs::ListingLemmas::listing_begins, crate::proofs::ListingLemmas::listing_at_end, crate::proofs::ListingLemmas::listing_ended, crate::proofs::ListingLemmas::listing_refused, crate::proofs::ListingLemmas::listing_passed, crate::proofs::ListingLemmas::listing_more, crate::proofs::ListingLemmas::listing_out_of_turns, crate::proofs::PlaceLemmas::mark_ends), unfolding(crate::specs::Listing::listed_at))]
 pub fn read_listing<'a>(
     alloc: Global,

@@ -1,4 +1,5 @@
--- An entry lacks a rule for the CFA where one of its rows does; for the lemmas of EntryLemmas.
+-- An entry lacks a rule for the CFA if and only if one of its rows does. The lemmas are for those
+-- of EntryLemmas.
 use Rattle.std.proofs.Common.{◌≡◌, ◌⊎◌, inl, inr, ℕ, zero, suc, ◌+◌, ◌<◌, ◌≤◌, ◌||◌, not, cond, Bool, true, false, List, [], ◌∷◌, nat_le, Option, Some, None, refl, sym, ◌∙◌, ap, arith}
 use Rattle.std.proofs.lemmas.Bool.{cases_lt, not-false, not-true, or_parts, or_right}
 use Rattle.std.specs.List.{list_any, range_with_len}
@@ -11,17 +12,17 @@ use Rattle.frame_rows.specs.Rows.{last_at, Ascending, AreRows, HasCfa, row_at, l
 use Rattle.frame_rows.proofs.TestLemmas.{elim_bool}
 use Rattle.frame_rows.proofs.RowLemmas.{none_said, above_said, here_said, later_said, said_by}
 
--- the row has no rule for the CFA
+-- The row has no rule for the CFA.
 lacks : RowAt → Bool
 lacks r = not (has_cfa r.row)
 
--- the last row at an address, by those after the first
+-- The last row at or below an address, given the answer for the rows after the first.
 or_said : (later : Option Row) (here : Bool) (mine row : Row) → option_or later (cond here (Some mine) None) ≡ Some row → has_cfa mine ≡ true → (later ≡ Some row → has_cfa row ≡ true) → has_cfa row ≡ true
 or_said (Some other) here mine row said have rest = rest said
 or_said None true mine row said have rest = let same : mine ≡ row = cc in ap has_cfa (sym same) ∙ have
 or_said None false mine row said have rest = cc
 
--- a row that is said is one of the list
+-- If every row has a rule for the CFA, so has the row that applies at an address.
 said_have : (rows : List RowAt) (a : ℕ) (row : Row) → list_any (λ r. not (has_cfa r.row)) rows ≡ false → last_at rows a ≡ Some row → has_cfa row ≡ true
 said_have [] a row none said = let no : ◌≡◌ {A = Option Row} None (Some row) = sym (none_said a) ∙ said in cc
 said_have (r ∷ rows) a row none said =
@@ -29,13 +30,13 @@ said_have (r ∷ rows) a row none said =
     or_said (last_at rows a) (nat_le r.address a) r.row row (sym (said_by r rows a) ∙ said) (not-false (has_cfa r.row) parts.0)
     (λ later. said_have rows a row parts.1 later)
 
--- below the first row nothing is said
+-- No row applies below the first one.
 below_none : (low end : ℕ) (rows : List RowAt) (a : ℕ) → Ascending low end rows → a < low → last_at rows a ≡ None
 below_none low end [] a up below = none_said a
 below_none low end (r ∷ rows) a up below =
     above_said r rows a (omega (arith, up.0)) (below_none (r.address + 1) end rows a up.2 (omega (arith, up.0)))
 
--- a row without a rule for the CFA is said at its own address
+-- A row without a rule for the CFA applies at its own address.
 lacking : (low end : ℕ) (rows : List RowAt) → Ascending low end rows → list_any (λ r. not (has_cfa r.row)) rows ≡ true → (a : ℕ) × (row : Row) × (low ≤ a) × (a < end) × (last_at rows a ≡ Some row) × (has_cfa row ≡ false)
 lacking low end [] up some = cc
 lacking low end (r ∷ rows) up some =
@@ -62,7 +63,7 @@ some_in f start zero a low high is = absurd (omega arith)
 some_in f start (suc size) a low high is =
     some_by f start size a is low (λ up. some_in f (start + 1) size a up (omega arith) is) (cases_lt start a)
 
--- no row lacks a rule for the CFA: no address does
+-- If every row has a rule for the CFA, every address has one.
 pub none_lacks : (e : FdeFields) (rows : List RowAt) → AreRows e rows → list_any (λ r. not (has_cfa r.row)) rows ≡ false → HasCfa e
 none_lacks e rows are none = record { everywhere = λ a low high. said_have rows a (row_at e a) none (are.each a low high) }
 
@@ -78,7 +79,7 @@ some_lacks e rows are some =
     let row : row_at e found.0 ≡ found.1 = cc in
     some_in (row_at e) e.start e.size found.0 found.2 found.3 (ap has_cfa row ∙ found.5)
 
--- an entry none of whose addresses lacks one
+-- If no address of a range lacks a rule for the CFA, a given address has one.
 cfa_there : (f : ℕ → Row) (start size a : ℕ) → list_any (λ b. not (has_cfa (f b))) (range_with_len start size) ≡ false → start ≤ a → a < start + size → has_cfa (f a) ≡ true
 cfa_there f start zero a none low high = absurd (omega arith)
 cfa_there f start (suc size) a none low high =

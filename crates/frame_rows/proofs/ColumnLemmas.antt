@@ -1,4 +1,4 @@
--- The columns that instructions leave as they are; for `run_to_next_row`.
+-- Which columns instructions leave unchanged, for `run_to_next_row`.
 use Rattle.std.proofs.Common.{◌≡◌, ◌≢◌, ℕ, ◌+◌, min, max, get_or, set, refl, ap, sym, ◌∙◌, arith, subst, inl, inr, get_or-set_other}
 use Rattle.std.proofs.lemmas.Bool.{cases_lt, lt-ltb, le-ltb}
 use Rattle.frame_rows.specs.declared.row.Rule.{Rule}
@@ -12,14 +12,14 @@ use Rattle.frame_rows.specs.Steps.{Effect, MovesTo, MovesBy, DefinesCfa, Defines
 use Rattle.frame_rows.specs.Columns.{StayOutside}
 use Rattle.frame_rows.specs.internal.Touched.{no_columns, one_column, touched}
 
--- rows with the same rules
+-- Two rows with the same rules.
 alike : (columns : Columns) (before after : Row) → before.rules ≡ after.rules → StayOutside columns before after
 alike columns before after same = record {
   below = λ k low. ap (λ rules. get_or rules k rule.Rest) same;
   above = λ k past low. ap (λ rules. get_or rules k rule.Rest) same;
 }
 
--- another rule for a column
+-- A row in which one column gets a new rule.
 one_by : (column : ℕ) (new : Rule) (row : Row) → StayOutside (record { first = column; end = column + 1 }) row (record { cfa = row.cfa; rules = set row.rules column new })
 one_by column new row = record {
   below = λ k low. (let other : k ≢ column = omega arith in sym (get_or-set_other row.rules column k new rule.Rest other));
@@ -51,7 +51,7 @@ touched_stay : (s : Context) (i : Instruction) (m : Machine) → StayOutside (to
 unfolding stepped
 touched_stay s i m = effect_stays (effect s i) m
 
--- the columns of two changes, one after the other
+-- Two changes, one after the other.
 stay_both : (first second : Columns) (a b c : Row) → StayOutside first a b → StayOutside second b c → StayOutside (record { first = min first.first second.first; end = max first.end second.end }) a c
 stay_both first second a b c one two = record {
   below = λ k low. one.below k (omega arith) ∙ two.below k (omega arith);
@@ -65,6 +65,6 @@ stay_on begin m n s i columns more other so which is both =
     let here : StayOutside (record { first = min columns.first (touched (effect s i)).first; end = max columns.end (touched (effect s i)).end }) begin n.row = subst Q (sym (ap (λ (k : Machine). k.row) is)) (stay_both columns (touched (effect s i)) begin m.row (stepped s i m).row so (touched_stay s i m)) in
     subst P (sym (both ∙ ap (λ (c : Columns). (let d : Columns = record { first = min columns.first c.first; end = max columns.end c.end } in d)) which)) here
 
--- no column yet
+-- No column has changed.
 pub none_touched : (columns : Columns) (row : Row) → StayOutside columns row row
 none_touched columns row = alike columns row row refl

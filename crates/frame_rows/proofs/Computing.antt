@@ -1,4 +1,5 @@
--- What a proof unfolds to compute the definitions of frame_rows, and those under them, where the input is written out.
+-- The definitions of frame_rows, and those below them, that a proof unfolds to compute a result
+-- from given bytes.
 use Rattle.std.specs.Prelude.{⊤}
 use Rattle.std.specs.Int.{int_wrap}
 use Rattle.code_table.proofs.Computing.{code_table_computes}

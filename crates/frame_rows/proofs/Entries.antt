@@ -1,4 +1,4 @@
--- Entries and rows for worked rows.
+-- Entries and rows for the worked examples.
 use Rattle.std.proofs.Common.{ℕ, ◌-◌, ℤ, negsuc, true, false, List, [], ◌∷◌, map, replicate, Option, None, Some, Result, Ok, Err}
 use Prim.Native.String.{String}
 use Rattle.std.specs.Prelude.{⊤, slice_set}
@@ -16,7 +16,7 @@ use Rattle.frame_rows.proofs.Computing.{frame_rows_computes}
 abbrev pub minus : ℕ → ℤ
 minus n = negsuc (n - 1)
 
--- a row with a CFA rule, and rules for some columns
+-- A row with a CFA rule, and with rules for some columns.
 unfoldable pub put : List (ℕ × Rule) → List Rule
 put [] = replicate 17 rule.Rest
 put (given ∷ rules) = slice_set (put rules) given.0 given.1
@@ -25,7 +25,8 @@ unfoldable pub row : ℕ → ℤ → List (ℕ × Rule) → Row
 unfolding put
 row register offset rules = record { cfa = Some (cfa.Base register offset); rules = put rules }
 
--- a row with a CFA rule of an expression; and where an expression stands: in the entry's own instructions, and in those of its CIE
+-- A row whose CFA rule is an expression, and the place of an expression in the entry's own
+-- instructions or in those of its CIE.
 unfoldable pub row_by : Place → List (ℕ × Rule) → Row
 unfolding put
 row_by place rules = record { cfa = Some (cfa.Expr place); rules = put rules }
@@ -36,8 +37,8 @@ in_own start len = record { own = true; start = start; len = len }
 abbrev pub in_cie : ℕ → ℕ → Place
 in_cie start len = record { own = false; start = start; len = len }
 
--- an entry with data alignment factor -8, whose pointers have four bytes and are relative to their place; its own instructions
--- lie at 2029
+-- An entry with data alignment factor -8, whose pointers have four bytes and are relative to their
+-- place. Its own instructions are at address 2029.
 unfoldable pub factored : ℕ → ℕ → ℕ → String → String → FdeFields
 unfolding hex
 factored factor start size initial own = record {
@@ -55,14 +56,15 @@ factored factor start size initial own = record {
 abbrev pub entry : ℕ → ℕ → String → String → FdeFields
 entry start size initial own = factored 1 start size initial own
 
--- an entry of 1000 after initial instructions as at a call: the CFA is rsp + 8, and the return address lies at the CFA - 8
+-- An entry at 1000 whose initial instructions give the state at a call: the CFA is rsp + 8, and the
+-- return address is at the CFA - 8.
 abbrev pub called : ℕ → String → FdeFields
 called size own = entry 0x1000 size "0c0708 9001 0000" own
 
 abbrev pub saved_return : ℕ × Rule
 saved_return = (16, rule.Offset (minus 8))
 
--- the rows of an entry, or the reason for which it has none
+-- The rows of an entry, or the reason for which it has none.
 abbrev pub unless_fault : Option Reason → List (ℕ × Row) → Result (List (ℕ × Row)) Reason
 unless_fault None found = Ok found
 unless_fault (Some why) found = Err why

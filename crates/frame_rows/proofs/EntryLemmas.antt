@@ -1,4 +1,5 @@
--- The rows of an entry, from the states of its two runs of instructions; for `begin`, `check_rows_behind`, `new`, `rows_are_sound`.
+-- The rows of an entry, from the states after its CIE's and its own instructions. The lemmas are
+-- for `begin`, `check_rows_behind`, `new` and `rows_are_sound`.
 use Rattle.std.proofs.Common.{◌≡◌, ℕ, not, Bool, true, false, List, Option, Some, None, Err, refl, sym, ◌∙◌, ap}
 use Rattle.std.specs.List.{list_any}
 use Rattle.sym_edges.specs.Outside.{MatchStop}
@@ -16,7 +17,7 @@ use Rattle.frame_rows.proofs.TestLemmas.{neither}
 use Rattle.frame_rows.proofs.CfaLemmas.{none_lacks, some_lacks, has_not_lacks, not_lacks_has}
 use Rattle.frame_rows.proofs.SoundLemmas.{entry_sound}
 
--- what is known once both runs are carried out
+-- What is known once all instructions of the CIE and of the entry are executed.
 pub record Walked (e : FdeFields) (rows : List RowAt) : Type 0 where
   pub cie : first_fault (cie_context e) (cie_items e) (cie_begin e) ≡ None
   pub own : first_fault (own_context e) (own_items e) (own_begin e) ≡ None
@@ -32,19 +33,19 @@ walked_by e rows good are =
     let both = neither (first_fault (cie_context e) (cie_items e) (cie_begin e)) (first_fault (own_context e) (own_items e) (own_begin e)) good in
     record { cie = both.0; own = both.1; are = are }
 
--- each row has a rule for the CFA
+-- Each row has a rule for the CFA.
 pub none_refused : (e : FdeFields) (rows : List RowAt) (b : _) → Walked e rows → b ≡ false → b ≡ list_any (λ r. not (has_cfa r.row)) rows → rows_fault e ≡ None
 unfolding rows_fault
 none_refused e rows b w none is =
     ap (λ o. option_or o (unless (not (lacks_cfa e)) reason.Cfa)) (fine e rows w) ∙ ap (λ t. unless (not t) reason.Cfa) (has_not_lacks e (none_lacks e rows w.are (sym is ∙ none)))
 
--- some row has none
+-- Some row has no rule for the CFA.
 pub some_refused : (e : FdeFields) (rows : List RowAt) (b : _) → Walked e rows → b ≡ true → b ≡ list_any (λ r. not (has_cfa r.row)) rows → rows_fault e ≡ Some reason.Cfa
 unfolding rows_fault
 some_refused e rows b w some is =
     ap (λ o. option_or o (unless (not (lacks_cfa e)) reason.Cfa)) (fine e rows w) ∙ ap (λ t. unless (not t) reason.Cfa) (some_lacks e rows w.are (sym is ∙ some))
 
--- an entry that has rows
+-- An entry that has rows lacks no rule for the CFA.
 lacks_none : (b : Bool) → unless (not b) reason.Cfa ≡ None → b ≡ false
 lacks_none true none = cc
 lacks_none false none = refl
@@ -60,7 +61,7 @@ rows_have e none = not_lacks_has e (lacks_none (lacks_cfa e) (neither (instructi
 pub rows_sound : (e : FdeFields) (a : ℕ) → rows_fault e ≡ None → IsSound e (row_at e a)
 rows_sound e a none = entry_sound e a (rows_good e none)
 
--- an instruction of the CIE, or of the entry, is bad
+-- An instruction of the CIE, or of the entry, is bad.
 pub cie_bad : (e : FdeFields) (why : Reason) → first_fault (cie_context e) (cie_items e) (cie_begin e) ≡ Some why → rows_fault e ≡ Some why
 unfolding rows_fault instruction_fault
 cie_bad e why bad = ap (λ o. option_or (option_or o (first_fault (own_context e) (own_items e) (own_begin e))) (unless (not (lacks_cfa e)) reason.Cfa)) bad
@@ -74,7 +75,7 @@ unfolding rows_fault instruction_fault
 own_bad e why cie bad =
     ap (λ o. option_or (option_or o (first_fault (own_context e) (own_items e) (own_begin e))) (unless (not (lacks_cfa e)) reason.Cfa)) cie ∙ ap (λ o. option_or o (unless (not (lacks_cfa e)) reason.Cfa)) bad
 
--- a pass over its rows stops
+-- A pass over the entry's rows ends without an answer.
 pub pass_stopped : (A B : Type 0) (stop : Stop Reason) (e : FdeFields) (fault : Option Reason) → fault ≡ instruction_fault e → MatchStop {A = A} {F = Reason} (Err stop) (λ _. fault ≡ None) (λ why. fault ≡ Some why) (Unit {0}) → MatchStop {A = B} {F = Reason} (Err stop) (λ _. rows_fault e ≡ None) (λ why. rows_fault e ≡ Some why) (Unit {0})
 pass_stopped A B (Fault why) e fault is bad = bad_instruction e why (sym is ∙ bad)
 pass_stopped A B NoMemory e fault is bad = tt

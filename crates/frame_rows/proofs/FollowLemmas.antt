@@ -1,4 +1,5 @@
--- The list of instructions does not depend on how many turns are allowed: each instruction passes a byte at the least; for `instructions_follow`.
+-- The list of instructions does not depend on the bound on their number, since each instruction has
+-- at least one byte. The lemmas are for `instructions_follow`.
 use Rattle.std.proofs.Common.{◌≡◌, ◌≤◌, ◌+◌, ℕ, zero, suc, nat_eq, cond, List, [], ◌∷◌, length, Result, Ok, Err, refl, sym, ap, ◌∙◌, arith}
 use Rattle.std.proofs.lemmas.Bool.{cond-true, eq-eqb}
 use Rattle.sym_edges.specs.declared.reason.Reason.{Reason}
@@ -16,7 +17,7 @@ use Rattle.frame_rows.specs.declared.instruction.Block.{Block}
 use Rattle.frame_rows.specs.declared.instruction.Instruction.{Instruction}
 use Rattle.frame_rows.specs.Instructions.{Item, or_instruction, block_at, Operand, Ubyte, Uhalf, Uword, Uleb, Sleb, Exprloc, operand_at, Form, Alone, One, Two, Pointer, Unknown, one, form_at, form_of, instruction_at, onto_later, listed_in, listed_at, listed_by}
 
--- how far a reading goes
+-- How many bytes a reading takes at least.
 any : {A E : Type 0} (reading : Result (A × Ahead) E) (least : ℕ) (c : Ahead) → Passes least c reading → Passes 0 c reading
 any (Ok x) least c goes = (omega (arith, goes.0), goes.1)
 any (Err fault) least c goes = tt
@@ -85,7 +86,7 @@ instruction_passes encoding base c =
     passes_then (or_instruction (fixed_at 1 c)) (λ opcode. form_at encoding base (form_of opcode.0) opcode.1) 1 0 c
     (or_passes (fixed_at 1 c) 1 c (fixed_passes 1 c)) (λ opcode. form_passes encoding base (form_of opcode.0) opcode.1)
 
--- the list of what is ahead, whatever number of turns is allowed
+-- Two bounds that allow enough instructions give the same list.
 onto_same : (reading : Result (Instruction × Ahead) Reason) (c : Ahead) (f g : Ahead → List Item) → Passes 1 c reading → ((d : Ahead) → length d.bytes + 1 ≤ length c.bytes → f d ≡ g d) → onto_later reading f ≡ onto_later reading g
 onto_same (Ok x) c f g goes same = ap (λ items. Ok x.0 ∷ items) (same x.1 goes.0)
 onto_same (Err why) c f g goes same = refl

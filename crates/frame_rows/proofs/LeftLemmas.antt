@@ -1,4 +1,6 @@
--- What a CIE leaves depends on the CIE alone: no location instruction may stand there, so the address does not count; for `begin`, `entries_of_one_cie_begin_alike`, `into_begun`, `leave`.
+-- The state that a CIE leaves depends on the CIE alone. No location instruction is allowed in a
+-- CIE, so the FDE's address does not matter. The lemmas are for `begin`,
+-- `entries_of_one_cie_begin_alike`, `into_begun` and `leave`.
 use Rattle.std.proofs.Common.{◌≡◌, ℕ, ℤ, List, [], ◌∷◌, Option, Some, None, Result, Ok, Err, refl, sym, ◌∙◌, ap}
 use Rattle.std.specs.Option.{option_or}
 use Rattle.sym_edges.specs.declared.reason.Reason.{Reason}
@@ -17,7 +19,7 @@ use Rattle.frame_rows.specs.Steps.{Effect, MovesTo, MovesBy, DefinesCfa, Defines
 use Rattle.frame_rows.specs.Rows.{item_stepped, item_fault, all_stepped, first_fault, empty_row, cie_context, cie_items, cie_begin, cie_end, left_context, own_begin}
 use Rattle.frame_rows.specs.CieLeft.{left_unless, cie_left}
 
--- a state, and the state after an instruction, whose location nothing asks for
+-- A state, and the state after an instruction that does not depend on the location.
 abbrev state : ℕ → Row → List Row → Machine
 state address row stack = record { address = address; row = row; stack = stack }
 
@@ -64,7 +66,7 @@ unfolding step_fault
 fault_apart code factor run (Err why) a b row stack = refl
 fault_apart code factor run (Ok i) a b row stack = effect_fault_apart code factor run (effect (in_cie code factor run) i) a b row stack
 
--- all instructions, from two addresses
+-- The results of all instructions, from two different addresses.
 faults_apart : (code : ℕ) (factor : ℤ) (run : List ℕ) (items : List Item) (a b : ℕ) (row : Row) (stack : List Row) → first_fault (in_cie code factor run) items (state a row stack) ≡ first_fault (in_cie code factor run) items (state b row stack)
 unfolding first_fault
 faults_apart code factor run [] a b row stack = refl
@@ -92,7 +94,7 @@ stacks_apart s (i ∷ items) a b row stack =
     ∙ stacks_apart s items (item_stepped s i (state a row stack)).address (item_stepped s i (state b row stack)).address (row_behind s i row stack) (stack_behind s i row stack)
     ∙ sym (ap (λ m. (all_stepped s items m).stack) (step_apart s i b row stack))
 
--- what is left, by the fields of a CIE
+-- The state that is left, given the fields of a CIE.
 abbrev left_with : ℕ → ℤ → Option Reason → Row → List Row → Result Left Reason
 left_with code factor why row stack =
     left_unless why (record { context = record { code_align = code; data_align = factor; initial = Some row }; stack = stack })
@@ -115,7 +117,7 @@ left_by_fields : (e : FdeFields) → cie_left e ≡ left_from e.code_align e.dat
 unfolding cie_left cie_context cie_items cie_begin cie_end left_context
 left_by_fields e = refl
 
--- entries of one CIE begin alike
+-- For entries of the same CIE, the same state is left.
 pub one_left : (e f : FdeFields) → HaveOneCie e f → cie_left e ≡ cie_left f
 one_left e f one =
     left_by_fields e
@@ -126,7 +128,7 @@ one_left e f one =
     ∙ ap (λ bytes. left_from f.code_align f.data_align bytes (instructions f.encoding 0 bytes) f.start) one.initial_instructions
     ∙ sym (left_by_fields f)
 
--- what is left is known by its reason
+-- What is known of the state that an entry's CIE left.
 pub record IsLeft (e : FdeFields) (left : Left) : Type 0 where
   pub fault : first_fault (cie_context e) (cie_items e) (cie_begin e) ≡ None
   pub context : left.context ≡ left_context e
@@ -169,7 +171,7 @@ left_bad e why is = bad_part (first_fault (cie_context e) (cie_items e) (cie_beg
 some_row : (a b : Row) → ◌≡◌ {A = Option Row} (Some a) (Some b) → a ≡ b
 some_row a b is = ap (row_or a) is
 
--- the row is after the instructions of the CIE
+-- The row is that after the instructions of the CIE.
 row_left : (e : FdeFields) (left : Left) (o : Option Row) (row : Row) → IsLeft e left → o ≡ left.context.initial → o ≡ Some row → row ≡ (cie_end e).row
 unfolding left_context
 row_left e left o row is in_context there = some_row row (cie_end e).row (sym there ∙ in_context ∙ ap (λ (s : CieContext). s.initial) is.context)
@@ -180,13 +182,13 @@ no_row_left e left o is in_context none =
     let bad : ◌≡◌ {A = Option Row} None (Some (cie_end e).row) = sym none ∙ in_context ∙ ap (λ (s : CieContext). s.initial) is.context in
     cc
 
--- an entry begins with what is left
+-- An entry's own instructions begin with the state that was left.
 pub begun : (e : FdeFields) (left : Left) (m : Machine) (address : ℕ) (o : Option Row) (row : Row) (stack : List Row) → IsLeft e left → m ≡ state address row stack → address ≡ e.start → o ≡ left.context.initial → o ≡ Some row → stack ≡ left.stack → m ≡ own_begin e
 unfolding own_begin
 begun e left m address o row stack is made at in_context there stack_is =
     made ∙ ap (λ a. state a row stack) at ∙ ap (λ r. state e.start r stack) (row_left e left o row is in_context there) ∙ ap (λ k. state e.start (cie_end e).row k) (stack_is ∙ is.stack)
 
--- what is left after a CIE that was carried out
+-- The state that is left if all instructions of the CIE were executed.
 pub left_is : (e : FdeFields) (s : CieContext) (m : Machine) (row : Row) (stack : List Row) → first_fault (cie_context e) (cie_items e) (cie_begin e) ≡ None → m ≡ cie_end e → row ≡ m.row → stack ≡ m.stack → s ≡ record { code_align = e.code_align; data_align = e.data_align; initial = Some row } → cie_left e ≡ Ok (record { context = s; stack = stack })
 unfolding cie_left left_context
 left_is e s m row stack good is row_is stack_is context_is =
@@ -197,7 +199,7 @@ left_is e s m row stack good is row_is stack_is context_is =
     ∙ ap (λ k. left_with e.code_align e.data_align None (cie_end e).row k) stack_of
     ∙ ap (λ o. left_with e.code_align e.data_align o (cie_end e).row (cie_end e).stack) (sym good))
 
--- or was refused
+-- An instruction of the CIE was refused.
 pub refused_left : (A B : Type 0) (stop : Stop Reason) (e : FdeFields) (P : B → Type 0) → MatchStop {A = A} {F = Reason} (Err stop) (λ _. first_fault (cie_context e) (cie_items e) (cie_begin e) ≡ None) (λ why. first_fault (cie_context e) (cie_items e) (cie_begin e) ≡ Some why) (Unit {0}) → MatchStop {A = B} {F = Reason} (Err stop) P (λ why. cie_left e ≡ Err why) (Unit {0})
 unfolding cie_left
 refused_left A B (Fault why) e P bad = ap (λ o. left_unless o (record { context = left_context e; stack = (cie_end e).stack })) bad

@@ -1,4 +1,5 @@
--- An instruction takes the operands that the table of opcodes gives it; for `operands_are_those_of_the_table`.
+-- An instruction takes the operands that the table of opcodes gives it. The lemmas are for
+-- `operands_are_those_of_the_table`.
 use Rattle.std.proofs.Common.{◌≡◌, ℕ, ℤ, List, [], ◌∷◌, map, length, Option, Some, None, IfSome, Result, Ok, Err, refl, ap, ◌∙◌, subst}
 use Rattle.std.specs.List.{All}
 use Rattle.std.proofs.lemmas.List.Elements.{All-nil, All-cons}
@@ -18,7 +19,7 @@ use Rattle.code_table.proofs.TakenLemmas.{signed_in}
 use Rattle.frame_rows.specs.declared.instruction.Block.{Block}
 use Rattle.frame_rows.specs.Instructions.{or_instruction, block_at, Operand, Ubyte, Uhalf, Uword, Uleb, Sleb, Exprloc, operand_at, Form, Alone, One, Two, Pointer, Unknown, form_at, extended_form, extended_at}
 
--- the layout of an operand, and those of a form
+-- The layout of an operand, and the layouts of a form's operands.
 abbrev layout : Operand → Kind
 layout Ubyte = kind.U8
 layout Uhalf = kind.U16
@@ -34,7 +35,7 @@ shape (Two first second make) = Some (record { first = layout first; second = la
 shape (Pointer make) = None
 shape Unknown = None
 
--- readings that leave the same ahead, and what follows them
+-- Readings that leave the same bytes ahead.
 number_left : (reading : Result (ℕ × Ahead) CursorFault) → left (or_instruction reading) ≡ left (number_in reading)
 number_left (Ok x) = refl
 number_left (Err fault) = refl
@@ -77,7 +78,8 @@ form_left encoding base (Two first second make) c =
 form_left encoding base (Pointer make) c = tt
 form_left encoding base Unknown c = tt
 
--- an opcode whose form has the layouts of its row takes the operands of the row
+-- If the form of an opcode has the layouts of the opcode's row, the instruction takes the operands
+-- of the row.
 row_taken : (encoding base : ℕ) (row : CodeRow) → shape (extended_form row.code) ≡ Some row.shape → TakesOperands (extended_at encoding base) row
 row_taken encoding base row is = λ c. subst (λ o. IfSome o (λ s. left (extended_at encoding base row.code c) ≡ left (shape_at s c))) is (form_left encoding base (extended_form row.code) c)
 

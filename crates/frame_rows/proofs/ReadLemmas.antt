@@ -1,4 +1,5 @@
--- Lists of instructions and the reasons and states that they lead to, for the loops of `run`; for `run_to_end`, `run_to_next_row`.
+-- Lists of instructions, and the reasons and states that result from them. The lemmas are for the
+-- loops `run_to_end` and `run_to_next_row`.
 use Rattle.std.proofs.Common.{◌≡◌, ◌≢◌, ℕ, ◌==◌, true, false, List, [], ◌∷◌, Some, None, refl, ap, arith}
 use Rattle.std.proofs.lemmas.Bool.Decides.{nat_tests}
 use Rattle.sym_edges.specs.declared.reason.Reason.{Reason}
@@ -8,11 +9,11 @@ use Rattle.frame_rows.specs.Machine.{Machine}
 use Rattle.std.specs.Option.{option_or}
 use Rattle.frame_rows.specs.Rows.{item_stepped, item_fault, all_stepped, first_fault}
 
--- a byte is left
+-- A byte is left.
 pub some_left : (n : ℕ) → false ≡ (n == 0) → n ≢ 0
 some_left n is = grind (arith, nat_tests)
 
--- no byte is left
+-- No byte is left.
 pub none_left : (n : ℕ) → true ≡ (n == 0) → n ≡ 0
 none_left n is = grind (arith, nat_tests)
 

@@ -1,4 +1,5 @@
--- The rows of one pass are those of the replay at each address; for the lemmas of CfaLemmas, SoundLemmas, StartLemmas, StepperLemmas.
+-- The rows that a single pass makes are those of the replay at each address. The lemmas are for
+-- those of CfaLemmas, SoundLemmas, StartLemmas and StepperLemmas.
 use Rattle.std.proofs.Common.{◌≡◌, ◌⊎◌, inl, inr, ℕ, ◌+◌, ◌<◌, ◌≤◌, ◌&&◌, cond, Bool, true, false, List, [], ◌∷◌, ◌++◌, map, Some, None, nat_lt, nat_le, refl, sym, ◌∙◌, ap, arith, subst}
 use Rattle.std.proofs.lemmas.Bool.{and_parts, cases_lt, le-leb, le-ltb, lt-leb, lt-ltb, ltb-true}
 use Rattle.frame_entries.specs.FdeFields.{FdeFields}
@@ -13,18 +14,18 @@ use Rattle.frame_rows.specs.internal.Walk.{row_here, ended_row, rows_from}
 use Rattle.frame_rows.proofs.TestLemmas.{elim_bool, neither}
 use Rattle.frame_rows.proofs.StepLemmas.{location, grows, keeps}
 
--- where no instruction is bad, the first is not, and none after it
+-- If no instruction is bad, the first one is not bad, and none after it.
 pub parted : (s : Context) (i : Item) (items : List Item) (m : Machine) → first_fault s (i ∷ items) m ≡ None → (item_fault s i m ≡ None) × (first_fault s items (item_stepped s i m) ≡ None)
 unfolding first_fault
 parted s i items m good = neither (item_fault s i m) (first_fault s items (item_stepped s i m)) good
 
--- the replay waits at a state that lies above the address
+-- The replay stops at a state whose location is above the address.
 waits : (s : Context) (items : List Item) (m : Machine) (a : ℕ) → a < m.address → replay s items m a ≡ m
 unfolding replay
 waits s [] m a above = refl
 waits s (i ∷ items) m a above = ap (λ t. cond t (replay s items (item_stepped s i m) a) m) (lt-leb m.address a above)
 
--- and goes on from one that does not
+-- The replay goes on from a state whose location is at or below the address.
 pub goes_on : (s : Context) (i : Item) (items : List Item) (m : Machine) (a : ℕ) → m.address ≤ a → replay s (i ∷ items) m a ≡ replay s items (item_stepped s i m) a
 unfolding replay
 goes_on s i items m a below = ap (λ t. cond t (replay s items (item_stepped s i m) a) m) (le-leb m.address a below)
@@ -33,7 +34,7 @@ pub none_said : (a : ℕ) → last_at [] a ≡ None
 unfolding last_at
 none_said a = refl
 
--- the last row of a list with one more in front
+-- The last row at or below an address, in a list with one more row in front.
 pub said_by : (r : RowAt) (rows : List RowAt) (a : ℕ) → last_at (r ∷ rows) a ≡ option_or (last_at rows a) (cond (nat_le r.address a) (Some r.row) None)
 unfolding last_at
 said_by r rows a = refl
@@ -53,7 +54,7 @@ and_no : {A : Type 0} (b : Bool) (x y : A) → cond (b && false) x y ≡ y
 and_no true x y = refl
 and_no false x y = refl
 
--- a row that ended stands in front, or none
+-- A row that ended is at the front of the list.
 pub ended_yes : (end : ℕ) (m : Machine) (next : ℕ) → m.address < next → m.address < end → ended_row end m next ≡ row_here m ∷ []
 ended_yes end m next up low = ap (λ t. cond t (row_here m ∷ []) []) (ap (λ t. t && nat_lt m.address end) (lt-ltb m.address next up) ∙ lt-ltb m.address end low)
 
@@ -75,7 +76,7 @@ pub from_more : (end : ℕ) (s : Context) (i : Item) (items : List Item) (m : Ma
 unfolding rows_from
 from_more end s i items m = refl
 
--- the rows from a state on say nothing below it
+-- None of the rows from a state on is at or below an address that is below the state's location.
 later : (end : ℕ) (s : Context) (items : List Item) (m : Machine) (a : ℕ) → first_fault s items m ≡ None → a < m.address → last_at (rows_from end s items m) a ≡ None
 later end s [] m a good above =
     last_row end s m (λ rows. last_at rows a ≡ None) (λ low. above_said (row_here m) [] a above (none_said a)) (none_said a)
@@ -86,13 +87,13 @@ later end s (i ∷ items) m a good above =
     ∙ ended_either end m (item_stepped s i m).address (λ rows. last_at (rows ++ rows_from end s items (item_stepped s i m)) a ≡ None)
     (λ up low. above_said (row_here m) (rows_from end s items (item_stepped s i m)) a above rest) rest
 
--- the last row says what its address says, where none is after it
+-- After the last instruction, the state's row applies up to the end.
 last_says : (end : ℕ) (s : Context) (m : Machine) (a : ℕ) → m.address ≤ a → a < end → last_at (rows_from end s [] m) a ≡ Some m.row
 unfolding rows_from
 last_says end s m a below inside =
     ap (λ t. last_at (cond t (row_here m ∷ []) []) a) (lt-ltb m.address end (omega arith)) ∙ here_said (row_here m) [] a below (none_said a)
 
--- what a state's rows say, by those after the next step
+-- The row that applies at an address, given those that the next step leaves.
 says_here : (end : ℕ) (m n : Machine) (rest : List RowAt) (a : ℕ) → m.address < n.address → m.address ≤ a → a < end → last_at rest a ≡ None → last_at (ended_row end m n.address ++ rest) a ≡ Some m.row
 says_here end m n rest a up below inside none =
     ap (λ rows. last_at (rows ++ rest) a) (ended_yes end m n.address up (omega arith)) ∙ here_said (row_here m) rest a below none
@@ -112,7 +113,7 @@ replay_none : (s : Context) (m : Machine) (a : ℕ) → replay s [] m a ≡ m
 unfolding replay
 replay_none s m a = refl
 
--- at each address from it on up to the end they say the replay's row
+-- At each address from the state's location up to the end, the row of the replay applies.
 pub says : (end : ℕ) (s : Context) (items : List Item) (m : Machine) (a : ℕ) → first_fault s items m ≡ None → m.address ≤ a → a < end → last_at (rows_from end s items m) a ≡ Some (replay s items m a).row
 says end s [] m a good below inside = last_says end s m a below inside ∙ ap Some (sym (ap (λ (k : Machine). k.row) (replay_none s m a)))
 says end s (i ∷ items) m a good below inside =
@@ -122,7 +123,7 @@ says end s (i ∷ items) m a good below inside =
     (λ reached. says end s items (item_stepped s i m) a parts.1 reached inside) (cases_lt a (item_stepped s i m).address)
     ∙ ap Some (sym (ap (λ (k : Machine). k.row) (goes_on s i items m a below)))
 
--- nothing stands from the end on
+-- There are no rows at the end of the range or above it.
 pub past : (end : ℕ) (s : Context) (items : List Item) (m : Machine) → first_fault s items m ≡ None → end ≤ m.address → rows_from end s items m ≡ []
 past end s [] m good over = last_row end s m (λ rows. end ≤ m.address → rows ≡ []) (λ low over. absurd (omega arith)) (λ over. refl) over
 past end s (i ∷ items) m good over =
@@ -152,7 +153,7 @@ moves_out s end i items at over =
     ap (λ t. cond (nat_lt at (next_location s i at) && t) (next_location s i at ∷ moves s end items (next_location s i at)) (moves s end items (next_location s i at))) (le-ltb (next_location s i at) end over)
     ∙ and_no (nat_lt at (next_location s i at)) (next_location s i at ∷ moves s end items (next_location s i at)) (moves s end items (next_location s i at))
 
--- nothing moves from the end on
+-- No row begins at the end of the range or above it.
 moves_past : (end : ℕ) (s : Context) (items : List Item) (m : Machine) → first_fault s items m ≡ None → end ≤ m.address → moves s end items m.address ≡ []
 moves_past end s [] m good over = moves_none s end m.address
 moves_past end s (i ∷ items) m good over =
@@ -161,7 +162,7 @@ moves_past end s (i ∷ items) m good over =
     moves_out s end i items m.address (omega (arith, grows s i m parts.0, next))
     ∙ ap (moves s end items) next ∙ moves_past end s items (item_stepped s i m) parts.1 (omega (arith, grows s i m parts.0))
 
--- where a state's rows stand, by those after the next step
+-- Where the rows from a state on begin, given where those after the next step begin.
 stands_by : (end : ℕ) (s : Context) (i : Item) (items : List Item) (m n : Machine) → m.address < end → m.address ≤ n.address → next_location s i m.address ≡ n.address → (end ≤ n.address → rows_from end s items n ≡ []) → (end ≤ n.address → moves s end items n.address ≡ []) → (n.address < end → map (λ r. r.address) (rows_from end s items n) ≡ n.address ∷ moves s end items n.address) → (m.address < n.address) ⊎ (n.address ≤ m.address) → (n.address < end) ⊎ (end ≤ n.address) → map (λ r. r.address) (ended_row end m n.address ++ rows_from end s items n) ≡ m.address ∷ moves s end (i ∷ items) m.address
 stands_by end s i items m n low up next over_rows over_moves rest (inl moved) (inl inside) =
     ap (λ rows. map (λ r. r.address) (rows ++ rows_from end s items n)) (ended_yes end m n.address moved low)
@@ -180,7 +181,7 @@ last_stands : (end : ℕ) (s : Context) (m : Machine) → m.address < end → ma
 unfolding rows_from
 last_stands end s m low = ap (λ t. map (λ r. r.address) (cond t (row_here m ∷ []) [])) (lt-ltb m.address end low)
 
--- the rows from a state on stand at its address, and where the location moves
+-- The rows from a state on begin at its location, and at each address to which the location moves.
 pub stands : (end : ℕ) (s : Context) (items : List Item) (m : Machine) → first_fault s items m ≡ None → m.address < end → map (λ r. r.address) (rows_from end s items m) ≡ m.address ∷ moves s end items m.address
 stands end s [] m good low =
     last_stands end s m low ∙ ap (λ l. m.address ∷ l) (sym (moves_none s end m.address))
@@ -193,7 +194,7 @@ stands end s (i ∷ items) m good low =
     (λ inside. stands end s items (item_stepped s i m) parts.1 inside)
     (cases_lt m.address (item_stepped s i m).address) (cases_lt (item_stepped s i m).address end)
 
--- and rise
+-- The addresses of the rows rise.
 lower : (low lower end : ℕ) (rows : List RowAt) → lower ≤ low → Ascending low end rows → Ascending lower end rows
 lower low lower' end [] less up = tt
 lower low lower' end (r ∷ rows) less up = (omega (arith, up.0), up.1, up.2)
@@ -208,7 +209,7 @@ ascends end s (i ∷ items) m good =
     (λ up low. (omega arith, low, lower (item_stepped s i m).address (m.address + 1) end (rows_from end s items (item_stepped s i m)) (omega arith) rest))
     (lower (item_stepped s i m).address m.address end (rows_from end s items (item_stepped s i m)) (grows s i m parts.0) rest))
 
--- the one pass over an entry's instructions gives its rows
+-- The single pass over an entry's instructions gives the entry's rows.
 pub are_rows : (e : FdeFields) → first_fault (own_context e) (own_items e) (own_begin e) ≡ None → 0 < e.size → AreRows e (rows_from (e.start + e.size) (own_context e) (own_items e) (own_begin e))
 unfolding stops row_at own_begin
 are_rows e good some = record {

@@ -1,4 +1,5 @@
--- The rows of an entry without a bad instruction are sound; for the lemmas of EntryLemmas.
+-- The rows of an entry without a bad instruction are sound. The lemmas are for those of
+-- EntryLemmas.
 use Rattle.std.proofs.Common.{◌≡◌, ℕ, ℤ, pos, negsuc, zero, suc, ◌-◌, ◌*◌, ◌%◌, ◌^◌, ◌<◌, ◌==◌, ◌||◌, not, cond, Bool, true, false, List, [], ◌∷◌, take, drop, set, get_or, replicate, nat_lt, nat_le, Option, Some, None, is_some, Ok, Err, refl, ap, sym, ◌∙◌, arith, rules}
 use Rattle.std.proofs.lemmas.Bool.{and_from, and_parts, le-ltb, lt-ltb, ltb-false, ltb-true}
 use Rattle.std.proofs.lemmas.Bool.Decides.{nat_tests}
@@ -27,7 +28,7 @@ use Rattle.frame_rows.proofs.TestLemmas.{elim_bool, neither}
 use Rattle.frame_rows.proofs.StepLemmas.{unless_none}
 use Rattle.frame_rows.proofs.RowLemmas.{parted}
 
--- each remembered row, and each row of a state and of what it is carried out with
+-- All rows in a list are sound; so are the row in a context, and all rows of a state.
 abbrev pub AllSound : FdeFields → List Row → Type 0
 AllSound e [] = Unit {0}
 AllSound e (row ∷ rows) = IsSound e row × AllSound e rows
@@ -40,12 +41,13 @@ pub record IsSoundState (e : FdeFields) (m : Machine) : Type 0 where
   pub row : IsSound e m.row
   pub stack : AllSound e m.stack
 
--- instructions are carried out with the row that the CIE left, and in the run of the entry's own or in that of its CIE's
+-- Instructions are executed with the row that the CIE left. Their run of bytes is the entry's own
+-- or that of its CIE.
 pub record IsOf (e : FdeFields) (s : Context) : Type 0 where
   pub initial : InitialSound e s.initial
   pub run : s.run ≡ cond (is_some s.initial) e.instructions e.initial_instructions
 
--- a rule is put into its column
+-- A column gets a new rule.
 put_column : (P : ℕ → Rule → Type 0) (rules : List Rule) (column : ℕ) (new d : Rule) → P column new → ((c : ℕ) → P c (get_or rules c d)) → (c : ℕ) → P c (get_or (set rules column new) c d)
 put_column P [] column new d here all c = all c
 put_column P (r ∷ rules) zero new d here all zero = here
@@ -60,7 +62,7 @@ put_sound e column new row here names =
     (λ is. record { cfa = names.cfa; columns = put_column (λ c r. is_sound_rule e c r ≡ true) row.rules column new rule.Rest (here (ltb-true column 17 is)) names.columns })
     (λ is. names)
 
--- what is read as an i64 is one
+-- A number that is cast to an i64 fits an i64.
 fits_cast : (n : ℕ) → fits_i64 (cast_signed w64 n) ≡ true
 fits_cast n =
     elim_bool (nat_lt n (2 ^ 63)) (λ t. nat_lt n (2 ^ 63) ≡ t → fits_i64 (cond t (pos n) (negsuc (2 ^ 64 - suc n))) ≡ true)
@@ -116,7 +118,7 @@ same_named column good low = (let other : not (column == 16) ≡ true = unless_n
 source_named : (column register : ℕ) → unless (nat_lt 16 column || nat_lt register 16) reason.Register ≡ None → column < 17 → nat_lt register 16 ≡ true
 source_named column register good low = (let either : (nat_lt 16 column || nat_lt register 16) ≡ true = unless_none _ _ good in grind (arith, nat_tests))
 
--- an expression that is carried out can be said: its bytes are those of the run
+-- Rule text can express an expression whose instruction is not refused.
 either_run : (own : Bool) (run : List ℕ) → cond own run run ≡ run
 either_run true run = refl
 either_run false run = refl
@@ -138,7 +140,7 @@ column_said : (e : FdeFields) (s : Context) (column : ℕ) (block : Block) → I
 column_said e s column block of good low =
     can_said e s true block of (sym (ap (λ t. t || can_say true s block) (le-ltb 16 column (omega arith))) ∙ unless_none (nat_lt 16 column || can_say true s block) reason.Expression good)
 
--- what an effect puts into a row is sound, unless there is a reason against it
+-- The rule that an effect puts into a row is sound, unless there is a reason against it.
 abbrev Puts : FdeFields → Effect → Type 0
 Puts e (DefinesCfa register offset) = fits_i64 offset ≡ true
 Puts e (DefinesCfaExpr place why) = why ≡ None → is_some (standing false (expr_bytes e place)) ≡ true
@@ -205,7 +207,7 @@ end_sound : (e : FdeFields) → first_fault (cie_context e) (cie_items e) (cie_b
 unfolding cie_end cie_context
 end_sound e good = all_sound e (cie_context e) (cie_items e) (cie_begin e) good (record { initial = tt; run = refl }) (begin_sound e)
 
--- each row of an entry without a bad instruction
+-- Each row of an entry without a bad instruction is sound.
 pub entry_sound : (e : FdeFields) (a : ℕ) → instruction_fault e ≡ None → IsSound e (row_at e a)
 unfolding instruction_fault row_at own_begin own_context left_context
 entry_sound e a good =

@@ -1,4 +1,5 @@
--- A stepper begins at the first row of an entry; for `begin`, `new`, `run_all`, `start`.
+-- A stepper begins at the first row of an entry. The lemmas are for `begin`, `new`, `run_all` and
+-- `start`.
 use Rattle.std.proofs.Common.{◌≡◌, ℕ, ◌+◌, ◌<◌, List, ◌∷◌, length, take, Option, None, Some, Err, sym, ◌∙◌, ap, arith, subst}
 use Rattle.std.specs.Option.{option_or}
 use Rattle.sym_edges.specs.declared.reason.Reason.{Reason}
@@ -20,7 +21,7 @@ use Rattle.frame_rows.proofs.TestLemmas.{neither}
 use Rattle.frame_rows.proofs.RowLemmas.{are_rows}
 use Rattle.frame_rows.proofs.EntryLemmas.{cie_bad, own_bad}
 
--- a cursor over the instructions of an entry
+-- A cursor over the instructions of an entry.
 pub all_ahead : (encoding base : ℕ) (bytes : List ℕ) (c : Ahead) → c ≡ record { bytes = take (length bytes) bytes; at = 0 } → listed_at encoding base c ≡ instructions encoding base bytes
 unfolding instructions
 all_ahead encoding base bytes c is = ap (listed_at encoding base) (is ∙ ap (λ b. (let a : Ahead = record { bytes = b; at = 0 } in a)) (take_all (length bytes) bytes (omega arith)))
@@ -35,7 +36,7 @@ both_good : (e : FdeFields) → instruction_fault e ≡ None → (first_fault (c
 unfolding instruction_fault
 both_good e good = neither (first_fault (cie_context e) (cie_items e) (cie_begin e)) (first_fault (own_context e) (own_items e) (own_begin e)) good
 
--- what the CIE left, with the entry's own instructions
+-- The context that the CIE left, with the entry's own instructions.
 pub own_is : (v e : FdeFields) (cie : CieContext) → v ≡ e → cie ≡ left_context e → with_run cie v.instructions ≡ own_context e
 unfolding own_context
 own_is v e cie view context = ap (λ (k : FdeFields). with_run cie k.instructions) view ∙ ap (λ k. with_run k e.instructions) context
@@ -45,7 +46,8 @@ own_whole v e s m c view context machine over =
     ap (λ l. first_fault s l m) (own_ahead v e c view over)
     ∙ ap (λ k. first_fault k (own_items e) m) context ∙ ap (first_fault (own_context e) (own_items e)) machine
 
--- the reason of the first bad instruction of the entry's own, after those up to the first row
+-- The reason against the first bad one of the entry's own instructions, after those up to the first
+-- row are executed.
 pub start_fault : (v e : FdeFields) (s held : Context) (m n : Machine) (c later : Ahead) → v ≡ e → s ≡ held → held ≡ own_context e → m ≡ own_begin e → c ≡ record { bytes = take (length v.instructions) v.instructions; at = 0 } →
     first_fault s (listed_at v.encoding v.instructions_address later) n ≡ first_fault s (listed_at v.encoding v.instructions_address c) m → first_fault held (listed_at v.encoding v.instructions_address later) n ≡ first_fault (own_context e) (own_items e) (own_begin e)
 start_fault v e s held m n c later view same context machine over kept =
@@ -71,24 +73,24 @@ start_rows v e s held m n c later end view same context machine over some settle
     ∙ ap (λ l. rows_from end s l m) (own_ahead v e c view over)
     ∙ ap (λ k. rows_from end k (own_items e) m) (same ∙ context) ∙ ap (rows_from end (own_context e) (own_items e)) machine
 
--- and has its rows ahead
+-- The rows of the entry are ahead.
 pub start_are : (v e : FdeFields) (rows : List RowAt) → instruction_fault e ≡ None → v ≡ e → rows ≡ rows_from (v.start + v.size) (own_context e) (own_items e) (own_begin e) → 0 < e.size → AreRows e rows
 start_are v e rows good view is some =
     let P : List RowAt → Type 0 = λ xs. AreRows e xs in
     subst P (sym (is ∙ ap (λ (k : FdeFields). rows_from (k.start + k.size) (own_context e) (own_items e) (own_begin e)) view)) (are_rows e (both_good e good).1 some)
 
--- nothing is wrong with the instructions of an entry that was looked at
+-- An entry that was inspected has no bad instruction.
 pub own_fine : (e : FdeFields) (fault : Option Reason) → instruction_fault e ≡ None → fault ≡ first_fault (own_context e) (own_items e) (own_begin e) → fault ≡ None
 own_fine e fault good is = is ∙ (both_good e good).1
 
--- where a stepper stands at the first row
+-- The position of a stepper at the first row.
 pub begins : (v e : FdeFields) (s : Standing) → first_fault (cie_context e) (cie_items e) (cie_begin e) ≡ None → v ≡ e → s.fault ≡ first_fault (own_context e) (own_items e) (own_begin e) → s.here ∷ s.later ≡ rows_from (v.start + v.size) (own_context e) (own_items e) (own_begin e) → 0 < e.size → Begins e s
 unfolding instruction_fault
 begins v e s cie view own rows some =
     let whole : s.fault ≡ instruction_fault e = own ∙ sym (ap (λ o. option_or o (first_fault (own_context e) (own_items e) (own_begin e))) cie) in
     record { fault = whole; rows = λ good. start_are v e (s.here ∷ s.later) (sym whole ∙ good) view rows some }
 
--- an entry that is refused at its first row, or for its CIE
+-- An entry that is refused at its first row, or because of its CIE.
 pub start_stopped : (A B : Type 0) (stop : Stop Reason) (e : FdeFields) (P : A → Type 0) (Q : B → Type 0) → first_fault (cie_context e) (cie_items e) (cie_begin e) ≡ None → MatchStop {A = A} {F = Reason} (Err stop) P (λ why. first_fault (own_context e) (own_items e) (own_begin e) ≡ Some why) (Unit {0}) → MatchStop {A = B} {F = Reason} (Err stop) Q (λ why. rows_fault e ≡ Some why) (Unit {0})
 start_stopped A B (Fault why) e P Q cie bad = own_bad e why cie bad
 start_stopped A B NoMemory e P Q cie bad = tt

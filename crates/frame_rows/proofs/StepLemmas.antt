@@ -1,4 +1,5 @@
--- What holds of every step, by what it does: the location never falls, and a step that moves leaves the row. For `run_to_next_row`.
+-- What holds of every step: the location never falls, and an instruction that moves the location
+-- does not change the row. The lemmas are for `run_to_next_row`.
 use Rattle.std.proofs.Common.{◌≡◌, ℕ, ◌+◌, ◌^◌, ◌<◌, ◌≤◌, ◌&&◌, Bool, true, false, None, is_some, nat_lt, nat_le, Ok, Err, refl, arith}
 use Rattle.std.proofs.lemmas.Bool.{and_parts, leb-true}
 use Rattle.sym_edges.specs.declared.reason.Reason.{Reason}
@@ -54,7 +55,7 @@ effect_keeps Remembers m moves = refl
 effect_keeps TakesBack m moves = absurd (omega arith)
 effect_keeps DoesNothing m moves = refl
 
--- the same of an instruction
+-- The location after an instruction.
 step_location : (s : Context) (i : Instruction) (m : Machine) → (stepped s i m).address ≡ next_location s (Ok i) m.address
 unfolding stepped
 step_location s i m = effect_location (effect s i) m
@@ -67,7 +68,7 @@ pub step_keeps : (s : Context) (i : Instruction) (m : Machine) → m.address < (
 unfolding stepped
 step_keeps s i m moves = effect_keeps (effect s i) m moves
 
--- and of one that may not have been read
+-- The location after an item, which may be an instruction that cannot be read.
 pub location : (s : Context) (i : Item) (m : Machine) → (item_stepped s i m).address ≡ next_location s i m.address
 location s (Ok i) m = step_location s i m
 location s (Err why) m = refl

@@ -1,4 +1,5 @@
--- The rows from where a stepper stands; for `finish`, `next`, `run_to_end`, `run_to_next_row`.
+-- The rows from the position of a stepper on. The lemmas are for `finish`, `next`, `run_to_end` and
+-- `run_to_next_row`.
 use Rattle.std.proofs.Common.{◌≡◌, ◌≢◌, ◌⊎◌, inl, inr, ℕ, ◌<◌, ◌≤◌, Bool, false, cond, List, [], ◌∷◌, ◌++◌, length, Option, None, Some, Result, Ok, Err, refl, sym, ◌∙◌, ap, arith, subst}
 use Rattle.std.proofs.lemmas.Bool.{cases_lt, eq-eqb, ne_eqb, le-ltb, lt-ltb}
 use Rattle.std.specs.Option.{option_or}
@@ -24,7 +25,7 @@ use Rattle.frame_rows.proofs.RowLemmas.{ended_yes, ended_no, from_more, past}
 use Rattle.frame_rows.proofs.ReadLemmas.{fault_none, fault_more, fault_here, stepped_none, stepped_more}
 use Rattle.frame_rows.proofs.FollowLemmas.{listed_is, instruction_passes}
 
--- the instructions ahead by the first of them
+-- The instructions ahead are the first of them and those after it.
 by_first : (encoding base : ℕ) (c : Ahead) → length c.bytes ≢ 0 → listed_at encoding base c ≡ onto_later (instruction_at encoding base c) (listed_at encoding base)
 unfolding listed_by
 by_first encoding base c some = listed_is encoding base c ∙ ap (λ t. cond t [] (onto_later (instruction_at encoding base c) (listed_at encoding base))) (ne_eqb (length c.bytes) 0 some)
@@ -39,14 +40,14 @@ ahead_none : (encoding base : ℕ) (c : Ahead) → length c.bytes ≡ 0 → list
 unfolding listed_by
 ahead_none encoding base c none = listed_is encoding base c ∙ ap (λ t. cond t [] (onto_later (instruction_at encoding base c) (listed_at encoding base))) (eq-eqb (length c.bytes) 0 none)
 
--- an instruction has a byte
+-- An instruction takes at least one byte.
 pub fewer_left : (encoding base : ℕ) (c later : Ahead) (i : Instruction) → Ok (i, later) ≡ instruction_at encoding base c → length later.bytes < length c.bytes
 fewer_left encoding base c later i read =
     let given : Result (Instruction × Ahead) Reason = Ok (i, later) in
     let goes : Passes 1 c given = subst (λ (r : Result (Instruction × Ahead) Reason). Passes 1 c r) (sym read) (instruction_passes encoding base c) in
     omega (arith, goes.0)
 
--- the rows past an address
+-- The rows above an address.
 past_some : (end : ℕ) (s : Context) (items : List Item) (m : Machine) (at : ℕ) → at < m.address → rows_past end s items m at ≡ rows_from end s items m
 unfolding rows_past
 past_some end s items m at up = ap (λ t. cond t (rows_from end s items m) []) (lt-ltb at m.address up)
@@ -55,7 +56,7 @@ past_none : (end : ℕ) (s : Context) (items : List Item) (m : Machine) (at : �
 unfolding rows_past
 past_none end s items m at stays = ap (λ t. cond t (rows_from end s items m) []) (le-ltb at m.address stays)
 
--- the next instruction is bad
+-- The next instruction is bad.
 pub unread_fault : (s : Context) (encoding base : ℕ) (c : Ahead) (m : Machine) (why : Reason) (whole : Option Reason) → length c.bytes ≢ 0 → Err why ≡ instruction_at encoding base c → first_fault s (listed_at encoding base c) m ≡ whole → whole ≡ Some why
 unread_fault s encoding base c m why whole some read so =
     sym so ∙ ap (λ l. first_fault s l m) (ahead_refused encoding base c why some read) ∙ fault_here s (Err why) [] m why refl
@@ -65,7 +66,7 @@ refused_fault A B (Fault why) s encoding base c later i m n P whole some read ba
     sym so ∙ ap (λ l. first_fault s l m) (ahead_more encoding base c later i some read) ∙ fault_here s (Ok i) (listed_at encoding base later) m why bad
 refused_fault A B NoMemory s encoding base c later i m n P whole some read bad so = tt
 
--- or it is not, and those after it decide
+-- The next instruction is not bad, so those after it decide.
 pub still : (s : Context) (encoding base : ℕ) (c later : Ahead) (i : Instruction) (m n : Machine) (whole : Option Reason) → length c.bytes ≢ 0 → Ok (i, later) ≡ instruction_at encoding base c → step_fault s i m ≡ None → n ≡ stepped s i m → first_fault s (listed_at encoding base c) m ≡ whole → first_fault s (listed_at encoding base later) n ≡ whole
 still s encoding base c later i m n whole some read fine is so =
     ap (first_fault s (listed_at encoding base later)) is ∙ sym (fault_more s (Ok i) (listed_at encoding base later) m fine)
@@ -76,14 +77,14 @@ state_still s encoding base c later i m n whole some read is so =
     ap (all_stepped s (listed_at encoding base later)) is ∙ sym (stepped_more s (Ok i) (listed_at encoding base later) m)
     ∙ sym (ap (λ l. all_stepped s l m) (ahead_more encoding base c later i some read)) ∙ so
 
--- or none is left
+-- No instruction is left.
 pub state_ended : (s : Context) (encoding base : ℕ) (c : Ahead) (m : Machine) → length c.bytes ≡ 0 → all_stepped s (listed_at encoding base c) m ≡ m
 state_ended s encoding base c m none = ap (λ l. all_stepped s l m) (ahead_none encoding base c none) ∙ stepped_none s m
 
 pub none_ahead : (s : Context) (encoding base : ℕ) (c : Ahead) (m : Machine) → length c.bytes ≡ 0 → first_fault s (listed_at encoding base c) m ≡ None
 none_ahead s encoding base c m none = ap (λ l. first_fault s l m) (ahead_none encoding base c none) ∙ fault_none s m
 
--- the rows by the next instruction
+-- The rows from a state on, given the next instruction.
 rows_next : (end : ℕ) (s : Context) (encoding base : ℕ) (c later : Ahead) (i : Instruction) (m n : Machine) → length c.bytes ≢ 0 → Ok (i, later) ≡ instruction_at encoding base c → n ≡ stepped s i m → rows_from end s (listed_at encoding base c) m ≡ ended_row end m n.address ++ rows_from end s (listed_at encoding base later) n
 rows_next end s encoding base c later i m n some read is =
     ap (λ l. rows_from end s l m) (ahead_more encoding base c later i some read) ∙ from_more end s (Ok i) (listed_at encoding base later) m
@@ -103,7 +104,7 @@ rows_stay end s encoding base c later i m n whole some read is stays so =
     sym (rows_next end s encoding base c later i m n some read is
     ∙ ap (λ l. l ++ rows_from end s (listed_at encoding base later) n) (ended_no end m n.address stays)) ∙ so
 
--- the location stays where it does not rise
+-- If the location does not rise, it stays.
 pub stays_there : (s : Context) (i : Instruction) (m n : Machine) (at : ℕ) → step_fault s i m ≡ None → n ≡ stepped s i m → m.address ≡ at → n.address ≤ at → n.address ≡ at
 stays_there s i m n at fine is here stays = omega (arith, step_grows s i m fine, ap (λ (k : Machine). k.address) is, here, stays)
 
@@ -120,11 +121,11 @@ rows_last end s encoding base at c m whole none here low so =
     ∙ ap (λ a. row_with a m.row ∷ []) here
     ∙ ap (λ l. row_with at m.row ∷ l) (sym (past_none end s (listed_at encoding base c) m at (omega (arith, here))))
 
--- no row is later, where the next lies at the end or above
+-- There is no later row if the location is at the end of the range or above it.
 later_over : (end : ℕ) (s : Context) (items : List Item) (m : Machine) (at : ℕ) → first_fault s items m ≡ None → at < m.address → end ≤ m.address → rows_past end s items m at ≡ []
 later_over end s items m at good up over = past_some end s items m at up ∙ past end s items m good over
 
--- where a stepper stands, by its parts
+-- The position of a stepper, made from its parts.
 abbrev pub standing : Bool → Option Reason → ℕ → ℕ → Context → List Item → Machine → Standing
 standing failed refused end at s items m = record {
   failed = failed;
@@ -138,7 +139,7 @@ standing failed refused end at s items m = record {
 ahead_fault : (refused : Option Reason) (fault : Option Reason) → refused ≡ None → option_or refused fault ≡ fault
 ahead_fault refused fault none = ap (λ o. option_or o fault) none
 
--- no row is later
+-- There is no later row.
 over_later : (end : ℕ) (s : Context) (items : List Item) (m : Machine) (at : ℕ) → first_fault s items m ≡ None → end ≤ m.address → rows_past end s items m at ≡ []
 over_later end s items m at good over =
     elim (cases_lt at m.address) [
@@ -155,7 +156,7 @@ stays failed refused end at s items m before view going where_to =
     let P : Standing → Type 0 = λ b. Stays b b in
     subst P view (stays_by failed refused end at s items m going where_to)
 
--- the next row
+-- The next row.
 goes_by : (failed : Bool) (refused : Option Reason) (end at next : ℕ) (s : Context) (items later : List Item) (m n : Machine) → failed ≡ false → refused ≡ None → next ≡ m.address → at < next → next < end → first_fault s later n ≡ first_fault s items m →
     ((end : ℕ) → m.address < end → rows_from end s items m ≡ row_with m.address n.row ∷ rows_past end s later n m.address) → GoesOn (standing failed refused end at s items m) (standing failed refused end next s later n)
 goes_by failed refused end at next s items later m n fresh going here up low kept settled = record {
@@ -175,7 +176,7 @@ goes_on failed refused end at next s held items later m n before columns view sa
     let Q : Standing → Type 0 = λ b. GoesOn b (standing failed refused end next held later n) × StayOutside columns b.here.row n.row in
     subst Q view (subst P same (goes_by failed refused end at next s items later m n fresh going here up low kept settled), alike)
 
--- no instruction is left
+-- No instruction is left.
 pub ends : (failed : Bool) (refused : Option Reason) (end at over : ℕ) (s held : Context) (items : List Item) (encoding base : ℕ) (c : Ahead) (m n : Machine) (before : Standing) → standing failed refused end at held items m ≡ before → s ≡ held → before.refused ≡ None → first_fault s items m ≡ None → length c.bytes ≡ 0 → over ≡ n.address → Ends before (standing failed refused end over held (listed_at encoding base c) n)
 ends failed refused end at over s held items encoding base c m n before view same going good empty past =
     let none : refused ≡ None = ap (λ (b : Standing). b.refused) view ∙ going in

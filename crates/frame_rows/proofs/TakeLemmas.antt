@@ -1,4 +1,4 @@
--- A row that takes some columns from another; for `follow`.
+-- A row that takes over some columns of another row, for `follow`.
 use Rattle.std.proofs.Common.{◌≡◌, ◌≢◌, inl, inr, ℕ, ◌+◌, ◌<◌, ◌≤◌, List, length, min, get_or, set, ap, sym, ◌∙◌, arith, get_or-set_other}
 use Rattle.std.proofs.lemmas.Bool.{cases_lt}
 use Rattle.std.proofs.lemmas.Grind.{get_or-set_at}
@@ -9,7 +9,7 @@ use Rattle.frame_rows.specs.declared.row.Row.{Row}
 use Rattle.frame_rows.specs.declared.columns.Columns.{Columns}
 use Rattle.frame_rows.specs.Columns.{StayOutside}
 
--- the columns below one are taken, and those from an end on stand as they are
+-- The columns below `at` have been taken over, and the columns from `end` on are equal.
 pub record Taking (at end : ℕ) (rules to : List Rule) : Type 0 where
   pub below : (k : ℕ) → k < at → get_or rules k rule.Rest ≡ get_or to k rule.Rest
   pub above : (k : ℕ) → end ≤ k → k < 17 → get_or rules k rule.Rest ≡ get_or to k rule.Rest

@@ -1,4 +1,4 @@
--- Worked rows: each instruction with the location and the row after it.
+-- Worked examples: each instruction with the location and the row after it.
 use Rattle.std.proofs.Common.{◌≡◌, ℕ, pos, List, [], ◌∷◌, Option, None, Some, refl}
 use Prim.Native.String.{String}
 use Rattle.std.specs.Prelude.{⊤}
@@ -14,11 +14,13 @@ use Rattle.frame_rows.specs.Rows.{all_stepped, first_fault}
 use Rattle.sym_edges.proofs.Hex.{hex}
 use Rattle.frame_rows.proofs.Entries.{minus, row, entries}
 
--- in front of each instruction: rax is the same, rbp lies at the CFA - 16, the return address at the CFA - 8
+-- Before each instruction rax keeps its value, rbp is at the CFA - 16, and the return address is at
+-- the CFA - 8.
 unfoldable before : List (ℕ × Rule)
 before = (0, rule.Same) ∷ (6, rule.Offset (minus 16)) ∷ (16, rule.Offset (minus 8)) ∷ []
 
--- factors 4 and -8; the initial instructions left r5 for rbp, and for r13 to r15 a place
+-- The alignment factors are 4 and -8. The initial instructions left rbp in r5, and r13 to r15 in
+-- memory.
 unfoldable context : Context
 unfolding row
 context = record {
@@ -32,12 +34,12 @@ unfoldable machine : Machine
 unfolding row before
 machine = record { address = 0x1000; row = row 7 (pos 8) before; stack = row 2 (pos 80) ((1, rule.Undefined) ∷ []) ∷ [] }
 
--- the location and the row after instructions
+-- The location and the row after the instructions.
 unfoldable behind : String → ℕ × Row
 unfolding hex context machine
 behind text = ((all_stepped context (instructions 0 0x2029 (hex text)) machine).address, (all_stepped context (instructions 0 0x2029 (hex text)) machine).row)
 
--- why instructions may not stand there
+-- The reason why the instructions are refused in this state.
 unfoldable why : String → Option Reason
 unfolding hex context machine
 why text = first_fault context (instructions 0 0x2029 (hex text)) machine
@@ -162,7 +164,7 @@ offset_of_column_17 : behind "91 02" ≡ (0x1000, row 7 (pos 8) before)
 unfolding effects
 offset_of_column_17 = refl
 
--- of a register above 15, and of locations
+-- Reasons for registers above 15, and for locations.
 cfa_register_16 : why "0d 10" ≡ Some reason.Register
 unfolding effects
 cfa_register_16 = refl

@@ -1,4 +1,4 @@
--- Worked rows: the rows of small entries.
+-- Worked examples: the rows of small entries.
 use Rattle.std.proofs.Common.{◌≡◌, pos, true, false, [], ◌∷◌, None, Some, Ok, refl}
 use Rattle.sym_edges.specs.declared.reason.Reason.TheVariants as reason
 use Rattle.frame_rows.specs.declared.row.Rule.TheVariants as rule
@@ -63,7 +63,7 @@ a_row_that_the_cie_remembered : rows (entry 0x1000 0x20 "0c0708 9001 0a 0e20" "4
 unfolding entries
 a_row_that_the_cie_remembered = refl
 
--- an advance by 0, and a set_loc to the place where the location is, are no moves
+-- An advance by 0, and a set_loc to the current location, begin no row.
 all_changes_at_one_address_make_one_row : rows (called 0x20 "40 0e10 40 8602 44 0e20 01d1efffff 0e18") ≡ Ok (
     (0x1000, row 7 (pos 16) (saved_return ∷ (6, rule.Offset (minus 16)) ∷ []))
     ∷ (0x1004, row 7 (pos 24) (saved_return ∷ (6, rule.Offset (minus 16)) ∷ []))
@@ -97,7 +97,8 @@ one_address : rows (called 0x1 "47 0e10 41 0e18 0280 0e20") ≡ Ok (
 unfolding entries
 one_address = refl
 
--- offset, restore, undefined, same_value, register and val_offset of columns above 16
+-- The instructions offset, restore, undefined, same_value, register and val_offset are ignored for
+-- columns above 16.
 columns_above_the_return_address_are_passed_over : rows (called 0x20 "41 9102 d1 0712 0813 09207f 142101 052201 0622") ≡ Ok (
     (0x1000, row 7 (pos 8) (saved_return ∷ []))
     ∷ (0x1001, row 7 (pos 8) (saved_return ∷ []))
@@ -105,7 +106,7 @@ columns_above_the_return_address_are_passed_over : rows (called 0x20 "41 9102 d1
 unfolding entries
 columns_above_the_return_address_are_passed_over = refl
 
--- offsets modulo 2^64
+-- Offsets are taken modulo 2^64.
 products_modulo_2_to_the_64 : rows (called 0x20 "0effffffff ffffffffff 01 9081808080 8080808080 01 137f") ≡ Ok (
     (0x1000, row 7 (pos 8) ((16, rule.Offset (minus 8)) ∷ []))
     ∷ [])
@@ -124,7 +125,7 @@ no_instructions : rows (called 0x20 "") ≡ Ok (
 unfolding entries
 no_instructions = refl
 
--- any range is looked at
+-- The instructions are checked for any address range.
 empty : instruction_fault (called 0 "41 0e10") ≡ None
 unfolding entries
 empty = refl
@@ -141,7 +142,7 @@ past_the_last_address_and_bad : instruction_fault (entry 0xffffffffffffffff 0x20
 unfolding entries
 past_the_last_address_and_bad = refl
 
--- an expression is kept as the place of its bytes
+-- Of an expression, only the place of its bytes is kept.
 expressions_of_a_column : rows (called 0x10 "44 1006027778 44 1606022310") ≡ Ok (
     (0x1000, row 7 (pos 8) (saved_return ∷ []))
     ∷ (0x1004, row 7 (pos 8) (saved_return ∷ (6, rule.Expr true (in_own 4 2)) ∷ []))

@@ -1,4 +1,4 @@
--- Worked rows: each opcode of the standard with its operands, read.
+-- Worked examples: each opcode of the standard with its operands.
 use Rattle.std.proofs.Common.{◌≡◌, ℕ, negsuc, List, [], ◌∷◌, Ok, Err, refl}
 use Prim.Native.String.{String}
 use Rattle.sym_edges.specs.declared.reason.Reason.TheVariants as reason
@@ -8,7 +8,7 @@ use Rattle.frame_rows.specs.Instructions.{Item, instructions}
 use Rattle.sym_edges.proofs.Hex.{hex}
 use Rattle.frame_rows.proofs.Computing.{frame_rows_computes}
 
--- the instructions of a run of bytes at 2029, whose pointers are numbers of eight bytes
+-- The instructions of a run of bytes at 2029, whose pointers are numbers of eight bytes.
 unfoldable reads : String → List Item
 unfolding hex
 reads text = instructions 0 0x2029 (hex text)
@@ -113,7 +113,7 @@ GNU_args_size : reads "2e 10" ≡ Ok (Nop) ∷ []
 unfolding frame_rows_computes reads
 GNU_args_size = refl
 
--- operands of two bytes
+-- Operands of two bytes.
 offset_of_two_bytes : reads "83 8101" ≡ Ok (Offset 3 129) ∷ []
 unfolding frame_rows_computes reads
 offset_of_two_bytes = refl
@@ -174,7 +174,7 @@ GNU_args_size_of_two_bytes : reads "2e 8101" ≡ Ok (Nop) ∷ []
 unfolding frame_rows_computes reads
 GNU_args_size_of_two_bytes = refl
 
--- one after the other, up to the first that cannot be read
+-- Several instructions, up to the first one that cannot be read.
 two_in_a_row : reads "41 0e10" ≡ Ok (AdvanceLoc 1) ∷ Ok (DefCfaOffset 16) ∷ []
 unfolding frame_rows_computes reads
 two_in_a_row = refl
@@ -183,7 +183,7 @@ none : reads "" ≡ []
 unfolding frame_rows_computes reads
 none = refl
 
--- a DWARF expression is where its bytes stand
+-- The place of a DWARF expression's bytes.
 abbrev at : ℕ → ℕ → Block
 at start len = record { start = start; len = len }
 

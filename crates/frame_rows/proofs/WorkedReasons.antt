@@ -1,10 +1,11 @@
--- Worked rows: the reasons for which an entry has no rows.
+-- Worked examples: the reasons for which an entry has no rows.
 use Rattle.std.proofs.Common.{◌≡◌, None, Err, refl}
 use Rattle.sym_edges.specs.declared.reason.Reason.TheVariants as reason
 use Rattle.frame_rows.specs.Rows.{instruction_fault}
 use Rattle.frame_rows.proofs.Entries.{entry, called, rows, entries}
 
--- expressions that rule text cannot say: one that adds without values, one that leaves two, and one with an operation that has no words
+-- Expressions that rule text cannot express: one that adds without values, one that leaves two
+-- values, and one whose operation has no word.
 an_expression_without_values : rows (called 0x20 "0f0122") ≡ Err reason.Expression
 unfolding entries
 an_expression_without_values = refl
@@ -25,7 +26,7 @@ an_expression_of_the_cie : rows (entry 0x1000 0x20 "0c0708 9001 1610019d" "00") 
 unfolding entries
 an_expression_of_the_cie = refl
 
--- above column 16 none is looked at, but its block is read
+-- For a column above 16 the expression is not checked, but its block is read.
 an_expression_for_column_17 : instruction_fault (called 0x20 "10110196 16110196") ≡ None
 unfolding entries
 an_expression_for_column_17 = refl
@@ -42,7 +43,7 @@ a_block_that_leaves_the_entry : rows (called 0x20 "0f037708") ≡ Err reason.Ins
 unfolding entries
 a_block_that_leaves_the_entry = refl
 
--- an expression has no offset, and no register
+-- If the CFA rule is an expression, its offset or its register cannot be changed.
 no_offset_of_an_expression : rows (called 0x20 "0f027708 0e10") ≡ Err reason.State
 unfolding entries
 no_offset_of_an_expression = refl
@@ -87,7 +88,7 @@ a_location_that_wraps : rows (entry 0xffffffffffffffcf 0x20 "0c0708 9001 0000" "
 unfolding entries
 a_location_that_wraps = refl
 
--- those of the initial instructions come first
+-- A bad one of the initial instructions comes first.
 restore_in_the_cie : rows (entry 0x1000 0x20 "0c0708 c6" "3f") ≡ Err reason.State
 unfolding entries
 restore_in_the_cie = refl
@@ -116,7 +117,7 @@ a_cut_set_loc_in_the_cie : rows (entry 0x1000 0x20 "01000000" "3f") ≡ Err reas
 unfolding entries
 a_cut_set_loc_in_the_cie = refl
 
--- some address has no rule for the CFA, and no instruction is bad
+-- Some address has no rule for the CFA, and no instruction is bad.
 nowhere : rows (entry 0x1000 0x20 "00" "00") ≡ Err reason.Cfa
 unfolding entries
 nowhere = refl
@@ -149,7 +150,7 @@ none_at_the_last_address_is_no_bad_instruction : instruction_fault (entry 0x1000
 unfolding entries
 none_at_the_last_address_is_no_bad_instruction = refl
 
--- a part of the CFA rule changed where there is none
+-- The register or the offset of the CFA rule is changed when there is no CFA rule.
 def_cfa_register_without_a_rule : rows (entry 0x1000 0x20 "00" "0d06") ≡ Err reason.State
 unfolding entries
 def_cfa_register_without_a_rule = refl

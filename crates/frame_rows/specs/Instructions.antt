@@ -48,7 +48,7 @@ operand_at Uleb c = or_instruction (uleb_at c)
 operand_at Sleb c = or_instruction (sleb_at c)
 operand_at Exprloc c = block_at c
 
--- what follows an opcode, and the instruction that is made from it
+-- the operands that follow an opcode, and the instruction that they make
 pub data Form : Type 0 where
   -- no operand, one operand, or two
   Alone : Instruction → Form
@@ -59,7 +59,8 @@ pub data Form : Type 0 where
   -- there is no such opcode
   Unknown : Form
 
--- an instruction with one operand, given the reading of it, and an instruction with two operands, which are read one after the other
+-- an instruction that is made of one operand, or of two operands, which are read one after the
+-- other
 abbrev pub one : {A : Type 0} → (A → Instruction) → Result (A × Ahead) Reason → Result (Instruction × Ahead) Reason
 one make operand = operand >>= λ x. Ok (make x.0, x.1)
 
@@ -111,7 +112,8 @@ form_of opcode =
     if opcode / 64 == 3 then Alone (Restore (opcode % 64)) else  -- DW_CFA_restore
     extended_form opcode
 
--- the instruction after its opcode was read: any opcode, and one that has no operand in its low bits
+-- the rest of an instruction after its opcode: for any opcode, and for an opcode that has no
+-- operand in its low bits
 abbrev pub behind_opcode : ℕ → ℕ → ℕ → Ahead → Result (Instruction × Ahead) Reason
 behind_opcode encoding base opcode c = form_at encoding base (form_of opcode) c
 

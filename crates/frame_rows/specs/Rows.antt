@@ -42,8 +42,8 @@ unfoldable pub first_fault : Context → List Item → Machine → Option Reason
 first_fault s [] m = None
 first_fault s (i ∷ items) m = option_or (item_fault s i m) (first_fault s items (item_stepped s i m))
 
--- the state after the longest prefix of instructions whose locations are at most the address `a`; the location of an instruction is the one that the
--- instructions before it left
+-- the state after all instructions up to the first one that begins at a location above the address
+-- `a`; an instruction begins at the location that those before it left
 unfoldable pub replay : Context → List Item → Machine → ℕ → Machine
 replay s [] m a = m
 replay s (i ∷ items) m a = if nat_le m.address a then replay s items (item_stepped s i m) a else m
@@ -66,7 +66,8 @@ cie_begin e = record { address = e.start; row = empty_row; stack = [] }
 unfoldable pub cie_end : FdeFields → Machine
 cie_end e = all_stepped (cie_context e) (cie_items e) (cie_begin e)
 
--- the entry's own instructions begin with the row and the row stack that the initial instructions left
+-- the entry's own instructions begin with the row and the row stack that the initial instructions
+-- left
 unfoldable pub left_context : FdeFields → CieContext
 left_context e = record { code_align = e.code_align; data_align = e.data_align; initial = Some (cie_end e).row }
 
@@ -127,8 +128,8 @@ abbrev pub Ascending : ℕ → ℕ → List RowAt → Type 0
 Ascending low end [] = Unit {0}
 Ascending low end (r ∷ rows) = (low ≤ r.address) × (r.address < end) × Ascending (r.address + 1) end rows
 
--- the rows of an entry: their addresses are those at which rows begin, in order, and for each address of the range, the last row at or below it is
--- the row at that address
+-- the rows of an entry. Their addresses are those at which rows begin, in order. For each address
+-- of the range, the last row that begins at or below it is the row at that address
 pub record AreRows (e : FdeFields) (rows : List RowAt) : Type 0 where
   pub at_stops : map (λ r. r.address) rows ≡ stops e
   pub in_order : Ascending e.start (e.start + e.size) rows
@@ -142,8 +143,9 @@ pub record HasCfa (e : FdeFields) : Type 0 where
 abbrev pub expr_bytes : FdeFields → Place → List ℕ
 expr_bytes e place = bytes_at place e.initial_instructions e.instructions
 
--- a rule of a column is sound if a register that it names is one of the sixteen, its offset is that of an i64, and rule text can express its
--- expression; the return address is no register
+-- a rule of a column is sound if its register is one of the sixteen, its offset fits an i64, and
+-- rule text can express its expression. The rule `Same` is not sound for the return address, which
+-- is no register
 abbrev pub is_sound_rule : FdeFields → ℕ → Rule → Bool
 is_sound_rule e column rule.Rest = true
 is_sound_rule e column rule.Undefined = true

@@ -58,7 +58,8 @@ put_offset offset row = record { cfa = cfa_offset offset row.cfa; rules = row.ru
 unfoldable pub put_rule : ℕ → Rule → Row → Row
 put_rule column new row = if nat_lt column 17 then record { cfa = row.cfa; rules = slice_set row.rules column new } else row
 
--- an offset that is not factored, and the product of a factored offset and the data alignment factor, both modulo 2^64
+-- an offset that is not factored, and the product of a factored offset and the data alignment
+-- factor; both are taken modulo 2^64, as an i64
 abbrev pub plain : ℕ → ℤ
 plain offset = cast_signed w64 offset
 
@@ -69,8 +70,9 @@ scaled s factored = int_wrapping_mul w64 factored s.data_align
 abbrev pub place_of_block : Context → Block → Place
 place_of_block s block = record { own = is_some s.initial; start = block.start; len = block.len }
 
--- whether rule text can express the expression at a place of the run; `over_cfa` says that the CFA may be on the stack (DWARF 5, 6.4.2.2 and
--- 6.4.2.3). The start and the length of a place must each fit into four bytes
+-- whether rule text can express the expression at a place of the run; `over_cfa` says that the
+-- evaluation may begin with the CFA on the stack (DWARF 5, 6.4.2.2 and 6.4.2.3). The start and the
+-- length of a place must each fit into four bytes
 unfoldable pub can_say : Bool → Context → Block → Bool
 can_say over_cfa s block =
     nat_lt block.start (2 ^ 32) && (nat_lt block.len (2 ^ 32) && is_some (standing over_cfa (bytes_at (place_of_block s block) s.run s.run)))
@@ -78,7 +80,8 @@ can_say over_cfa s block =
 abbrev pub expr_fault : Bool → Context → Block → Option Reason
 expr_fault over_cfa s block = unless (can_say over_cfa s block) reason.Expression
 
--- the same for the rule of a column; columns above 16 are ignored
+-- the reason against the expression of a column's rule, if there is one; columns above 16 are
+-- ignored
 abbrev pub column_expr_fault : Context → ℕ → Block → Option Reason
 column_expr_fault s column block = unless (nat_lt 16 column || can_say true s block) reason.Expression
 
@@ -108,13 +111,13 @@ abbrev pub has_remembered : List Row → Bool
 has_remembered [] = false
 has_remembered (top ∷ rows) = true
 
--- what an instruction may do
+-- the effects that instructions may have
 pub data Effect : Type 0 where
   -- the location moves to an address, or by a distance
   MovesTo : ℕ → Effect
   MovesBy : ℕ → Effect
-  -- the CFA gets a rule of a register and an offset, or a rule of an expression, unless there is a reason against it; or its rule gets another
-  -- register, or another offset
+  -- the CFA's rule becomes a register and an offset; it becomes an expression, unless there is a
+  -- reason against that; its register changes; its offset changes
   DefinesCfa : ℕ → ℤ → Effect
   DefinesCfaExpr : Place → Option Reason → Effect
   ChangesRegister : ℕ → Effect
@@ -191,7 +194,7 @@ effect_fault s Remembers m = None
 effect_fault s TakesBack m = unless (has_remembered m.stack) reason.State
 effect_fault s DoesNothing m = None
 
--- the state after an instruction, and why the instruction is refused
+-- the state after an instruction, and the reason why the instruction is refused, if there is one
 unfoldable pub stepped : Context → Instruction → Machine → Machine
 stepped s i m = done (effect s i) m
 

@@ -107,7 +107,7 @@ fn leave(alloc: Global, fde: &Fde<'_>) -> Result<Left, Stop<Reason>>
     Ok(Left { context, stack })
 }
 
-/// What the instructions of an entry begin with.
+/// The state and the context with which the instructions of an entry begin.
 #[derive(Drop)]
 pub struct Begun<'c> {
     pub machine: Machine<'c>,
@@ -126,7 +126,8 @@ impl CieState {
         }
     }
 
-    /// Begins an entry of the CIE. Allocates no memory.
+    /// Begins an entry of the CIE, with the row stack and the context borrowed from here. Allocates
+    /// no memory.
     #[inline]
     pub fn begin(&self, alloc: Global, fde: &Fde<'_>) -> Result<Begun<'_>, Reason>
         requires { self.now ≡ cie_left fde.now }
@@ -148,7 +149,7 @@ impl CieState {
         }
     }
 
-    /// Begins the only entry of the CIE.
+    /// Begins the only entry of the CIE, which takes over the row stack and the context.
     pub fn into_begun<'c>(self, alloc: Global, fde: &Fde<'_>) -> Result<Begun<'c>, Stop<Reason>>
         requires { self ≡ cie_left fde.now }
         ensures fault { MatchStop result

@@ -41,7 +41,7 @@ impl Columns {
         Columns::none()
     }
 
-    /// These columns, the others, and those between them.
+    /// The smallest run of columns that contains both.
     #[inline]
     pub fn join(self, other: Columns) -> Columns
         ensures { result ≡ record { first = min self.first other.first; end = max self.end other.end } }
@@ -54,7 +54,7 @@ impl Columns {
 }
 
 impl Row {
-    /// Becomes equal to another row, whose columns outside of `columns` are the same.
+    /// Becomes equal to another row, given that their columns outside of `columns` are the same.
     #[tactic(auto, using(crate::proofs::TakeLemmas::all_taken))]
     pub fn follow(&mut self, columns: Columns, to: &Row)
         requires { StayOutside columns self.old to.now }

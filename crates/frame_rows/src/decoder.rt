@@ -81,7 +81,7 @@ fn read_cfa_expression(cursor: &mut Cursor<'_>) -> Result<Instruction, Reason>
     Ok(Instruction::DefCfaExpression { block })
 }
 
-/// Reads the operands of `DW_CFA_expression`, which fetches, or of `DW_CFA_val_expression`.
+/// Reads the operands of `DW_CFA_expression`, if `fetches`, or of `DW_CFA_val_expression`.
 #[inline(never)]
 fn read_expression(cursor: &mut Cursor<'_>, fetches: bool) -> Result<Instruction, Reason>
     ensures { gave result cursor.new ≡ two (if fetches then Expression else ValExpression) (or_instruction (uleb_at cursor.old)) block_at }

@@ -13,7 +13,7 @@ use frame_entries::Fde;
 use std::alloc::Global;
 use sym_edges::{Reason, Stop};
 
-/// Whether a row before lacked a rule for the CFA, or this row lacks one.
+/// Whether an earlier row lacked a rule for the CFA, which `lacking` says, or this row lacks one.
 fn lack_rule(lacking: bool, row: &Row) -> bool
     ensures { result ≡ (lacking || not (has_cfa row.now)) }
 {
@@ -35,7 +35,7 @@ fn lack_cfa(stepper: &mut Stepper<'_, '_>) -> Result<bool, Stop<Reason>>
     Ok(lacking)
 }
 
-/// The stepper's row, and the later ones.
+/// A list of the stepper's row and all later ones.
 fn collect(alloc: Global, stepper: &mut Stepper<'_, '_>) -> Result<Vec<RowAt>, Stop<Reason>>
     requires fresh { stepper.old.failed ≡ false }
     requires going { stepper.old.refused ≡ None }
@@ -56,7 +56,8 @@ fn collect(alloc: Global, stepper: &mut Stepper<'_, '_>) -> Result<Vec<RowAt>, S
     Ok(rows)
 }
 
-/// Whether an entry has rows, or the reason for which it has none, given the state after its CIE. All instructions are executed, and no row is kept.
+/// Succeeds if an entry has rows, and otherwise returns the reason for which it has none, given the
+/// state after its CIE. All instructions are executed, and no row is kept.
 pub fn check_rows_behind(alloc: Global, state: &CieState, fde: &Fde<'_>) -> Result<(), Stop<Reason>>
     requires behind { state.now ≡ cie_left fde.now }
     requires some { 0 < fde.now.size }
@@ -74,8 +75,9 @@ pub fn check_rows_behind(alloc: Global, state: &CieState, fde: &Fde<'_>) -> Resu
     Ok(())
 }
 
-/// The rows of an entry by their addresses, given the state after its CIE; or the reason against its first bad instruction, or else `Cfa` if some
-/// address of the range has no rule for the CFA.
+/// The rows of an entry by their addresses, given the state after its CIE. If there is a bad
+/// instruction, the reason against the first one is returned. Otherwise, if some address of the
+/// range has no rule for the CFA, the reason is `Cfa`.
 #[tactic(auto, using(crate::proofs::EntryLemmas::rows_good))]
 pub fn rows_behind(alloc: Global, state: &CieState, fde: &Fde<'_>) -> Result<RowList, Stop<Reason>>
     requires behind { state.now ≡ cie_left fde.now }
@@ -90,8 +92,9 @@ pub fn rows_behind(alloc: Global, state: &CieState, fde: &Fde<'_>) -> Result<Row
     Ok(RowList::of(rows))
 }
 
-/// The rows of an entry by their addresses; or the reason against its first bad instruction, or else `Cfa` if some address of the range has no rule
-/// for the CFA.
+/// The rows of an entry by their addresses. If there is a bad instruction, the reason against the
+/// first one is returned. Otherwise, if some address of the range has no rule for the CFA, the
+/// reason is `Cfa`.
 pub fn rows(alloc: Global, fde: &Fde<'_>) -> Result<RowList, Stop<Reason>>
     requires some { 0 < fde.now.size }
     requires fits { fde.now.start + fde.now.size < 2 ^ 64 }

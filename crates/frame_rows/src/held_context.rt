@@ -1,10 +1,10 @@
-//! The context of instructions, owned or lent.
+//! The context of instructions, owned or borrowed.
 ghost use Rattle.std.specs.Prelude.{◌≡◌};
 ghost use Rattle.frame_rows.specs.internal.Held.{context_in};
 
 use crate::machine::CieContext;
 
-/// A context of its own, or one that is in the state after a CIE.
+/// A context that is owned, or a reference to the one in the state after a CIE.
 #[derive(Drop)]
 pub enum HeldContext<'c> {
     Own(Box<CieContext>),

@@ -10,8 +10,9 @@ use frame_entries::Fde;
 use std::alloc::Global;
 use sym_edges::{OutOfMemory, Reason, Stop};
 
-/// The reason against the first bad instruction of an entry, for any range, given the state after its CIE; the CIE's instructions come before the
-/// entry's own.
+/// The reason against the first bad instruction of an entry, given the state after its CIE. The
+/// CIE's instructions come before the entry's own. The address range of the entry may be any, even
+/// an empty one.
 #[tactic(auto, unfolding(crate::specs::Rows::instruction_fault, crate::specs::Rows::own_items, crate::specs::Rows::own_context))]
 pub fn inspect_behind(
     alloc: Global,
@@ -46,7 +47,8 @@ pub fn inspect_behind(
     }
 }
 
-/// The reason against the first bad instruction of an entry, for any range; the CIE's instructions come before the entry's own.
+/// The reason against the first bad instruction of an entry. The CIE's instructions come before the
+/// entry's own. The address range of the entry may be any, even an empty one.
 pub fn inspect(alloc: Global, fde: &Fde<'_>) -> Result<Option<Reason>, OutOfMemory>
     ensures { IfOk result (λ why. why ≡ instruction_fault fde.now) }
 {

@@ -45,7 +45,8 @@ impl<'c> Context<'c> {
         factored.wrapping_mul(self.cie.data_align)
     }
 
-    /// The place of an expression of the run, if rule text can express it. `over_cfa`: the CFA may be on the stack.
+    /// The place of an expression of the run, if rule text can express it. `over_cfa` says that the
+    /// evaluation may begin with the CFA on the stack.
     #[inline(never)]
     #[tactic(auto, unfolding(crate::specs::Steps::can_say, expr_steps::specs::Places::place_of))]
     fn find_expression(&self, block: Block, over_cfa: bool) -> Option<Place>
@@ -57,7 +58,8 @@ impl<'c> Context<'c> {
     }
 }
 
-/// The location, the row there, and the row stack of remembered rows. The rows at the bottom of the stack, which a CIE left, are stored elsewhere.
+/// The location, the row there, and the row stack of remembered rows. The rows at the bottom of the
+/// row stack, which a CIE left, are borrowed.
 #[derive(Drop)]
 pub struct Machine<'c> {
     address: u64,
@@ -88,7 +90,8 @@ fn register_of(number: u64) -> Result<u8, Reason>
 }
 
 impl<'c> Machine<'c> {
-    /// The state at an address, with a row and the remembered rows, the last one last. Allocates no memory.
+    /// The state at an address, with a row and with remembered rows that are borrowed; of these the
+    /// last in the list was remembered last. Allocates no memory.
     pub fn new(alloc: Global, address: u64, row: &Row, bottom: &'c [Row]) -> Machine<'c>
         ensures { result ≡ record { address = address; row = row.now; stack = reverse bottom.now } }
     {
@@ -100,7 +103,8 @@ impl<'c> Machine<'c> {
         }
     }
 
-    /// The same, with remembered rows of its own.
+    /// The state at an address, with a row and with remembered rows of its own; of these the last
+    /// in the list was remembered last.
     pub fn with_stack(address: u64, row: Row, stack: Vec<Row>) -> Machine<'c>
         ensures { result ≡ record { address = address; row = row; stack = reverse stack.items } }
     {
@@ -112,7 +116,7 @@ impl<'c> Machine<'c> {
         }
     }
 
-    /// The remembered rows, the last one last.
+    /// The remembered rows; the last in the list was remembered last.
     pub fn into_stack(self, alloc: Global) -> Result<Vec<Row>, AllocError>
         ensures { IfOk result (λ rows. reverse rows.items ≡ self.entry.stack) }
     {

@@ -24,8 +24,8 @@ use std::alloc::Global;
 use std::marker::Model;
 use sym_edges::{Reason, Stop};
 
-/// A position among the rows of an entry. The instructions up to the next different location are executed, so the location is above the address of
-/// the row, or no instruction is left.
+/// A position among the rows of an entry. The instructions up to the next change of the location
+/// have been executed. So the location is above the address of the row, or no instruction is left.
 #[derive(Drop)]
 pub struct Stepper<'c, 'a> {
     machine: Machine<'c>,
@@ -177,9 +177,10 @@ impl<'c, 'a> Stepper<'c, 'a> {
         self.machine.row()
     }
 
-    /// Goes on to the next row, and returns columns outside of which no column has changed; or stays at the last row, and returns `None`. The step is
-    /// refused with the reason against a bad instruction. After memory ran out, each step returns that; after a step was refused, each is refused for
-    /// the same reason.
+    /// Goes on to the next row, and returns columns outside of which no column has changed; or
+    /// stays at the last row, and returns `None`. The step is refused with the reason against a bad
+    /// instruction. After memory ran out, each later step reports that again. After a step was
+    /// refused, each later step is refused for the same reason.
     pub fn next(&mut self) -> Result<Option<Columns>, Stop<Reason>>
         ensures steps { self.old.failed ≡ false → self.old.refused ≡ None → MatchStop result (λ next. IsNext next self.old self.new) (λ why. Refuses why self.old self.new) (self.new.failed ≡ true) }
         ensures failed { self.old.failed ≡ true → (result ≡ Err stop.NoMemory) × (self.new ≡ self.old) }
@@ -219,9 +220,10 @@ impl<'c, 'a> Stepper<'c, 'a> {
         }
     }
 
-    /// Goes on to the next row, and returns true; or stays at the last row, and returns false. The step is refused with the reason against a bad
-    /// instruction; there is none if all instructions were checked before. After memory ran out, each step returns that; after a step was refused,
-    /// each is refused for the same reason.
+    /// Goes on to the next row, and returns true; or stays at the last row, and returns false. The
+    /// step is refused with the reason against a bad instruction; there is none if all instructions
+    /// were checked before. After memory ran out, each later step reports that again. After a step
+    /// was refused, each later step is refused for the same reason.
     pub fn step(&mut self) -> Result<bool, Stop<Reason>>
         ensures steps { self.old.failed ≡ false → self.old.refused ≡ None → MatchStop result (λ more. IsStep more self.old self.new) (λ why. Refuses why self.old self.new) (self.new.failed ≡ true) }
         ensures failed { self.old.failed ≡ true → (result ≡ Err stop.NoMemory) × (self.new ≡ self.old) }
@@ -234,8 +236,8 @@ impl<'c, 'a> Stepper<'c, 'a> {
         }
     }
 
-    /// Executes the instructions that are left, whose rows are at the end or above; then no row is later. This is refused with the reason against a
-    /// bad instruction.
+    /// Executes the instructions that are left. Afterwards there is no later row. If one of the
+    /// instructions is bad, the call is refused with the reason against it.
     pub fn finish(&mut self) -> Result<(), Stop<Reason>>
         requires fresh { self.old.failed ≡ false }
         requires going { self.old.refused ≡ None }

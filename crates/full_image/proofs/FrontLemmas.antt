@@ -1,4 +1,4 @@
--- The first fault, before and after what is compressed is inflated.
+-- The first fault of a file, before and after its compressed sections are inflated.
 use Rattle.std.proofs.Common.{◌≡◌, ◌<◌, ◌^◌, ℕ, length, arith, Bool, true, false, List, Option, None, Some, Result, Ok, Err, map, MatchResult, refl, sym, ap, subst, ◌∙◌}
 use Rattle.std.specs.Option.{option_or}
 use Rattle.std.proofs.lemmas.List.{length-map}
@@ -15,7 +15,7 @@ use Rattle.full_image.specs.Compressed.{Stream}
 use Rattle.full_image.specs.FullImage.{Packed, sections_fault, are_too_long, streams, streams_by, outcome_of, outcomes_of, inflate_fault, full_fault, full_sections, full_image, any_image}
 use Rattle.full_image.specs.internal.Front.{tables_fault, front_fault}
 
--- a later fault changes nothing
+-- A fault found early is the first fault whatever comes later.
 later : {F : Type 0} (h n s l t i : Option F) (fault : F) → option_or h (option_or n (option_or s (option_or l t))) ≡ Some fault → option_or h (option_or n (option_or s (option_or l (option_or t i)))) ≡ Some fault
 later (Some h) n s l t i fault is = is
 later None (Some n) s l t i fault is = is
@@ -32,7 +32,6 @@ last None None None (Some l) t i is = absurd (cc)
 last None None None None (Some t) i is = absurd (cc)
 last None None None None None i is = refl
 
--- two faults of sections as one
 joined : {F : Type 0} (h n b c l : Option F) → option_or h (option_or n (option_or b (option_or c l))) ≡ option_or h (option_or n (option_or (option_or b c) (option_or l None)))
 joined (Some h) n b c l = refl
 joined None (Some n) b c l = refl
@@ -62,13 +61,12 @@ pub plain_image : (file : List ℕ) → front_fault false file ≡ None → any_
 unfolding image
 plain_image file is = ap (λ f. image_by f (parts_of file)) (plain_front file ∙ is)
 
--- what is compressed was inflated
+-- The image with the inflated sections.
 opened_image : (file : List ℕ) (outcomes : List (Option (List ℕ))) → front_fault true file ≡ None → outcomes ≡ outcomes_of (record { full = true; file = file })
     → any_image true file ≡ image_by (inflate_fault outcomes) (with_sections (full_sections file) (parts_of file))
 unfolding full_image
 opened_image file outcomes is are = ap (λ f. image_by f (with_sections (full_sections file) (parts_of file))) (full_last file is ∙ ap inflate_fault (sym are))
 
--- an answer by one image is an answer by the same image
 pub same_answer : (one other : Result ImageParts ElfFault) (answer : Result ImageParts ElfFault) → one ≡ other → MatchResult answer (λ i. other ≡ Ok i) (λ fault. other ≡ Err fault) → MatchResult answer (λ i. one ≡ Ok i) (λ fault. one ≡ Err fault)
 same_answer one other answer is says = subst (λ (r : Result ImageParts ElfFault). MatchResult answer (λ i. r ≡ Ok i) (λ fault. r ≡ Err fault)) (sym is) says
 
@@ -86,7 +84,6 @@ pub few_outcomes : (full : Bool) (file : List ℕ) (outcomes : List (Option (Lis
 unfolding outcomes_of
 few_outcomes full file outcomes found are is few = let long : length outcomes ≡ length found = ap length are ∙ length-map (streams_by full file) outcome_of ∙ ap length (sym is) in omega (arith, long, few)
 
--- fault by fault
 by_tables : {F : Type 0} (h n s l t : Option F) (fault : F) → option_or h n ≡ Some fault → option_or h (option_or n (option_or s (option_or l t))) ≡ Some fault
 by_tables (Some h) n s l t fault is = is
 by_tables None (Some n) s l t fault is = is
@@ -123,7 +120,7 @@ refused_long full file none whole loads is = front_refused full file InflatedToo
 pub is_front : (full : Bool) (file : List ℕ) → option_or (header_fault file) (names_fault file) ≡ None → tables_fault full file ≡ None → loaded_fault file ≡ None → are_too_long (streams_by full file) ≡ false → front_fault full file ≡ None
 is_front full file none whole loads is = front_last full file false none whole loads is
 
--- a reading that stopped
+-- A reading of the tables stopped.
 pub tables_stopped : {A B : Type 0} (P : A → Type 0) (Q : B → Type 0) (full : Bool) (file : List ℕ) (stop : Stop ElfFault) → MatchStop {A = A} (Err stop) P (λ fault. option_or (header_fault file) (names_fault file) ≡ Some fault) (Unit {0})
     → MatchStop {A = B} (Err stop) Q (λ fault. any_image full file ≡ Err fault) (Unit {0})
 tables_stopped P Q full file (Fault fault) says = refused_tables full file fault says

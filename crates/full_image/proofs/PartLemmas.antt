@@ -1,4 +1,4 @@
--- Sections by their names and places.
+-- Sections by their names, with their bytes.
 use Rattle.std.proofs.Common.{◌≡◌, ℕ, ◌≤◌, Bool, true, false, cond, List, [], length, get_or, map, Option, None, Some, unwrap_or, refl, sym, ap, ◌∙◌, arith}
 use Rattle.std.specs.List.{find, position, position_or_len, slice_get}
 use Rattle.std.specs.Option.{option_map}
@@ -23,7 +23,7 @@ pub part_none : (file : List ℕ) (which : Sect) → position (is_called (names 
 unfolding full_part
 part_none file which is = ap (full_part_of file) (not_found (is_called (names file) which) (sections file) is)
 
--- the bytes of a compressed section are what its data gives
+-- The bytes of a compressed section are what its data inflates to.
 bytes_cases : (b : Bool) (stream : Option Stream) (plain : List ℕ) → cond b (unwrap_or (outcome_of stream) []) plain ≡ cond b (unwrap_or (outcome_of (cond b stream None)) []) plain
 bytes_cases true stream plain = refl
 bytes_cases false stream plain = refl

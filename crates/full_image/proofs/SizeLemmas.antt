@@ -1,4 +1,4 @@
--- How many bytes data gives together.
+-- How many bytes the data of all sections inflates to.
 use Rattle.std.proofs.Common.{◌≡◌, ℕ, ◌<◌, ◌≤◌, ◌+◌, ◌^◌, true, false, List, length, get_or, map, take, Option, ap, ◌∙◌, arith, subst}
 use Rattle.std.specs.List.{sum_by}
 use Rattle.std.proofs.lemmas.Bool.Decides.{nat_tests}

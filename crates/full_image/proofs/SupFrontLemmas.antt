@@ -1,4 +1,4 @@
--- The first fault of a supplementary file, before and after what is compressed is inflated.
+-- The first fault of a supplementary file, before and after its compressed sections are inflated.
 use Rattle.std.proofs.Common.{◌≡◌, ℕ, true, false, Bool, List, Option, None, Some, Result, Ok, Err, MatchResult, map, refl, sym, ap, ◌∙◌}
 use Rattle.std.specs.Option.{option_or}
 use Rattle.sym_edges.specs.Outside.{MatchStop}
@@ -16,14 +16,12 @@ use Rattle.full_image.specs.SupImage.{sup_fault, sup_image}
 use Rattle.full_image.proofs.FrontLemmas.{same_answer}
 use Rattle.full_image.specs.internal.SupFront.{sup_front_fault}
 
--- the last of five faults behind the four in front
 regrouped : {F : Type 0} (h n s t i : Option F) → option_or h (option_or n (option_or s (option_or t i))) ≡ option_or (option_or h (option_or n (option_or s t))) i
 regrouped (Some h) n s t i = refl
 regrouped None (Some n) s t i = refl
 regrouped None None (Some s) t i = refl
 regrouped None None None t i = refl
 
--- and the first two before the others
 paired : {F : Type 0} (h n r : Option F) → option_or h (option_or n r) ≡ option_or (option_or h n) r
 paired (Some h) n r = refl
 paired None n r = refl
@@ -42,7 +40,7 @@ refused file fault is =
     ap (λ f. image_by f (with_sections (full_sections file) (sup_parts_of file)))
     (fault_is file ∙ ap (λ f. option_or f (inflate_fault (map outcome_of (streams file)))) is)
 
--- what is compressed was inflated
+-- The image with the inflated sections.
 opened_sup : (file : List ℕ) (outcomes : List (Option (List ℕ))) → sup_front_fault file ≡ None → outcomes ≡ outcomes_of (record { full = true; file = file })
     → sup_image file ≡ image_by (inflate_fault outcomes) (with_sections (full_sections file) (sup_parts_of file))
 unfolding sup_image outcomes_of
@@ -71,7 +69,7 @@ refused_long file none whole is = refused file InflatedTooLong (by_length file t
 pub is_front : (file : List ℕ) → option_or (sup_header_fault file) (names_fault file) ≡ None → sections_fault file ≡ None → are_too_long (streams file) ≡ false → sup_front_fault file ≡ None
 is_front file none whole is = by_length file false none whole is
 
--- a reading that stopped
+-- A reading of the tables stopped.
 pub tables_stopped : {A B : Type 0} (P : A → Type 0) (Q : B → Type 0) (file : List ℕ) (stop : Stop ElfFault) → MatchStop {A = A} (Err stop) P (λ fault. option_or (sup_header_fault file) (names_fault file) ≡ Some fault) (Unit {0})
     → MatchStop {A = B} (Err stop) Q (λ fault. sup_image file ≡ Err fault) (Unit {0})
 tables_stopped P Q file (Fault fault) says = refused_tables file fault says

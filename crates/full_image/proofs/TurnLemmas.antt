@@ -1,4 +1,4 @@
--- What was inflated from a section on, in the order of the sections.
+-- Lists of sections and outcomes that begin at another place, put back in order.
 use Rattle.std.proofs.Common.{◌≡◌, ℕ, ◌<◌, ◌+◌, List, ◌++◌, length, get_or, map, take, drop, Option, None, sym, ap, ◌∙◌, arith}
 use Rattle.std.proofs.Math.Seq.{drop-append_seam, take-append_seam}
 use Rattle.std.proofs.lemmas.List.{same_lists, get_or-map, length-map, length-drop, length-append, take-append-drop, take-map, map-append}

@@ -1,4 +1,4 @@
--- Files with compressed sections, and what is read of them.
+-- Worked examples: files with compressed sections, and what is read of them.
 use Rattle.std.proofs.Common.{◌≡◌, ◌++◌, true, false, ℕ, List, [], ◌∷◌, codes, Result, Ok, Err, refl}
 use Rattle.elf_sections.specs.Image.{ImageParts}
 use Rattle.elf_sections.specs.declared.fault.ElfFault.{ElfFault}
@@ -8,15 +8,16 @@ use Rattle.sym_edges.proofs.Hex.{bytes}
 use Rattle.full_image.specs.FullImage.{any_image}
 use Rattle.full_image.proofs.Computing.{full_image_computes}
 
--- a section of a name and flags
+-- A section with this name and these flags.
 abbrev of_flags : List ℕ → ℕ → List ℕ → Section
 of_flags name flags content = record { name = name; kind = 1; flags = flags; address = 0; link = 0; content = content }
 
--- a file of code and two sections
+-- A file of code and two more sections.
 abbrev with_two : Section → Section → List ℕ
 with_two first second = file_of 0 (plain [] 0 [] ∷ code_at 0x1000 (bytes (codes "55905dc3")) ∷ first ∷ second ∷ [])
 
--- the bytes `abc` by zlib, an Elf64_Chdr of type 1 and size 3, and the older form's twelve bytes
+-- The bytes `abc` as zlib data, an Elf64_Chdr of type 1 and size 3, and the twelve bytes of the
+-- older form.
 abbrev abc : List ℕ
 abc = bytes (codes "789c4b4c4a060002 4d0127")
 
@@ -29,7 +30,7 @@ chdr = headed (codes "01000000 00000000 0300000000000000 0100000000000000")
 abbrev zlib : List ℕ
 zlib = headed (codes "5a4c4942 0000000000000003")
 
--- the bytes of `.debug_info`, of `.debug_str` and of `.debug_line`, or the fault
+-- The bytes of `.debug_info`, `.debug_str` and `.debug_line`, or the fault.
 abbrev says : Result ImageParts ElfFault → Result (List ℕ × List ℕ × List ℕ) ElfFault
 says (Ok i) = Ok (i.info.bytes, i.str.bytes, i.line.bytes)
 says (Err fault) = Err fault
@@ -37,27 +38,27 @@ says (Err fault) = Err fault
 abbrev read : Section → Section → Result (List ℕ × List ℕ × List ℕ) ElfFault
 read first second = says (any_image true (with_two first second))
 
--- by the flag
+-- A section with the flag.
 flagged : read (of_flags (codes ".debug_info") 0x800 chdr) (plain (codes ".debug_str") 1 (codes "de")) ≡ Ok (codes "abc", codes "de", [])
 unfolding full_image_computes elf_builds
 flagged = refl
 
--- by the older name, which counts as the name
+-- A section with the older name, which counts as the name.
 older : read (of_flags (codes ".zdebug_info") 0 zlib) (plain (codes ".debug_info") 1 (codes "de")) ≡ Ok (codes "abc", [], [])
 unfolding full_image_computes elf_builds
 older = refl
 
--- the flag counts before the name
+-- A section with the flag and the older name: the flag counts.
 flagged_older : read (of_flags (codes ".zdebug_str") 0x800 chdr) (of_flags (codes ".zdebug_line") 0 zlib) ≡ Ok ([], codes "abc", codes "abc")
 unfolding full_image_computes elf_builds
 flagged_older = refl
 
--- the first section of a name counts, and the data of all must be good
+-- The first section of a name counts, but the data of all must be good.
 second_bad : read (of_flags (codes ".debug_info") 0x800 chdr) (of_flags (codes ".debug_info") 0x800 (headed (codes "01000000 00000000 0200000000000000 0100000000000000"))) ≡ Err (Inflate 3)
 unfolding full_image_computes elf_builds
 second_bad = refl
 
--- another type, a header that does not fit, another magic
+-- Another type, a header that does not fit, and another word than `ZLIB`.
 other_type : read (of_flags (codes ".debug_info") 0x800 (headed (codes "02000000 00000000 0300000000000000 0100000000000000"))) (plain [] 1 []) ≡ Err (Compressed 2)
 unfolding full_image_computes elf_builds
 other_type = refl
@@ -70,7 +71,8 @@ other_magic : read (of_flags (codes ".zdebug_info") 0 (headed (codes "5a4c4943 0
 unfolding full_image_computes elf_builds
 other_magic = refl
 
--- a section with the flag that is none of debugging information, and a name in the older spelling that is not one of these
+-- A section with the flag that is not one of debugging information, and a name `.zdebug_` that is
+-- not one of these.
 other_flagged : read (of_flags (codes ".eh_frame") 0x800 chdr) (plain [] 1 []) ≡ Err (Compressed 2)
 unfolding full_image_computes elf_builds
 other_flagged = refl
@@ -79,17 +81,17 @@ other_older : read (of_flags (codes ".zdebug_types") 0 (codes "x")) (plain (code
 unfolding full_image_computes elf_builds
 other_older = refl
 
--- no bytes
+-- Data that inflates to no bytes.
 none_needed : read (of_flags (codes ".debug_info") 0x800 (bytes (codes "01000000 00000000 0000000000000000 0100000000000000"))) (plain [] 1 []) ≡ Ok ([], [], [])
 unfolding full_image_computes elf_builds
 none_needed = refl
 
--- 2^29 bytes and one more in two sections, told before bad data
+-- 2^29 bytes and one more in two sections; this fault is found before bad data.
 too_long : read (of_flags (codes ".debug_info") 0x800 (headed (codes "01000000 00000000 0000002000000000 0100000000000000"))) (of_flags (codes ".zdebug_str") 0 (headed (codes "5a4c4942 0000000000000001"))) ≡ Err InflatedTooLong
 unfolding full_image_computes elf_builds
 too_long = refl
 
--- where they are not asked for, compressed sections are refused
+-- Compressed sections are refused if the caller does not want them inflated.
 not_asked : says (any_image false (with_two (of_flags (codes ".debug_info") 0x800 chdr) (plain [] 1 []))) ≡ Err (Compressed 2)
 unfolding full_image_computes elf_builds
 not_asked = refl

@@ -20,7 +20,7 @@ debug_sections = Info ∷ Abbrev ∷ Line ∷ LineStr ∷ Str ∷ StrOffsets ∷
 abbrev pub older_name : List ℕ → List ℕ
 older_name name = codes ".z" ++ drop 1 name
 
--- the section has this name in the older spelling
+-- the section has the older spelling of this name
 unfoldable pub is_older : List ℕ → Sect → SectionHeader → Bool
 is_older table which s = is_named table (older_name (name_of which)) s
 
@@ -32,7 +32,7 @@ is_called table which s = is_named table (name_of which) s || is_older table whi
 unfoldable pub is_debug : List ℕ → SectionHeader → Bool
 is_debug table s = list_any (λ which. is_called table which s) debug_sections
 
--- the section is one of debugging information, in the older spelling
+-- the section is one of debugging information, and its name has the older spelling
 unfoldable pub is_spelled_older : List ℕ → SectionHeader → Bool
 is_spelled_older table s = list_any (λ which. is_older table which s) debug_sections
 
@@ -40,7 +40,8 @@ is_spelled_older table s = list_any (λ which. is_older table which s) debug_sec
 unfoldable pub is_read_full : List ℕ → SectionHeader → Bool
 is_read_full table s = is_read table s || is_debug table s
 
--- the section is one of debugging information and compressed, by its flag or its spelling
+-- the section is one of debugging information and compressed: it has the flag, or its name has the
+-- older spelling
 unfoldable pub is_packed : List ℕ → SectionHeader → Bool
 is_packed table s = is_debug table s && (has_flag shf_compressed s || is_spelled_older table s)
 

@@ -1,4 +1,5 @@
--- The image of a file whose sections of debugging information may be compressed: the image of `elf_sections`, with these changes.
+-- The image of a file whose sections of debugging information may be compressed. It differs from
+-- the image of `elf_sections` as follows.
 use Rattle.std.specs.Prelude.{ℕ, ◌^◌, ◌&&◌, Bool, true, false, List, [], Option, Some, None, Result, map, find, position, is_none, nat_lt, unwrap_or, if◌then◌else◌}
 use Rattle.std.specs.List.{sum_by}
 use Rattle.std.specs.Option.{option_map, option_or}
@@ -19,11 +20,13 @@ use Rattle.full_image.specs.Compressed.{Stream, is_called, is_packed, is_read_fu
 unfoldable pub is_cut : List ℕ → List ℕ → SectionHeader → Bool
 is_cut file table s = is_read_full table s && is_none (content file s)
 
--- the section is compressed and not inflated: one of debugging information without zlib data, or another one that is read and has the flag
+-- the section is compressed but cannot be inflated: it is one of debugging information without zlib
+-- data, or another one that is read and has the flag
 unfoldable pub is_refused : List ℕ → List ℕ → SectionHeader → Bool
 is_refused file table s = if is_packed table s then is_none (stream_in file s) else is_read table s && has_flag shf_compressed s
 
--- the first fault of the sections: the first section that extends past the end of the file, else the first that is compressed and not inflated
+-- the first fault of the sections: that of the first section that extends past the end of the file;
+-- if there is none, that of the first one that is compressed but cannot be inflated
 unfoldable pub sections_fault : List ℕ → Option ElfFault
 sections_fault file = option_or
     (option_map SectionBytes (position (is_cut file (names file)) (sections file)))
@@ -37,7 +40,7 @@ abbrev pub size_of : Option Stream → ℕ
 size_of None = 0
 size_of (Some s) = s.size
 
--- all data together inflates to more bytes than a file may have
+-- all data together inflates to more bytes than a file may have (2^29)
 unfoldable pub are_too_long : List (Option Stream) → Bool
 are_too_long all = nat_lt (2 ^ 29) (sum_by size_of all)
 
@@ -78,7 +81,8 @@ full_sections file = record {
   debug_frame = full_part file DebugFrame;
 }
 
--- the first fault: the twelve of an image in their order; then that the sections inflate to too many bytes; then that the data of one is bad
+-- the first fault of these: the twelve of an image in their order; that all data inflates to too
+-- many bytes; that the data of a section is bad
 unfoldable pub full_fault : List ℕ → Option ElfFault
 full_fault file = option_or (header_fault file) (option_or (names_fault file) (option_or (sections_fault file) (option_or (loaded_fault file)
     (option_or (fault_if (are_too_long (streams file)) InflatedTooLong None) (inflate_fault (map outcome_of (streams file)))))))
@@ -87,7 +91,7 @@ full_fault file = option_or (header_fault file) (option_or (names_fault file) (o
 unfoldable pub full_image : List ℕ → Result ImageParts ElfFault
 full_image file = image_by (full_fault file) (with_sections (full_sections file) (parts_of file))
 
--- the image of a file; its compressed sections are inflated if this is true, and else refused
+-- the image of a file, if its compressed sections are inflated (true) or refused (false)
 abbrev pub any_image : Bool → List ℕ → Result ImageParts ElfFault
 any_image true file = full_image file
 any_image false file = image file

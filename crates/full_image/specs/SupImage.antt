@@ -10,8 +10,9 @@ use Rattle.elf_sections.specs.declared.fault.ElfFault.{ElfFault}
 use Rattle.elf_sections.specs.declared.fault.ElfFault.TheVariants.{InflatedTooLong}
 use Rattle.full_image.specs.FullImage.{sections_fault, streams, are_too_long, outcome_of, inflate_fault, full_sections}
 
--- the first fault: of the header, for a file of any type; of the names and of the sections; then that the sections inflate to too many bytes; then
--- that the data of a section is bad. A supplementary file needs neither segments nor symbols nor code
+-- the first fault of these: one of the header, for a file of any type; of the names; of the
+-- sections; that all data inflates to too many bytes; that the data of a section is bad. A
+-- supplementary file needs neither segments nor symbols nor code
 unfoldable pub sup_fault : List ℕ → Option ElfFault
 sup_fault file = option_or (sup_header_fault file) (option_or (names_fault file) (option_or (sections_fault file)
     (option_or (fault_if (are_too_long (streams file)) InflatedTooLong None) (inflate_fault (map outcome_of (streams file))))))

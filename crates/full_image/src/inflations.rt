@@ -14,7 +14,8 @@ use std::thread::Threads;
 use sym_edges::{ByteRun, ListOf, OutOfMemory, Stop};
 use unit_workers::{Crew, NoGate, UnitJob};
 
-/// What the data of each section inflates to, by the number of the section: no bytes if it is not compressed, `None` if the data is bad.
+/// What the data of each section inflates to, by the number of the section. It is no bytes if the
+/// section is not compressed, and `None` if the data is bad.
 pub type Inflations = ListOf<Option<ByteRun>>;
 
 /// What compressed data inflates to.
@@ -29,7 +30,7 @@ fn inflate_one(alloc: Global, stream: &Stream<'_>) -> Result<Option<ByteRun>, Ou
     }
 }
 
-/// The same for a section that is not compressed.
+/// The outcome for a section that is not compressed: no bytes.
 #[tactic(auto, unfolding(crate::specs::FullImage::outcome_of))]
 fn nothing(alloc: Global) -> Option<ByteRun>
     ensures { result ≡ outcome_of None }
@@ -37,7 +38,7 @@ fn nothing(alloc: Global) -> Option<ByteRun>
     Some(ByteRun::of(Vec::new(alloc)))
 }
 
-/// The data of sections, in the order in which it is inflated.
+/// The job of the workers: to inflate the data of sections, in this order.
 #[derive(Drop)]
 struct Inflater<'s, 'a> {
     streams: &'s [Option<Stream<'a>>],
@@ -103,7 +104,7 @@ fn longest(streams: &[Option<Stream<'_>>]) -> usize
     place.min(streams.len())
 }
 
-/// The data from a section on, and then the data before it.
+/// The list of data from one place on, and then the members before this place.
 fn turned<'a>(
     alloc: Global,
     streams: &[Option<Stream<'a>>],
@@ -119,7 +120,7 @@ fn turned<'a>(
     Ok(turned)
 }
 
-/// The outcomes from a place on, and then those before it.
+/// Undoes `turned`: the outcomes from a place on, and then those before it.
 fn turned_back(
     mut outs: Vec<Option<ByteRun>>,
     place: usize,
@@ -132,7 +133,7 @@ fn turned_back(
     Ok(ordered)
 }
 
-/// Inflates data of sections, the longest first.
+/// Inflates the data of sections, beginning with the one that inflates to the most bytes.
 fn inflate_streams<R: Threads + Sync>(
     crew: &Crew<'_, R>,
     streams: &[Option<Stream<'_>>],
@@ -148,7 +149,8 @@ fn inflate_streams<R: Threads + Sync>(
     Ok(Inflations::of(turned_back(outs, place)?))
 }
 
-/// Inflates the compressed sections of a file by a crew of workers, the longest first.
+/// Inflates the compressed sections of a file by a crew of workers, beginning with the one that
+/// inflates to the most bytes.
 #[tactic(auto, unfolding(crate::specs::FullImage::outcomes_of))]
 pub fn inflate_sections<R: Threads + Sync>(
     crew: &Crew<'_, R>,
@@ -159,7 +161,7 @@ pub fn inflate_sections<R: Threads + Sync>(
     inflate_streams(crew, packed.streams())
 }
 
-/// The same for a supplementary file.
+/// Inflates the compressed sections of a supplementary file in the same way.
 #[tactic(auto, unfolding(crate::specs::FullImage::outcomes_of))]
 pub fn inflate_supplement<R: Threads + Sync>(
     crew: &Crew<'_, R>,

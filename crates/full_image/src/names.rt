@@ -26,7 +26,7 @@ const DEBUG: [Sect; 10] = [
 /// `SHF_COMPRESSED`: the section begins with a compression header.
 const SHF_COMPRESSED: u64 = 0x800;
 
-/// A section's name, zero-ended.
+/// A section's name with a zero byte after it.
 fn ended_name(which: Sect) -> &'static [u8]
     ensures { result.now ≡ name_of which ++ 0 ∷ [] }
 {
@@ -46,7 +46,7 @@ fn ended_name(which: Sect) -> &'static [u8]
     }
 }
 
-/// The same in the older spelling.
+/// The older spelling of a section's name with a zero byte after it.
 fn ended_older(which: Sect) -> &'static [u8]
     ensures { result.now ≡ older_name (name_of which) ++ 0 ∷ [] }
 {
@@ -110,7 +110,7 @@ pub fn is_flagged(section: &SectionHeader) -> bool
     section.flags & SHF_COMPRESSED != 0
 }
 
-/// Whether it is a section of debugging information whose bytes are compressed.
+/// Whether a section is one of debugging information and compressed.
 #[tactic(auto, unfolding(crate::specs::Compressed::is_packed))]
 pub fn is_packed(table: &[u8], section: &SectionHeader) -> bool
     ensures { result ≡ is_packed table.now section.now }

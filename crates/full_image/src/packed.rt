@@ -22,7 +22,8 @@ use std::alloc::Global;
 use std::marker::Model;
 use sym_edges::{Part, Sect, Stop};
 
-/// A file without fault up to the data of its compressed sections.
+/// What is known of a file before its compressed sections are inflated, if it has had no fault so
+/// far.
 #[derive(Drop)]
 pub struct PackedImage<'a> {
     full: bool,
@@ -45,7 +46,7 @@ impl<'a> Model for PackedImage<'a> {
     ghost invariant = { λ p. IsFront p.full p.tables p.plain (map (option_map stream_view) p.streams.items) };
 }
 
-/// The first section of a name, in either spelling.
+/// The number of the first section with this name, in either spelling.
 fn find_called(names: &[u8], sections: &[SectionHeader], which: Sect) -> Option<usize>
     ensures { result ≡ position (is_called names.now which) sections.now }
 {
@@ -54,7 +55,7 @@ fn find_called(names: &[u8], sections: &[SectionHeader], which: Sect) -> Option<
         .position(|section| is_called(names, section, which))
 }
 
-/// The bytes of a section, as they are or inflated.
+/// The bytes of a section, inflated if it is compressed.
 #[tactic(auto, unfolding(elf_sections::specs::Sections::bytes_of))]
 fn bytes_at<'a>(
     tables: &Tables<'a>,
@@ -73,7 +74,7 @@ fn bytes_at<'a>(
     }
 }
 
-/// The first section of a name, in either spelling, with its bytes.
+/// The bytes and the address of the first section with this name, in either spelling.
 #[tactic(auto, using(crate::proofs::PartLemmas::part_none))]
 fn full_part<'a>(tables: &Tables<'a>, inflated: &'a Inflations, which: Sect) -> Part<'a>
     requires { inflated.now ≡ outcomes_of (record { full = true; file = tables.now }) }
@@ -114,14 +115,15 @@ fn full_sections<'a>(tables: &Tables<'a>, inflated: &'a Inflations) -> DebugPart
     }
 }
 
-/// The first section whose data is bad.
+/// The number of the first section whose data is bad.
 fn first_bad(inflated: &Inflations) -> Option<usize>
     ensures { result ≡ position is_none inflated.now }
 {
     inflated.as_slice().iter().position(|out| out.is_none())
 }
 
-/// The image of a file whose compressed sections were inflated.
+/// The image of a file with its inflated sections, or the fault of the first section whose data is
+/// bad.
 pub fn inflate_parts<'a>(
     tables: &Tables<'a>,
     plain: Image<'a>,
@@ -141,7 +143,7 @@ pub fn inflate_parts<'a>(
     }
 }
 
-/// What is read of a file whose tables have no fault.
+/// Reads a file whose tables have no fault, up to the data of its compressed sections.
 #[tactic(auto, using(crate::proofs::FrontLemmas::refused_long, crate::proofs::FrontLemmas::is_front))]
 fn pack_tables<'a>(
     alloc: Global,
@@ -195,7 +197,8 @@ impl<'a> PackedImage<'a> {
         self.streams.as_slice()
     }
 
-    /// The image, whose parts are slices of the file and of the inflated sections; or the fault of the first section whose data is bad.
+    /// The image, or the fault of the first section whose data is bad. Its parts are slices of the
+    /// file and of the inflated sections.
     #[tactic(auto, using(crate::proofs::FrontLemmas::plain_image, crate::proofs::FrontLemmas::few_outcomes))]
     pub fn unpack(self, inflated: &'a Inflations) -> Result<Image<'a>, ElfFault>
         requires { inflated.now ≡ outcomes_of self }

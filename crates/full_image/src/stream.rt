@@ -9,7 +9,7 @@ ghost use Rattle.full_image.specs.StreamView.{stream_view};
 use crate::names::{is_flagged, is_packed};
 use elf_sections::{SectionHeader, read_content};
 
-/// The bytes of an `Elf64_Chdr`: `ch_type`, a reserved word, `ch_size`, `ch_addralign`.
+/// The size in bytes of an `Elf64_Chdr`: `ch_type`, a reserved word, `ch_size` and `ch_addralign`.
 const COMPRESSION_HEADER: usize = 24;
 
 /// `ELFCOMPRESS_ZLIB`
@@ -31,7 +31,7 @@ fn front_u32(bytes: &[u8]) -> u32
     u32::from_le_bytes([bytes[0], bytes[1], bytes[2], bytes[3]])
 }
 
-/// The number in the eight bytes after the first eight.
+/// The number in the second eight bytes.
 #[tactic(auto, unfolding(elf_sections::specs::Numbers::u64_at, leb_cursor::specs::Readings::fixed_sum))]
 fn second_u64(bytes: &[u8]) -> u64
     requires { 16 ≤ length bytes.now }
@@ -53,7 +53,8 @@ fn front_high_u64(bytes: &[u8]) -> u64
     ])
 }
 
-/// The data after a compression header.
+/// The data after a compression header, or `None` if the header does not fit or is not that of
+/// zlib.
 #[tactic(auto, unfolding(crate::specs::Compressed::behind_header))]
 fn behind_header(content: &[u8]) -> Option<Stream<'_>>
     ensures { option_map stream_view result ≡ behind_header content.now }
@@ -67,7 +68,7 @@ fn behind_header(content: &[u8]) -> Option<Stream<'_>>
     })
 }
 
-/// The data after `ZLIB` and its size.
+/// The data after `ZLIB` and its size, or `None` if these are not there.
 #[tactic(auto, unfolding(crate::specs::Compressed::behind_magic))]
 fn behind_magic(content: &[u8]) -> Option<Stream<'_>>
     ensures { option_map stream_view result ≡ behind_magic content.now }
@@ -81,7 +82,7 @@ fn behind_magic(content: &[u8]) -> Option<Stream<'_>>
     })
 }
 
-/// The data of a section by its form, if it is there.
+/// The data of a compressed section, after the header that its form has.
 #[tactic(auto, unfolding(crate::specs::Compressed::stream_in, elf_sections::specs::Sections::bytes_of))]
 pub fn stream_in<'a>(file: &'a [u8], section: &SectionHeader) -> Option<Stream<'a>>
     ensures { option_map stream_view result ≡ stream_in file.now section.now }

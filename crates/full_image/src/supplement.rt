@@ -17,7 +17,8 @@ use std::alloc::Global;
 use std::marker::Model;
 use sym_edges::Stop;
 
-/// A supplementary file without fault up to the data of its compressed sections.
+/// What is known of a supplementary file before its compressed sections are inflated, if it has had
+/// no fault so far.
 #[derive(Drop)]
 pub struct PackedSup<'a> {
     tables: Tables<'a>,
@@ -38,7 +39,8 @@ impl<'a> Model for PackedSup<'a> {
     ghost invariant = { λ p. IsSupFront p.tables p.plain (map (option_map stream_view) p.streams.items) };
 }
 
-/// What is read of a supplementary file whose tables have no fault.
+/// Reads a supplementary file whose tables have no fault, up to the data of its compressed
+/// sections.
 #[tactic(auto, using(crate::proofs::SupFrontLemmas::refused_long, crate::proofs::SupFrontLemmas::is_front))]
 fn pack_tables<'a>(alloc: Global, tables: Tables<'a>) -> Result<PackedSup<'a>, Stop<ElfFault>>
     requires { option_or (sup_header_fault tables) (names_fault tables) ≡ None }
@@ -78,7 +80,8 @@ impl<'a> PackedSup<'a> {
         self.streams.as_slice()
     }
 
-    /// The image, whose parts are slices of the file and of the inflated sections; or the fault of the first section whose data is bad.
+    /// The image, or the fault of the first section whose data is bad. Its parts are slices of the
+    /// file and of the inflated sections.
     #[tactic(auto, using(crate::proofs::FrontLemmas::few_outcomes))]
     pub fn unpack(self, inflated: &'a Inflations) -> Result<Image<'a>, ElfFault>
         requires { inflated.now ≡ outcomes_of (record { full = true; file = self }) }

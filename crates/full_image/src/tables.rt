@@ -1,4 +1,4 @@
-//! What is found in the section headers before anything is inflated.
+//! What the section headers say before anything is inflated.
 ghost use Rattle.std.specs.Prelude.{◌≡◌, ◌^◌, ◌<◌, position, map, length, IfOk};
 ghost use Rattle.std.specs.Option.{option_map};
 ghost use Rattle.full_image.specs.Compressed.{stream_of};
@@ -46,7 +46,8 @@ fn first_refused(file: &[u8], table: &[u8], sections: &[SectionHeader]) -> Optio
         .position(|section| is_refused(file, table, section))
 }
 
-/// The first section that is read and extends past the end of the file, else the first that is compressed and not inflated.
+/// The first fault of the sections: that of the first section that is read and extends past the end
+/// of the file; if there is none, that of the first one that is compressed but cannot be inflated.
 #[tactic(auto, unfolding(crate::specs::FullImage::sections_fault))]
 pub fn find_section_fault(tables: &Tables<'_>) -> Option<ElfFault>
     ensures { result ≡ sections_fault tables.now }
@@ -67,7 +68,8 @@ pub fn find_section_fault(tables: &Tables<'_>) -> Option<ElfFault>
     }
 }
 
-/// The first fault of the sections. If `full`, compressed ones are inflated, else they are refused.
+/// The first fault of the sections. If `full`, compressed sections are inflated, otherwise they are
+/// refused.
 pub fn find_fault(tables: &Tables<'_>, full: bool) -> Option<ElfFault>
     ensures { result ≡ tables_fault full tables.now }
 {
@@ -93,7 +95,7 @@ fn collect_streams<'a>(
     Ok(found)
 }
 
-/// The data of each section that is compressed.
+/// The data of each compressed section.
 #[tactic(auto, unfolding(crate::specs::FullImage::streams))]
 pub fn find_streams<'a>(
     alloc: Global,
@@ -105,7 +107,7 @@ pub fn find_streams<'a>(
     collect_streams(alloc, tables.file(), tables.names(), tables.sections())
 }
 
-/// The same if compressed sections are inflated, else nothing.
+/// The data of each compressed section if these are inflated, otherwise an empty list.
 pub fn streams_by<'a>(
     alloc: Global,
     tables: &Tables<'a>,
@@ -121,7 +123,7 @@ pub fn streams_by<'a>(
     }
 }
 
-/// Whether all data inflates to more bytes than a file may have.
+/// Whether all data together inflates to more bytes than a file may have.
 #[tactic(auto, using(crate::proofs::SizeLemmas::size_more, crate::proofs::SizeLemmas::size_past, crate::proofs::SizeLemmas::size_within))]
 pub fn are_too_long(streams: &[Option<Stream<'_>>]) -> bool
     ensures { result ≡ are_too_long (map (option_map stream_view) streams.now) }

@@ -1,4 +1,4 @@
--- What a proof unfolds to compute the definitions of leb_cursor where the input is written out.
+-- The definitions of leb_cursor that a proof unfolds to compute a worked example.
 use Rattle.std.specs.Prelude.{⊤}
 use Rattle.leb_cursor.specs.Ahead.{passed}
 use Rattle.leb_cursor.specs.Texts.{front_text}

@@ -1,4 +1,4 @@
--- The sum of a LEB128's groups, group by group.
+-- The sum of the groups of a LEB128, computed group by group.
 use Rattle.std.proofs.Common.{lit<, add-one, ◌≡◌, ◌<◌, ◌≤◌, ◌+◌, ◌*◌, ◌^◌, ◌%◌, ℕ, zero, suc, List, length, take, get_or, ltb, min, Some, None, sym, ap, ◌∙◌, arith, below_more, refl}
 use Rattle.std.specs.Option.{option_map}
 use Rattle.std.proofs.lemmas.Bool.{lt-ltb, le-ltb}
@@ -19,13 +19,13 @@ pub leb_sum_one : (bytes : List ℕ) (byte : ℕ) → byte ≡ get_or bytes 0 0 
 unfolding leb_sum
 leb_sum_one bytes byte is small = omega arith
 
--- the weight of a group, as the code shifts it
+-- A shift by 7 bits for each of k groups is a product with 128^k.
 weight : (k : ℕ) → 2 ^ (7 * k) ≡ 128 ^ k
 weight zero = refl
 weight (suc k) =
     ap (λ (n : ℕ). 2 ^ n) (mul-suc 7 k) ∙ pow-add 2 (7 * k) 7 ∙ ap (λ (n : ℕ). n * 128) (weight k) ∙ sym (pow-suc 128 k)
 
--- one, shifted after so many groups
+-- One, shifted by 7 bits for each group, is 128^count.
 pub one_weight : (count : ℕ) → count ≤ 9 → (1 * 2 ^ (7 * count)) % 2 ^ 64 ≡ 128 ^ count
 one_weight count few = one_shl (7 * count) 64 (omega arith) ∙ weight count
 
@@ -65,7 +65,7 @@ pub so_far_none : (bytes : List ℕ) → SoFar 0 0 bytes
 so_far_none bytes =
     record { there = omega arith; each = λ k below. absurd (omega arith); sum_is = leb_sum_none bytes; below = lit< tt }
 
--- the sum with the group of the next byte, as the code writes it
+-- The code's sum with the group of the next byte is the defined sum of one group more.
 sum_more : (sum k : ℕ) (bytes : List ℕ) → SoFar sum k bytes → k < 9 → sum + (get_or bytes k 0 % 128 * 2 ^ (7 * k)) % 2 ^ 64 ≡ leb_sum (k + 1) bytes
 sum_more sum k bytes so_far few =
     rw (shifted (get_or bytes k 0 % 128) k (omega arith) few, so_far.sum_is) (sym (leb_sum_more k bytes))

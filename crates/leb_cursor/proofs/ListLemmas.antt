@@ -1,27 +1,27 @@
--- Lists of what stands ahead: they follow their first reading, and how a loop makes them.
+-- A list of members is given by its first reading; and the steps of a loop that reads such a list.
 use Rattle.std.proofs.Common.{◌≡◌, ◌<◌, ◌≤◌, ◌+◌, ℕ, zero, suc, Bool, true, false, cond, List, [], ◌∷◌, ◌++◌, length, Option, None, Some, Result, Ok, Err, refl, sym, ap, subst, ◌∙◌, arith, append_assoc, append-nil}
 use Rattle.sym_edges.specs.Results.{◌>>=◌}
 use Rattle.leb_cursor.specs.Ahead.{Ahead}
 use Rattle.leb_cursor.specs.Passes.{Passes}
 use Rattle.leb_cursor.specs.Lists.{list_by, list_in, list_at, list_cases, GoesOn}
 
--- a reading that passes so many bytes passes fewer
+-- A reading that passes at least `more` bytes passes at least any smaller number of bytes.
 pub weaker : {A E : Type 0} (reading : Result (A × Ahead) E) (more least : ℕ) (c : Ahead) → least ≤ more → Passes more c reading → Passes least c reading
 weaker (Ok x) more least c fewer goes = (omega (arith, goes.0), goes.1)
 weaker (Err fault) more least c fewer goes = tt
 
--- either of two readings
+-- If both readings pass at least `least` bytes, so does the one that the test chooses.
 pub either_passes : {A E : Type 0} (test : Bool) (given other : Result (A × Ahead) E) (least : ℕ) (c : Ahead) → Passes least c given → Passes least c other → Passes least c (cond test given other)
 either_passes true given other least c first second = first
 either_passes false given other least c first second = second
 
--- what comes later counts only where a member was read, from where fewer bytes are left
+-- Two ways to read the later members give the same list if they agree where fewer bytes are left.
 same_by : {A E : Type 0} (first : Result (Option A × Ahead) E) (c : Ahead) (one two : Ahead → Result (List A × Ahead) E) → GoesOn c first → ((d : Ahead) → length d.bytes + 1 ≤ length c.bytes → one d ≡ two d) → (first >>= λ x. list_by x.0 x.1 (one x.1)) ≡ (first >>= λ x. list_by x.0 x.1 (two x.1))
 same_by (Ok (None, d)) c one two goes later = refl
 same_by (Ok (Some x, d)) c one two goes later = ap (λ r. r >>= λ rest. Ok (x ∷ rest.0, rest.1)) (later d goes.0)
 same_by (Err fault) c one two goes later = refl
 
--- more readings than bytes change nothing
+-- More readings than there are bytes give the same list.
 enough : {A E : Type 0} (read : Ahead → Result (Option A × Ahead) E) → ((c : Ahead) → GoesOn c (read c)) → (m n : ℕ) (c : Ahead) → length c.bytes < m → length c.bytes < n → list_in read m c ≡ list_in read n c
 unfolding list_in
 enough read goes zero n c first second = absurd (omega arith)
@@ -29,13 +29,13 @@ enough read goes (suc m) zero c first second = absurd (omega arith)
 enough read goes (suc m) (suc n) c first second =
     same_by (read c) c (list_in read m) (list_in read n) (goes c) (λ d shorter. enough read goes m n d (omega arith) (omega arith))
 
--- a list by its first reading
+-- A list is given by its first reading.
 pub list_follows : {A E : Type 0} (read : Ahead → Result (Option A × Ahead) E) → ((c : Ahead) → GoesOn c (read c)) → (c : Ahead) → list_at read c ≡ list_cases read c
 unfolding list_at list_in
 list_follows read goes c =
     same_by (read c) c (list_in read (length c.bytes)) (list_at read) (goes c) (λ d shorter. enough read goes (length c.bytes) (suc (length d.bytes)) d (omega arith) (omega arith))
 
--- how far a list goes
+-- A list never goes past the end of the bytes.
 member_passes : {A E : Type 0} (later : Result (List A × Ahead) E) (x : A) (c d : Ahead) → length d.bytes ≤ length c.bytes → d.at + length d.bytes ≡ c.at + length c.bytes → Passes 0 d later → Passes 0 c (later >>= λ rest. Ok (x ∷ rest.0, rest.1))
 member_passes (Ok rest) x c d shorter same passes = (omega (arith, passes.0), passes.1 ∙ same)
 member_passes (Err fault) x c d shorter same passes = tt
@@ -54,7 +54,7 @@ pub list_passes : {A E : Type 0} (read : Ahead → Result (Option A × Ahead) E)
 unfolding list_at
 list_passes read goes c = in_passes read goes (suc (length c.bytes)) c
 
--- members that were read, and those still to come
+-- The members that were read, followed by the members that are still to be read.
 abbrev pub behind : {A E : Type 0} → List A → Result (List A × Ahead) E → Result (List A × Ahead) E
 behind done later = later >>= λ rest. Ok (done ++ rest.0, rest.1)
 
@@ -66,7 +66,7 @@ behind_more : {A E : Type 0} (done : List A) (x : A) (later : Result (List A × 
 behind_more done x (Ok rest) = ap (λ xs. Ok (xs, rest.1)) (sym (append_assoc done (x ∷ []) rest.0))
 behind_more done x (Err fault) = refl
 
--- a loop's steps, where a reading goes on: one member more, the end, and a refusal
+-- The steps of a loop that reads a list: a member is added, the list ends, or a reading fails.
 pub list_more : {A E : Type 0} (read : Ahead → Result (Option A × Ahead) E) → ((c : Ahead) → GoesOn c (read c)) → (done more : List A) (x : A) (c d : Ahead) → Ok (Some x, d) ≡ read c → more ≡ done ++ x ∷ [] → behind done (list_at read c) ≡ behind more (list_at read d)
 list_more read goes done more x c d is added =
     ap (behind done) (list_follows read goes c ∙ ap (λ first. first >>= λ y. list_by y.0 y.1 (list_at read y.1)) (sym is))
@@ -82,12 +82,12 @@ pub list_refused : {A E : Type 0} (read : Ahead → Result (Option A × Ahead) E
 list_refused read goes done c fault is =
     ap (behind done) (list_follows read goes c ∙ ap (λ first. first >>= λ y. list_by y.0 y.1 (list_at read y.1)) (sym is))
 
--- a reading that passes so many bytes goes on
+-- A reading that passes at least one byte goes on.
 pub goes_of : {A E : Type 0} (reading : Result (Option A × Ahead) E) (c : Ahead) → Passes 1 c reading → GoesOn c reading
 goes_of (Ok (None, d)) c passes = (omega (arith, passes.0), passes.1)
 goes_of (Ok (Some x, d)) c passes = passes
 goes_of (Err fault) c passes = tt
 
--- a member was read from where fewer bytes are left
+-- After a member is read, fewer bytes are left.
 pub shorter_by : {A E : Type 0} (reading : Result (Option A × Ahead) E) (x : A) (c d : Ahead) → GoesOn c reading → Ok (Some x, d) ≡ reading → length d.bytes < length c.bytes
 shorter_by reading x c d goes is = let both = subst (GoesOn c) (sym is) goes in omega (arith, both.0)

@@ -1,4 +1,4 @@
--- The first place of a list whose number passes a test, as std's `position` gives it.
+-- The index of the first number in a list that passes a test is what std's `position` gives.
 use Rattle.std.proofs.Common.{◌≡◌, ◌<◌, ℕ, Bool, true, false, List, length, get_or, None, Some, arith}
 use Rattle.std.proofs.lemmas.List.Sums.{position_or_len_is}
 use Rattle.std.proofs.lemmas.Bool.Decides.{nat_tests}

@@ -1,4 +1,4 @@
--- Each answer of a reading of a signed LEB128.
+-- The results of reading a signed LEB128, case by case.
 use Rattle.std.proofs.Common.{lit<, lit≤, ◌≡◌, ◌<◌, ◌≤◌, ◌+◌, ◌-◌, ◌^◌, ℕ, ℤ, pos, negsuc, ◌-ℤ◌, Bool, true, false, cond, ltb, List, length, drop, get_or, min, Option, Some, None, Ok, Err, refl, sym, ap, subst, ◌∙◌, arith, ⊎_elim}
 use Rattle.std.proofs.lemmas.Bool.{cases_lt, lt-ltb, le-ltb, cond-true, cond-false}
 use Rattle.std.proofs.lemmas.Int.{ints}
@@ -12,7 +12,7 @@ use Rattle.leb_cursor.proofs.AheadLemmas.{moved, same_ahead}
 use Rattle.leb_cursor.proofs.GroupLemmas.{leb_sum_one, leb_length_some, groups_fit}
 use Rattle.leb_cursor.proofs.TenthLemmas.{ten_sum, ten_ends, open_short, open_long, sum_small}
 
--- a difference below zero, and one that takes nothing
+-- A difference below zero, and a difference whose second number is 0.
 below_zero : (a b : ℕ) → a < b → pos a -ℤ pos b ≡ negsuc (b - a - 1)
 below_zero a b lt = omega (arith, ints)
 
@@ -23,7 +23,7 @@ sleb_is : (c : Ahead) (count : Option ℕ) → leb_length c.bytes ≡ count → 
 unfolding sleb_at
 sleb_is c count is = ap (sleb_by c) is
 
--- the value of so many groups, by bit 6 of the last byte
+-- The value of `count` groups, if bit 6 of the last byte is clear and if it is set.
 sum_plain : (count : ℕ) (bytes : List ℕ) → get_or bytes (count - 1) 0 < 64 → sleb_sum count bytes ≡ pos (leb_sum count bytes)
 unfolding sleb_sum
 sum_plain count bytes clear =
@@ -41,14 +41,14 @@ sleb_fits c value count is fits =
 sleb_leaves : (c : Ahead) (value : ℤ) (count : ℕ) → sleb_sum count c.bytes ≡ value → fits_i64 value ≡ false → sleb_by c (Some count) ≡ Err (LebLong c.at)
 sleb_leaves c value count is leaves = cond-false _ _ _ (ap fits_i64 is ∙ leaves)
 
--- a sum of groups, and one with 128 to their count taken away, are within an i64
+-- A sum below 2^63 fits into an i64, and so does a sum less a power of 128 above it.
 fits_plain : (sum : ℕ) → sum < 2 ^ 63 → fits_i64 (pos sum) ≡ true
 fits_plain sum small = lt-ltb _ _ small
 
 fits_lessened : (sum whole : ℕ) → sum < whole → whole ≤ 2 ^ 63 → fits_i64 (pos sum -ℤ pos whole) ≡ true
 fits_lessened sum whole below small = ap fits_i64 (below_zero sum whole below) ∙ lt-ltb _ _ (omega arith)
 
--- the value of one byte
+-- The value of a LEB128 of one byte.
 sum_first : (bytes : List ℕ) (byte : ℕ) → byte ≡ get_or bytes 0 0 → byte < 128 → sleb_sum 1 bytes ≡ pos byte -ℤ pos (cond (ltb byte 64) 0 128)
 unfolding sleb_sum
 sum_first bytes byte is small = rw (leb_sum_one bytes byte is small, ← is) refl
@@ -79,7 +79,7 @@ sleb_short c sum h short =
     let e = open_short c sum h short in
     sleb_is c None e.0 ∙ ap Err e.1
 
--- a tenth byte of 0 adds nothing
+-- A tenth byte of 0 adds nothing.
 pub sleb_zero : (c : Ahead) (sum : ℕ) → SoFar sum (min 9 (length c.bytes)) c.bytes → 10 ≤ length c.bytes → get_or c.bytes 9 0 ≡ 0 → sleb_at c ≡ Ok (pos sum, passed 10 c)
 sleb_zero c sum h enough is =
     let total = ten_sum c sum h enough in
@@ -87,7 +87,7 @@ sleb_zero c sum h enough is =
     sleb_is c (Some 10) (ten_ends c sum h enough (omega arith))
     ∙ sleb_fits c (pos sum) 10 (sum_plain 10 c.bytes (omega arith) ∙ ap pos same) (fits_plain sum (sum_small c sum h enough))
 
--- a tenth byte with all seven bits takes 2^63 away
+-- A tenth byte of 127 subtracts 2^63.
 pub sleb_ones : (c : Ahead) (sum : ℕ) → SoFar sum (min 9 (length c.bytes)) c.bytes → 10 ≤ length c.bytes → get_or c.bytes 9 0 ≡ 127 → sleb_at c ≡ Ok (pos sum -ℤ pos (128 ^ 9), passed 10 c)
 sleb_ones c sum h enough is =
     let total = ten_sum c sum h enough in
@@ -97,7 +97,7 @@ sleb_ones c sum h enough is =
     ∙ sleb_fits c (pos sum -ℤ pos (128 ^ 9)) 10 (sum_lessened 10 c.bytes (omega arith) ∙ value)
     (fits_lessened sum (128 ^ 9) small (lit≤ tt))
 
--- any other tenth byte makes the number too long
+-- Any other tenth byte makes the number too long.
 pub sleb_long : (c : Ahead) (sum : ℕ) → SoFar sum (min 9 (length c.bytes)) c.bytes → 10 ≤ length c.bytes → (get_or c.bytes 9 0 ≡ 0 → ⊥) → (get_or c.bytes 9 0 ≡ 127 → ⊥) → sleb_at c ≡ Err (LebLong c.at)
 sleb_long c sum h enough zero ones =
     let total = ten_sum c sum h enough in
@@ -118,7 +118,7 @@ sleb_long c sum h enough zero ones =
     (cases_lt (get_or c.bytes 9 0) 128))
     (cases_lt (get_or c.bytes 9 0) 64)
 
--- a first byte without bit 7 is the number, less 128 where it has bit 6
+-- A first byte without bit 7 is the number, minus 128 if it has bit 6.
 pub sleb_first : (place byte : ℕ) (bytes rest : List ℕ) (c : Ahead) → record { bytes = drop place bytes; at = place } ≡ c → rest ≡ c.bytes → 0 < length rest → byte ≡ get_or rest 0 0 → byte < 128 → sleb_at c ≡ Ok (pos byte -ℤ pos (cond (ltb byte 64) 0 128), record { bytes = drop (place + 1) bytes; at = place + 1 })
 sleb_first place byte bytes rest c is same some first small =
     let front : byte ≡ get_or c.bytes 0 0 = first ∙ ap (λ (r : List ℕ). get_or r 0 0) same in
@@ -128,7 +128,8 @@ sleb_first place byte bytes rest c is same some first small =
     ∙ sleb_fits c _ 1 (sum_first c.bytes byte front small) (fits_byte byte small)
     ∙ ap (λ (d : Ahead). Ok (pos byte -ℤ pos (cond (ltb byte 64) 0 128), d)) (moved 1 place bytes c is)
 
--- what the front of the rest gives is what the cursor gives
+-- The value that is read from the front of the rest of the bytes is the value that the cursor
+-- reads.
 pub sleb_moved : (place : ℕ) (value : ℤ) (count : ℕ) (bytes rest : List ℕ) (c : Ahead) → record { bytes = drop place bytes; at = place } ≡ c → rest ≡ c.bytes → Ok (value, passed count (record { bytes = rest; at = place })) ≡ sleb_at (record { bytes = rest; at = place }) → sleb_at c ≡ Ok (value, record { bytes = drop (place + count) bytes; at = place + count })
 sleb_moved place value count bytes rest c is same read =
     let front : record { bytes = rest; at = place } ≡ c = same_ahead place bytes rest c is same in

@@ -1,4 +1,4 @@
--- A LEB128 whose first nine bytes, or all where there are fewer, go on: what the tenth decides.
+-- If none of the first nine bytes ends a LEB128, the tenth byte decides its result.
 use Rattle.std.proofs.Common.{lit<, ◌≡◌, ◌<◌, ◌≤◌, ◌+◌, ◌*◌, ◌^◌, ◌%◌, ℕ, length, get_or, min, Some, None, subst, arith, below_more}
 use Rattle.std.proofs.lemmas.Bool.Decides.{nat_tests}
 use Rattle.leb_cursor.specs.declared.fault.CursorFault.TheVariants.{Ends, LebLong}
@@ -7,7 +7,7 @@ use Rattle.leb_cursor.specs.Readings.{leb_sum, leb_length, leb_open}
 use Rattle.leb_cursor.specs.internal.Groups.{SoFar}
 use Rattle.leb_cursor.proofs.GroupLemmas.{leb_sum_more, leb_length_some, leb_length_none}
 
--- the sum of ten groups, of which nine are added up
+-- The sum of ten groups is the sum of nine and the tenth group.
 pub ten_sum : (c : Ahead) (sum : ℕ) → SoFar sum (min 9 (length c.bytes)) c.bytes → 10 ≤ length c.bytes → leb_sum 10 c.bytes ≡ sum + get_or c.bytes 9 0 % 128 * 2 ^ 63
 ten_sum c sum h enough =
     let nine : min 9 (length c.bytes) ≡ 9 = omega arith in
@@ -17,17 +17,17 @@ ten_sum c sum h enough =
 ten_each : (c : Ahead) (sum : ℕ) → SoFar sum (min 9 (length c.bytes)) c.bytes → 10 ≤ length c.bytes → (j : ℕ) → j < 9 → 128 ≤ get_or c.bytes j 0
 ten_each c sum h enough j below = h.each j (omega arith)
 
--- a number that ends in the tenth byte
+-- A tenth byte without bit 7 ends the number.
 pub ten_ends : (c : Ahead) (sum : ℕ) → SoFar sum (min 9 (length c.bytes)) c.bytes → 10 ≤ length c.bytes → get_or c.bytes 9 0 < 128 → leb_length c.bytes ≡ Some 10
 ten_ends c sum h enough ends =
     leb_length_some 9 c.bytes (lit< tt) (omega arith) (ten_each c sum h enough) ends
 
--- fewer than ten bytes, and all of them go on
+-- If there are fewer than ten bytes, and all have bit 7, the fault is `Ends`.
 pub open_short : (c : Ahead) (sum : ℕ) → SoFar sum (min 9 (length c.bytes)) c.bytes → length c.bytes < 10 → (leb_length c.bytes ≡ None) × (leb_open c ≡ Ends c.at)
 unfolding leb_open
 open_short c sum h short = (leb_length_none c.bytes (λ j below. h.each j (omega arith)), grind (arith, nat_tests))
 
--- ten bytes, and the tenth goes on too
+-- If the tenth byte has bit 7 too, the fault is `LebLong`.
 pub open_long : (c : Ahead) (sum : ℕ) → SoFar sum (min 9 (length c.bytes)) c.bytes → 10 ≤ length c.bytes → 128 ≤ get_or c.bytes 9 0 → (leb_length c.bytes ≡ None) × (leb_open c ≡ LebLong c.at)
 unfolding leb_open
 open_long c sum h enough going =

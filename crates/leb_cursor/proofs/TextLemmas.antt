@@ -1,4 +1,4 @@
--- The two answers of a reading of a text, from the answer of `memchr`.
+-- The two results of reading a text, given the result of `memchr`.
 use Rattle.std.proofs.Common.{◌≡◌, ◌<◌, ◌+◌, ℕ, List, length, drop, take, eqb, Option, None, Some, Ok, Err, sym, ap, subst, ◌∙◌, arith}
 use Rattle.std.proofs.lemmas.Bool.{false_from_ne_true}
 use Rattle.std.specs.List.{position}
@@ -30,7 +30,7 @@ text_is c rest found same h =
 pub text_open : (c : Ahead) (rest : List ℕ) → rest ≡ c.bytes → IsFirstByte (is_byte 0) rest None → text_at c ≡ Err (NoZero c.at)
 text_open c rest same h = text_is c rest None same h
 
--- the text is read, and the cursor's place goes on after its zero byte
+-- The text is read, and the cursor's place moves past its zero byte.
 pub text_moved : (n place : ℕ) (bytes rest : List ℕ) (c : Ahead) → record { bytes = drop place bytes; at = place } ≡ c → rest ≡ c.bytes → IsFirstByte (is_byte 0) rest (Some n) → text_at c ≡ Ok (take n rest, record { bytes = drop (place + (n + 1)) bytes; at = place + (n + 1) })
 text_moved n place bytes rest c is same h =
     let there : n < length rest = h.0.high in

@@ -1,4 +1,4 @@
--- Each answer of a reading of an unsigned LEB128.
+-- The results of reading an unsigned LEB128, case by case.
 use Rattle.std.proofs.Common.{lit<, ◌≡◌, ◌<◌, ◌≤◌, ◌+◌, ◌^◌, ℕ, List, length, drop, get_or, min, Option, Some, None, Ok, Err, sym, ap, subst, ◌∙◌, arith, ⊎_elim}
 use Rattle.std.proofs.lemmas.Bool.{cases_lt}
 use Rattle.std.proofs.lemmas.Bool.Decides.{nat_tests}
@@ -32,21 +32,21 @@ uleb_short c sum h short =
     let e = open_short c sum h short in
     uleb_is c None e.0 ∙ ap Err e.1
 
--- a tenth byte of 0 adds nothing
+-- A tenth byte of 0 adds nothing.
 pub uleb_zero : (c : Ahead) (sum : ℕ) → SoFar sum (min 9 (length c.bytes)) c.bytes → 10 ≤ length c.bytes → get_or c.bytes 9 0 ≡ 0 → uleb_at c ≡ Ok (sum, passed 10 c)
 uleb_zero c sum h enough is =
     let total = ten_sum c sum h enough in
     let small : sum < 2 ^ 63 = sum_small c sum h enough in
     uleb_is c (Some 10) (ten_ends c sum h enough (omega arith)) ∙ uleb_fits c sum 10 (omega arith) (omega arith)
 
--- a tenth byte of 1 adds 2^63
+-- A tenth byte of 1 adds 2^63.
 pub uleb_one : (c : Ahead) (sum : ℕ) → SoFar sum (min 9 (length c.bytes)) c.bytes → 10 ≤ length c.bytes → get_or c.bytes 9 0 ≡ 1 → uleb_at c ≡ Ok (sum + 2 ^ 63, passed 10 c)
 uleb_one c sum h enough is =
     let total = ten_sum c sum h enough in
     let small : sum < 2 ^ 63 = sum_small c sum h enough in
     uleb_is c (Some 10) (ten_ends c sum h enough (omega arith)) ∙ uleb_fits c (sum + 2 ^ 63) 10 (omega arith) (omega arith)
 
--- any other tenth byte makes the number too long
+-- Any other tenth byte makes the number too long.
 pub uleb_long : (c : Ahead) (sum : ℕ) → SoFar sum (min 9 (length c.bytes)) c.bytes → 10 ≤ length c.bytes → 1 < get_or c.bytes 9 0 → uleb_at c ≡ Err (LebLong c.at)
 uleb_long c sum h enough more =
     ⊎_elim
@@ -58,7 +58,7 @@ uleb_long c sum h enough more =
     uleb_is c None e.0 ∙ ap Err e.1)
     (cases_lt (get_or c.bytes 9 0) 128)
 
--- a first byte without bit 7 is the number
+-- A first byte without bit 7 is the number.
 pub uleb_first : (place byte : ℕ) (bytes rest : List ℕ) (c : Ahead) → record { bytes = drop place bytes; at = place } ≡ c → rest ≡ c.bytes → 0 < length rest → byte ≡ get_or rest 0 0 → byte < 128 → uleb_at c ≡ Ok (byte, record { bytes = drop (place + 1) bytes; at = place + 1 })
 uleb_first place byte bytes rest c is same some first small =
     let front : byte ≡ get_or c.bytes 0 0 = first ∙ ap (λ (r : List ℕ). get_or r 0 0) same in
@@ -67,7 +67,8 @@ uleb_first place byte bytes rest c is same some first small =
     let sum : byte ≡ leb_sum 1 c.bytes = sym (leb_sum_one c.bytes byte front small) in
     uleb_is c (Some 1) ends ∙ uleb_fits c byte 1 sum (omega arith) ∙ ap (λ (d : Ahead). Ok (byte, d)) (moved 1 place bytes c is)
 
--- what the front of the rest gives is what the cursor gives
+-- The value that is read from the front of the rest of the bytes is the value that the cursor
+-- reads.
 pub uleb_moved : (place sum count : ℕ) (bytes rest : List ℕ) (c : Ahead) → record { bytes = drop place bytes; at = place } ≡ c → rest ≡ c.bytes → Ok (sum, passed count (record { bytes = rest; at = place })) ≡ uleb_at (record { bytes = rest; at = place }) → uleb_at c ≡ Ok (sum, record { bytes = drop (place + count) bytes; at = place + count })
 uleb_moved place sum count bytes rest c is same read =
     let front : record { bytes = rest; at = place } ≡ c = same_ahead place bytes rest c is same in

@@ -1,4 +1,5 @@
--- LEB128 numbers: the tables of DWARF 5, 7.6, and the ends of their ranges.
+-- Worked examples of LEB128 numbers: those of the tables of DWARF 5, 7.6, and the ends of the
+-- ranges.
 use Rattle.std.proofs.Common.{◌≡◌, ℕ, pos, negsuc, codes, Ok, Err, refl}
 use Prim.Native.String.{String}
 use Rattle.leb_cursor.specs.declared.fault.CursorFault.TheVariants.{Ends, LebLong}
@@ -7,7 +8,7 @@ use Rattle.leb_cursor.specs.Readings.{uleb_at, sleb_at}
 use Rattle.sym_edges.proofs.Hex.{bytes}
 use Rattle.leb_cursor.proofs.Computing.{leb_cursor_computes}
 
--- these bytes ahead, the first of them at a place
+-- These bytes are ahead, and the first of them has the place `at`.
 unfoldable ahead : String → ℕ → Ahead
 ahead text at = record { bytes = bytes (codes text); at = at }
 
@@ -31,7 +32,7 @@ unsigned_12857 : uleb_at (ahead "b964" 0) ≡ Ok (12857, ahead "" 2)
 unfolding ahead leb_cursor_computes
 unsigned_12857 = refl
 
--- the greatest number of two bytes
+-- The greatest number of two bytes.
 unsigned_16383 : uleb_at (ahead "ff7f" 0) ≡ Ok (16383, ahead "" 2)
 unfolding ahead leb_cursor_computes
 unsigned_16383 = refl
@@ -40,7 +41,7 @@ unsigned_624485 : uleb_at (ahead "e58e26" 0) ≡ Ok (624485, ahead "" 3)
 unfolding ahead leb_cursor_computes
 unsigned_624485 = refl
 
--- groups of zeros at the end count for nothing
+-- Groups of zeros at the end do not change the value.
 padded_0 : uleb_at (ahead "8000" 0) ≡ Ok (0, ahead "" 2)
 unfolding ahead leb_cursor_computes
 padded_0 = refl
@@ -57,7 +58,7 @@ highest_bit : uleb_at (ahead "80808080808080808001" 0) ≡ Ok (92233720368547758
 unfolding ahead leb_cursor_computes
 highest_bit = refl
 
--- what is after the number is left
+-- The bytes after the number are left.
 behind : uleb_at (ahead "b964 07" 16) ≡ Ok (12857, ahead "07" 18)
 unfolding ahead leb_cursor_computes
 behind = refl
@@ -94,7 +95,7 @@ signed_minus_129 : sleb_at (ahead "ff7e" 0) ≡ Ok (negsuc 128, ahead "" 2)
 unfolding ahead leb_cursor_computes
 signed_minus_129 = refl
 
--- bit 6 of the last byte is the sign
+-- Bit 6 of the last byte is the sign.
 signed_63 : sleb_at (ahead "3f" 0) ≡ Ok (pos 63, ahead "" 1)
 unfolding ahead leb_cursor_computes
 signed_63 = refl
@@ -111,7 +112,7 @@ signed_lowest : sleb_at (ahead "8080808080808080807f" 0) ≡ Ok (negsuc 92233720
 unfolding ahead leb_cursor_computes
 signed_lowest = refl
 
--- a number that leaves its type
+-- Numbers that do not fit into their type.
 past_u64 : uleb_at (ahead "80808080808080808002" 3) ≡ Err (LebLong 3)
 unfolding ahead leb_cursor_computes
 past_u64 = refl
@@ -124,7 +125,7 @@ below_i64 : sleb_at (ahead "8080808080808080807e" 3) ≡ Err (LebLong 3)
 unfolding ahead leb_cursor_computes
 below_i64 = refl
 
--- a number of more than ten bytes, whatever they say
+-- A number of more than ten bytes is refused, whatever its value is.
 eleven_bytes : uleb_at (ahead "8080808080808080808000" 3) ≡ Err (LebLong 3)
 unfolding ahead leb_cursor_computes
 eleven_bytes = refl
@@ -137,7 +138,7 @@ ten_bytes_open : uleb_at (ahead "80808080808080808080" 3) ≡ Err (LebLong 3)
 unfolding ahead leb_cursor_computes
 ten_bytes_open = refl
 
--- the bytes end before the number does
+-- The bytes end before the number does.
 cut : uleb_at (ahead "808080808080808080" 3) ≡ Err (Ends 3)
 unfolding ahead leb_cursor_computes
 cut = refl

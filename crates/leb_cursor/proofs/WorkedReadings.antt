@@ -1,4 +1,4 @@
--- Numbers of fixed width, texts and runs of bytes.
+-- Worked examples of numbers of fixed width, texts and runs of bytes.
 use Rattle.std.proofs.Common.{◌≡◌, ℕ, [], codes, Ok, Err, refl}
 use Prim.Native.String.{String}
 use Rattle.leb_cursor.specs.declared.fault.CursorFault.TheVariants.{Ends, NoZero}
@@ -7,11 +7,11 @@ use Rattle.leb_cursor.specs.Readings.{fixed_at, text_at, take_at, part_at}
 use Rattle.sym_edges.proofs.Hex.{bytes}
 use Rattle.leb_cursor.proofs.Computing.{leb_cursor_computes}
 
--- these bytes ahead, the first of them at a place
+-- These bytes are ahead, and the first of them has the place `at`.
 unfoldable ahead : String → ℕ → Ahead
 ahead text at = record { bytes = bytes (codes text); at = at }
 
--- the lowest byte stands first
+-- The lowest byte comes first.
 width_1 : fixed_at 1 (ahead "0102030405060788" 1) ≡ Ok (0x1, ahead "02030405060788" 2)
 unfolding ahead leb_cursor_computes
 width_1 = refl
@@ -32,7 +32,7 @@ width_8 : fixed_at 8 (ahead "0102030405060788" 1) ≡ Ok (0x8807060504030201, ah
 unfolding ahead leb_cursor_computes
 width_8 = refl
 
--- one byte too few
+-- There is one byte too few.
 width_1_cut : fixed_at 1 (ahead "" 1) ≡ Err (Ends 1)
 unfolding ahead leb_cursor_computes
 width_1_cut = refl
@@ -53,7 +53,7 @@ width_8_cut : fixed_at 8 (ahead "11111111111111" 1) ≡ Err (Ends 1)
 unfolding ahead leb_cursor_computes
 width_8_cut = refl
 
--- a text ends before its zero byte, which is passed
+-- A text ends before its zero byte, which is passed.
 text : text_at (ahead "6162 00 00 6364" 0) ≡ Ok (codes "ab", ahead "00 6364" 3)
 unfolding ahead leb_cursor_computes
 text = refl
@@ -70,7 +70,7 @@ no_text : text_at (ahead "" 2) ≡ Err (NoZero 2)
 unfolding ahead leb_cursor_computes
 no_text = refl
 
--- a run of so many bytes
+-- Runs of a given number of bytes.
 run : take_at 3 (ahead "6263 64 65" 1) ≡ Ok (codes "bcd", ahead "65" 4)
 unfolding ahead leb_cursor_computes
 run = refl
@@ -87,7 +87,7 @@ run_of_all : take_at 18446744073709551615 (ahead "626364" 1) ≡ Err (Ends 1)
 unfolding ahead leb_cursor_computes
 run_of_all = refl
 
--- a part has the places of the whole
+-- The bytes of a separate run keep their places.
 a_part : part_at 2 (ahead "626364" 7) ≡ Ok (ahead "6263" 7, ahead "64" 9)
 unfolding ahead leb_cursor_computes
 a_part = refl

@@ -3,22 +3,23 @@ use Rattle.std.specs.Prelude.{◌≡◌, ℕ, zero, suc, ◌+◌, ◌≤◌, Lis
 use Rattle.sym_edges.specs.Results.{◌>>=◌}
 use Rattle.leb_cursor.specs.Ahead.{Ahead}
 
--- a list, given its first reading: a member and then the later ones, or the end of the list
+-- a list, given its first reading. If that gave a member, the list is the member and the later
+-- ones; otherwise the list is empty
 abbrev pub list_by : {A E : Type 0} → Option A → Ahead → Result (List A × Ahead) E → Result (List A × Ahead) E
 list_by None c later = Ok ([], c)
 list_by (Some member) c later = later >>= λ rest. Ok (member ∷ rest.0, rest.1)
 
--- the list ahead, by at most n readings
+-- the list ahead, of which at most n members are read
 unfoldable pub list_in : {A E : Type 0} → (Ahead → Result (Option A × Ahead) E) → ℕ → Ahead → Result (List A × Ahead) E
 list_in read zero c = Ok ([], c)
 list_in read (suc n) c = read c >>= λ first. list_by first.0 first.1 (list_in read n first.1)
 
--- the list ahead. Each reading gives a member or says that the list ends. A member has at least one byte, so there is at most one reading more than
--- there are bytes
+-- the list ahead. Each reading gives a member or says that the list ends. A member has at least one
+-- byte, so the readings are at most one more than the bytes
 unfoldable pub list_at : {A E : Type 0} → (Ahead → Result (Option A × Ahead) E) → Ahead → Result (List A × Ahead) E
 list_at read c = list_in read (suc (length c.bytes)) c
 
--- the same list, given by its first reading
+-- the same list as `list_at`, given by its first reading
 abbrev pub list_cases : {A E : Type 0} → (Ahead → Result (Option A × Ahead) E) → Ahead → Result (List A × Ahead) E
 list_cases read c = read c >>= λ first. list_by first.0 first.1 (list_at read first.1)
 

@@ -1,5 +1,6 @@
--- The readings of numbers, texts and runs of bytes (DWARF 5, section 7.6; all numbers little-endian).
--- Each gives a value and what is ahead after it, or the fault with the place where the reading began.
+-- The readings of numbers, texts and runs of bytes (DWARF 5, section 7.6; all numbers
+-- little-endian). Each gives a value and what is ahead after it, or the fault with the place where
+-- the reading began.
 use Rattle.std.specs.Prelude.{ℕ, ◌+◌, ◌-◌, ◌*◌, ◌%◌, ◌^◌, nat_lt, if◌then◌else◌, List, length, take, map, sum, position, slice_index, Option, None, Some, Result, Ok, Err, ℤ, pos, ◌-ℤ◌}
 use Rattle.std.specs.Option.{option_map}
 use Rattle.std.specs.List.{range_with_len}
@@ -26,7 +27,8 @@ leb_length bytes = option_map (λ k. k + 1) (position (λ byte. nat_lt byte 128)
 unfoldable pub leb_sum : ℕ → List ℕ → ℕ
 leb_sum count bytes = sum (map (λ i. slice_index bytes i % 128 * 128 ^ i) (range_with_len 0 count))
 
--- the fault if none of the first ten bytes lacks bit 7: the bytes end too early, or the number is too long
+-- the fault if none of the first ten bytes lacks bit 7: with fewer than ten bytes the bytes end too
+-- early, otherwise the number is too long
 unfoldable pub leb_open : Ahead → CursorFault
 leb_open c = if nat_lt (length c.bytes) 10 then Ends c.at else LebLong c.at
 
@@ -40,7 +42,7 @@ uleb_by c (Some count) =
 unfoldable pub uleb_at : Ahead → Result (ℕ × Ahead) CursorFault
 uleb_at c = uleb_by c (leb_length c.bytes)
 
--- the groups as a signed number: their sum, less 128^count if the last byte has bit 6
+-- the groups as a signed number: their sum, minus 128^count if bit 6 of the last byte is set
 unfoldable pub sleb_sum : ℕ → List ℕ → ℤ
 sleb_sum count bytes =
     pos (leb_sum count bytes) -ℤ pos (if nat_lt (slice_index bytes (count - 1)) 64 then 0 else 128 ^ count)
@@ -67,7 +69,7 @@ text_at c = text_by c (front_text c.bytes)
 unfoldable pub take_at : ℕ → Ahead → Result (List ℕ × Ahead) CursorFault
 take_at n c = if nat_lt (length c.bytes) n then Err (Ends c.at) else Ok (take n c.bytes, passed n c)
 
--- the next n bytes as a separate run, with the places that they have here
+-- the next n bytes as a separate run; the places of its bytes do not change
 unfoldable pub part_at : ℕ → Ahead → Result (Ahead × Ahead) CursorFault
 part_at n c =
     if nat_lt (length c.bytes) n then Err (Ends c.at) else Ok (record { bytes = take n c.bytes; at = c.at }, passed n c)

@@ -234,7 +234,8 @@ impl<'a> Cursor<'a> {
         Ok(&rest[..count])
     }
 
-    /// A cursor over the next `n` bytes, at the places that they have here. This cursor passes them.
+    /// A cursor over the next `n` bytes, which keep their places. The first cursor passes these
+    /// bytes.
     #[inline]
     #[tactic(auto, using(crate::proofs::AheadLemmas::part_moved), unfolding(crate::specs::Readings::part_at))]
     pub fn part(&mut self, n: u64) -> Result<Cursor<'a>, CursorFault>

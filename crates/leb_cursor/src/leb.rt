@@ -8,10 +8,11 @@ use crate::fault::CursorFault;
 
 /// The groups of a number's first nine bytes.
 enum Groups {
-    /// One of them ends the number: the sum of the groups up to it, and their count.
+    /// One of the bytes ends the number: the sum of the groups up to that byte, and the count of
+    /// these groups.
     Ended { sum: u64, count: usize },
 
-    /// Each of them has bit 7; if there are fewer than nine bytes, each of those has.
+    /// Each of the bytes has bit 7, also if there are fewer than nine: the sum of their groups.
     Going { sum: u64 },
 }
 
@@ -35,7 +36,7 @@ fn read_groups(bytes: &[u8]) -> Groups
     Groups::Going { sum }
 }
 
-/// The tenth byte, if there is one.
+/// The tenth byte, or the fault `Ends` if there are fewer than ten bytes.
 #[inline]
 fn tenth(bytes: &[u8], at: usize) -> Result<u8, CursorFault>
     ensures { result ≡ (if nat_lt (length bytes.now) 10
@@ -90,7 +91,7 @@ pub fn sleb_front(bytes: &[u8], at: usize) -> Result<(i64, usize), CursorFault>
     }
 }
 
-/// The groups' sum as a number that is not negative.
+/// The sum of the groups as a signed number.
 fn plain(sum: u64) -> i64
     requires { sum < 2 ^ 63 }
     ensures { result ≡ pos sum }
@@ -98,7 +99,7 @@ fn plain(sum: u64) -> i64
     sum as i64
 }
 
-/// The sum of `count` groups, less 128^`count`.
+/// The sum of `count` groups, minus 128^`count`.
 #[tactic(auto, using(crate::proofs::GroupLemmas::one_weight, crate::proofs::GroupLemmas::groups_fit))]
 fn lessened(sum: u64, count: usize) -> i64
     requires few { count ≤ 9 }

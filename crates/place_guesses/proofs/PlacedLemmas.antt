@@ -1,4 +1,4 @@
--- A member that was added to a list once, as others see the list.
+-- What a list has after a member was placed in it, as seen through a function of the members.
 use Rattle.std.proofs.Common.{◌≡◌, ◌⊎◌, ℕ, zero, suc, Bool, true, map, length, List, [], ◌∷◌, ◌++◌, Some, option_map, inl, inr, sym, ap, ◌∙◌}
 use Rattle.std.specs.List.{slice_get}
 use Rattle.std.proofs.lemmas.List.{length-map, map-append}

@@ -1,7 +1,9 @@
-//! Where something that was found before may be.
+//! Guesses of the place where something was found before.
 //!
-//! A slot has a guess: what was found for the last key with this slot. Other keys may have the same slot. A guess is compared before it is used, so
-//! no promise relies on it. [`PlaceGuesses`] are guesses of places in a list; by them members are added only once. `specs/Placing.antt` defines this.
+//! A key has a slot, and several keys may have the same one. The guess in a slot is what was last
+//! stored for a key with this slot. It is compared before it is used, so no promise relies on it.
+//! [`PlaceGuesses`] has guesses of places in a list. With them a member that is already in a list
+//! is mostly found and not added again (`specs/Placing.antt`).
 #![tactic(auto)]
 
 mod places;

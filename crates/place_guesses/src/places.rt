@@ -1,4 +1,4 @@
-//! Places in a list.
+//! Guesses of places in a list.
 ghost use Rattle.std.specs.Prelude.{◌≡◌, true, IfOk};
 ghost use Rattle.std.specs.List.{slice_get};
 ghost use Rattle.std.specs.Option.{option_map};
@@ -14,7 +14,7 @@ pub struct PlaceGuesses {
     slots: Vec<u32>,
 }
 
-/// Whether the member at a place is equal to this one.
+/// Whether the list has a member at this place that equals `one`.
 fn stands_at<T: PartialEq>(list: &[T], place: u32, one: &T) -> bool
     ensures { result ≡ true → option_map (λ m. T.eq m one.now) (slice_get list.now place) ≡ Some true }
 {
@@ -32,22 +32,23 @@ impl PlaceGuesses {
         })
     }
 
-    /// The slot of a key.
+    /// The slot of a key. Several keys may have the same one.
     pub fn slot_of(&self, key: u64) -> usize {
         slot_of(key, self.slots.len())
     }
 
-    /// The place in a slot.
+    /// The place that is stored in a slot, or 0 if there is no such slot.
     pub fn guess(&self, slot: usize) -> u32 {
         guess_at(self.slots.as_slice(), slot).unwrap_or(0)
     }
 
-    /// Puts a place into a slot.
+    /// Stores a place in a slot. If there is no such slot, nothing happens.
     pub fn note(&mut self, slot: usize, place: u32) {
         note_guess(self.slots.as_mut_slice(), slot, place);
     }
 
-    /// The place of a member in the list, given its slot. If the member is not at the place in the slot, it is added to the list.
+    /// The place of a member in the list, given its slot. If no equal member is at the place in the
+    /// slot, the member is added at the end of the list.
     pub fn place_or_add<T: PartialEq + Drop>(
         &mut self,
         slot: usize,

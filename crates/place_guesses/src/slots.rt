@@ -6,7 +6,7 @@ pub fn slot_of(key: u64, count: usize) -> usize {
     (mixed.wrapping_mul(count as u64) >> 32) as usize
 }
 
-/// The guess in a slot.
+/// The guess in a slot, or `None` if there is no such slot.
 pub fn guess_at<G: Copy>(slots: &[G], slot: usize) -> Option<G> {
     match slots.get(slot) {
         Some(guess) => Some(*guess),
@@ -14,7 +14,7 @@ pub fn guess_at<G: Copy>(slots: &[G], slot: usize) -> Option<G> {
     }
 }
 
-/// Puts a guess into a slot.
+/// Stores a guess in a slot. If there is no such slot, nothing happens.
 pub fn note_guess<G: Copy + Drop>(slots: &mut [G], slot: usize, guess: G) {
     if slot < slots.len() {
         slots[slot] = guess;

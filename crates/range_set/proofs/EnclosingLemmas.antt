@@ -12,16 +12,15 @@ use Rattle.range_set.specs.Enclosing.{encloses}
 use Rattle.range_set.specs.Building.{AllReach, AreRising}
 use Rattle.range_set.proofs.JoinLemmas.{from_lower, from_zero}
 
--- one range encloses the addresses from a start up to an end
+-- The range starts at or below `start` and ends at or above `end`.
 abbrev pub has_both : ℕ → ℕ → Range → Bool
 has_both start end r = nat_le r.start start && nat_le end r.end
 
--- a list in another order encloses the same
+-- A permutation of a list encloses the same ranges.
 pub permuted_encloses : (xs ys : List Range) (start end : ℕ) → IsPermutation xs ys → encloses ys start end ≡ encloses xs start end
 unfolding encloses
 permuted_encloses xs ys start end p = sym (list_any-IsPermutation (has_both start end) xs ys p)
 
--- one more range at the end of a list
 more_encloses : (xs : List Range) (x : Range) (start end : ℕ) → encloses (xs ++ x ∷ []) start end ≡ (encloses xs start end || (has_both start end x || false))
 unfolding encloses
 more_encloses xs x start end = list_any-append (has_both start end) xs (x ∷ [])
@@ -30,12 +29,11 @@ first_encloses : (x : Range) (xs : List Range) (start end : ℕ) → encloses (x
 unfolding encloses
 first_encloses x xs start end = refl
 
--- the greatest start of a list with one more range
 last_more : (xs : List Range) (x : Range) → last_start xs ≤ x.start → last_start (xs ++ x ∷ []) ≡ x.start
 last_more [] x low = omega arith
 last_more (y ∷ xs) x low = (let e : last_start (xs ++ x ∷ []) ≡ x.start = last_more xs x (omega arith) in omega arith)
 
--- each range ends at or below the address
+-- Each range ends at or below the address.
 abbrev pub EndBy : ℕ → List Range → Type 0
 EndBy a [] = Unit {0}
 EndBy a (range ∷ ranges) = (range.end ≤ a) × EndBy a ranges
@@ -60,7 +58,8 @@ end_more : (xs : List Range) (x : Range) (reach : ℕ) → EndBy reach xs → re
 end_more [] x reach ends far = (omega arith, tt)
 end_more (y ∷ xs) x reach ends far = (omega arith, end_more xs x reach ends.1 far)
 
--- what is kept of the ranges so far, how far it reaches, and what is left
+-- The invariant of `keep_outermost`: the ranges kept so far, the greatest end so far, and the
+-- ranges that are left.
 pub record Keeps (all kept rest : List Range) (reach : ℕ) : Type 0 where
   pub rising : AreRising kept
   pub ascending : AreAscending rest
@@ -73,7 +72,7 @@ none_encloses : (all : List Range) (start end : ℕ) → (encloses [] start end 
 unfolding encloses
 none_encloses all start end = refl
 
--- nothing is kept yet
+-- At the beginning no range is kept.
 pub keeps_none : (all kept : List Range) → kept ≡ [] → AreAscending all → Keeps all kept all 0
 keeps_none all kept is ascending = record {
   rising = rw is tt;
@@ -98,7 +97,6 @@ or_end true q r = refl
 or_end false true r = refl
 or_end false false r = refl
 
--- a test that passes only where the first does changes nothing
 or_within : (p q r : Bool) → (q ≡ true → p ≡ true) → (p || r) ≡ (p || (q || r))
 or_within true q r within = refl
 or_within false true r within = (let e : false ≡ true = within refl in cc)
@@ -119,7 +117,7 @@ same_more all kept rest later x start end is same =
     ∙ ap (λ b. encloses kept start end || b) (sym (first_encloses x rest start end))
     ∙ same
 
--- a range that reaches further is kept
+-- A range that ends above all ends so far is kept.
 pub keeps_more : (all kept rest later : List Range) (x : Range) (reach : ℕ) → Keeps all kept (x ∷ rest) reach → reach < x.end → later ≡ kept ++ x ∷ [] → Keeps all later rest x.end
 keeps_more all kept rest later x reach k far is =
     let low : last_start kept ≤ x.start = k.before.0 in
@@ -133,7 +131,7 @@ keeps_more all kept rest later x reach k far is =
       same = λ start end. same_more all kept rest later x start end is (k.same start end);
     }
 
--- a range that does not is enclosed by one that is kept
+-- A range that does not end above all ends so far is enclosed by one that is kept.
 pub keeps_same : (all kept rest : List Range) (x : Range) (reach : ℕ) → Keeps all kept (x ∷ rest) reach → x.start < x.end → x.end ≤ reach → Keeps all kept rest reach
 keeps_same all kept rest x reach k some near =
     let low : last_start kept ≤ x.start = k.before.0 in
@@ -150,7 +148,7 @@ keeps_same all kept rest x reach k some near =
           ∙ k.same start end;
     }
 
--- where nothing is left, what is kept encloses what all do
+-- At the end the kept ranges enclose what all ranges enclose.
 pub keeps_all : (all kept rest : List Range) (reach : ℕ) → Keeps all kept rest reach → length rest ≡ 0 → (start end : ℕ) → encloses kept start end ≡ encloses all start end
 unfolding encloses
 keeps_all all kept [] reach k none start end = sym (or-false (encloses kept start end)) ∙ k.same start end

@@ -6,14 +6,14 @@ use Rattle.range_set.specs.Canonical.{IsCanonical}
 use Rattle.range_set.specs.Building.{last_start}
 use Rattle.range_set.proofs.MemberLemmas.{within, above_none, above_all, first_at, rest_held}
 
--- what is built and what is left hold together what both lists hold, and what is left does not begin before what is built
+-- The invariant of `meet_spans`: the built ranges, and what is in what is left of both lists, hold
+-- what is in both lists; what is left does not begin before what is built.
 pub record Meets (left right built xs ys : List Range) : Type 0 where
   pub first : IsCanonical xs
   pub second : IsCanonical ys
   pub members : (a : ℕ) → (holds_any built a || (holds_any xs a && holds_any ys a)) ≡ (holds_any left a && holds_any right a)
   pub order : (a : ℕ) → holds_any xs a ≡ true → holds_any ys a ≡ true → last_start built ≤ a
 
--- where the first of two ranges ends first, what comes after either does not meet it
 first_goes : (p q u v : Bool) → (p ≡ true → u ≡ false) → (p ≡ true → v ≡ false) → ((p && q) || (u && (q || v))) ≡ ((p || u) && (q || v))
 first_goes false q u v f g = refl
 first_goes true false false false f g = refl
@@ -21,7 +21,6 @@ first_goes true true false false f g = refl
 first_goes true q true v f g = (let h : true ≡ false = f refl in cc)
 first_goes true q u true f g = (let h : true ≡ false = g refl in cc)
 
--- the same, where the second ends first
 second_goes : (p q u v : Bool) → (q ≡ true → u ≡ false) → (q ≡ true → v ≡ false) → ((p && q) || ((p || u) && v)) ≡ ((p || u) && (q || v))
 second_goes false false u v f g = refl
 second_goes true false u v f g = refl
@@ -30,7 +29,7 @@ second_goes true true false false f g = refl
 second_goes p true true v f g = (let h : true ≡ false = f refl in cc)
 second_goes p true u true f g = (let h : true ≡ false = g refl in cc)
 
--- both first ranges were met, and the one that ends first goes
+-- The step of `meet_spans`: the two next ranges were met, and the one that ends first is done.
 pub meets_first : (left right built after : List Range) (x y : Range) (xs ys : List Range) → Meets left right built (x ∷ xs) (y ∷ ys) → x.end ≤ y.end → ((a : ℕ) → holds_any after a ≡ (holds_any built a || (holds x a && holds y a))) → last_start after ≤ max (last_start built) (max x.start y.start) → Meets left right after xs (y ∷ ys)
 meets_first left right built after x y xs ys m ends members order = record {
   first = m.first.2;

@@ -5,20 +5,21 @@ use Rattle.range_set.specs.Members.{holds_any}
 use Rattle.range_set.specs.Canonical.{IsCanonical}
 use Rattle.range_set.proofs.MemberLemmas.{first_held, above_not, above_none, first_below}
 
--- the end of a first range is not held
+-- A canonical list does not hold the end of its first range.
 end_not_held : (x : Range) (xs : List Range) → IsCanonical (x ∷ xs) → holds_any (x ∷ xs) x.end ≡ false
 end_not_held x xs canonical =
     ap (λ b. b || holds_any xs x.end) (above_not x x.end (omega arith))
     ∙ above_none x.end xs x.end canonical.1 canonical.2 (omega arith)
 
--- a list that holds no address is no list with a first range
+-- A canonical list that holds no address is empty.
 none_alike : (x : Range) (xs : List Range) → IsCanonical (x ∷ xs) → ((a : ℕ) → holds_any (x ∷ xs) a ≡ false) → ⊥
 none_alike x xs canonical none =
     let held : holds_any (x ∷ xs) x.start ≡ true = first_held x xs x.start (omega arith) (omega arith) in
     let not : holds_any (x ∷ xs) x.start ≡ false = none x.start in
     cc
 
--- the first range of the one does not start below that of the other
+-- Of two canonical lists with the same addresses, the second does not start above the start of the
+-- first.
 starts_alike : (x y : Range) (xs ys : List Range) → IsCanonical (x ∷ xs) → IsCanonical (y ∷ ys) → ((a : ℕ) → holds_any (x ∷ xs) a ≡ holds_any (y ∷ ys) a) → y.start ≤ x.start
 starts_alike x y xs ys p q same = elim (leb_tells y.start x.start) [
   | inl low ↦ low.1
@@ -29,7 +30,8 @@ starts_alike x y xs ys p q same = elim (leb_tells y.start x.start) [
       cc
 ]
 
--- nor does it end below it
+-- If both start at the same address, the first range of the second does not end above the end of
+-- the other.
 ends_alike : (x y : Range) (xs ys : List Range) → IsCanonical (x ∷ xs) → IsCanonical (y ∷ ys) → x.start ≡ y.start → ((a : ℕ) → holds_any (x ∷ xs) a ≡ holds_any (y ∷ ys) a) → y.end ≤ x.end
 ends_alike x y xs ys p q start same = elim (leb_tells y.end x.end) [
   | inl low ↦ low.1
@@ -40,7 +42,7 @@ ends_alike x y xs ys p q start same = elim (leb_tells y.end x.end) [
       cc
 ]
 
--- what is left of two sets after the same first range is alike
+-- What is left of the two lists after the same first range has the same addresses.
 rest_alike : (x y : Range) (xs ys : List Range) → IsCanonical (x ∷ xs) → IsCanonical (y ∷ ys) → x.end ≡ y.end → ((a : ℕ) → holds_any (x ∷ xs) a ≡ holds_any (y ∷ ys) a) → (a : ℕ) → holds_any xs a ≡ holds_any ys a
 rest_alike x y xs ys p q end same a = elim (leb_tells x.end a) [
   | inl high ↦
@@ -50,14 +52,13 @@ rest_alike x y xs ys p q end same a = elim (leb_tells x.end a) [
   | inr low ↦ above_none x.end xs a p.1 p.2 (omega arith) ∙ sym (above_none y.end ys a q.1 q.2 (omega arith))
 ]
 
--- ranges with the same ends are one
 range_alike : (x y : Range) → x.start ≡ y.start → x.end ≡ y.end → x ≡ y
 range_alike x y start end =
     let from : ℕ → Range = λ n. record { start = n; end = x.end } in
     let to : ℕ → Range = λ n. record { start = y.start; end = n } in
     ap from start ∙ ap to end
 
--- two canonical lists with the same addresses are one
+-- Two canonical lists with the same addresses are equal.
 pub one_list : (xs ys : List Range) → IsCanonical xs → IsCanonical ys → ((a : ℕ) → holds_any xs a ≡ holds_any ys a) → xs ≡ ys
 one_list [] [] p q same = refl
 one_list [] (y ∷ ys) p q same = absurd (none_alike y ys q (λ a. sym (same a)))

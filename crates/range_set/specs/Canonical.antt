@@ -1,4 +1,4 @@
--- The one way in which a set of addresses is listed.
+-- The canonical list of a set of addresses, of which there is only one.
 use Rattle.std.specs.Prelude.{ℕ, ◌<◌, List, [], ◌∷◌}
 use Rattle.sym_edges.specs.Addresses.{Range}
 

@@ -8,9 +8,11 @@ use std::alloc::Global;
 use std::marker::Model;
 use sym_edges::{OutOfMemory, Span};
 
-/// A set that is made from spans in the order of their starts. Contracts see it as the list so far.
+/// A set that is made from spans in the order of their starts. Contracts see it as the list of its
+/// spans so far.
 ///
-/// The last span is separate, since the next span may widen it. So a set of one span allocates no memory while it is made.
+/// The last span is stored apart, since the next span may widen it. So a set of one span allocates
+/// no memory while it is made.
 #[derive(Drop)]
 pub(crate) struct SetBuilder {
     done: Vec<Span>,
@@ -40,7 +42,7 @@ impl SetBuilder {
         }
     }
 
-    /// Adds a span that starts at or above each start so far.
+    /// Adds a span that starts at or above the start of each span so far.
     pub(crate) fn push(&mut self, span: Span) -> Result<(), OutOfMemory>
         requires { last_start self.old ≤ span.start }
         ensures members { OnOk result ((a : ℕ) → holds_any self.new a ≡ (holds_any self.old a || holds span a)) }

@@ -9,7 +9,7 @@ use crate::set::RangeSet;
 use std::alloc::Global;
 use sym_edges::{OutOfMemory, Span};
 
-/// The addresses that are in the first list and not in the second, by one merge.
+/// The set of the addresses that are in the first list and not in the second, by one merge.
 pub(crate) fn minus_spans(
     alloc: Global,
     left: &[Span],
@@ -29,7 +29,8 @@ pub(crate) fn minus_spans(
     built.finish()
 }
 
-/// Adds what is left of a span after the cuts are taken out of it, and returns the cuts that may reach beyond it.
+/// Adds the addresses of a span that are in none of the cuts. Returns the cuts that may reach
+/// beyond the span.
 fn push_cut<'a>(
     built: &mut SetBuilder,
     span: Span,

@@ -9,7 +9,7 @@ use crate::set::RangeSet;
 use std::alloc::Global;
 use sym_edges::{OutOfMemory, Span};
 
-/// The addresses that are in both lists, by one merge.
+/// The set of the addresses that are in both lists, by one merge.
 pub(crate) fn meet_spans(
     alloc: Global,
     left: &[Span],

@@ -10,7 +10,7 @@ use crate::set::RangeSet;
 use std::alloc::Global;
 use sym_edges::{OutOfMemory, Span};
 
-/// The addresses that are in some span. For no span and for one span it allocates no memory.
+/// The set of the addresses that are in some span. With at most one span it allocates no memory.
 pub fn of_ranges(alloc: Global, spans: &[Span]) -> Result<RangeSet, OutOfMemory>
     ensures members { IfOk result (λ set. (a : ℕ) → holds_any set a ≡ holds_any spans.now a) }
     ensures few { length spans.now ≤ 1 → IsOk result }
@@ -31,7 +31,8 @@ pub fn of_ranges(alloc: Global, spans: &[Span]) -> Result<RangeSet, OutOfMemory>
     }
 }
 
-/// The addresses that are in some span. The `Vec` is consumed; if its spans already are as in a set, it becomes the list of the set.
+/// The set of the addresses that are in some span. The `Vec` is consumed. If it has two or more
+/// spans, and these are sorted, disjoint and not touching, it becomes the list of the set.
 pub fn of_owned(alloc: Global, spans: Vec<Span>) -> Result<RangeSet, OutOfMemory>
     ensures { IfOk result (λ set. (a : ℕ) → holds_any set a ≡ holds_any spans.items a) }
 {
@@ -68,7 +69,7 @@ fn are_ascending(spans: &[Span]) -> bool
     spans.is_sorted_by(|span, next| span.start() <= next.start())
 }
 
-/// The spans in the order of their starts.
+/// A copy of the spans in the order of their starts.
 pub(crate) fn sorted_copy(alloc: Global, spans: &[Span]) -> Result<Vec<Span>, OutOfMemory>
     ensures permutation { IfOk result (λ sorted. IsPermutation spans.now sorted.items) }
     ensures ascending { IfOk result (λ sorted. AreAscending sorted.items) }
@@ -85,7 +86,7 @@ fn sort_by_start(spans: &mut [Span])
     spans.sort_unstable_by_key(|span| span.start());
 }
 
-/// The addresses of spans in the order of their starts.
+/// The set of the addresses of spans that are in the order of their starts.
 fn of_sorted(alloc: Global, spans: &[Span]) -> Result<RangeSet, OutOfMemory>
     requires { AreAscending spans.now }
     ensures members { IfOk result (λ set. (a : ℕ) → holds_any set a ≡ holds_any spans.now a) }
@@ -95,7 +96,7 @@ fn of_sorted(alloc: Global, spans: &[Span]) -> Result<RangeSet, OutOfMemory>
     built.finish()
 }
 
-/// The addresses that are in either list, by one merge.
+/// The set of the addresses that are in either list, by one merge.
 pub(crate) fn join_spans(
     alloc: Global,
     left: &[Span],

@@ -30,7 +30,7 @@ impl Model for Enclosing {
 }
 
 impl Enclosing {
-    /// Sorts a copy of the spans once.
+    /// Keeps the outermost spans of a sorted copy.
     pub fn of_spans(alloc: Global, spans: &[Span]) -> Result<Enclosing, OutOfMemory>
         ensures same { IfOk result (λ kept. (start end : ℕ) → encloses kept start end ≡ encloses spans.now start end) }
     {
@@ -39,8 +39,8 @@ impl Enclosing {
         Ok(Enclosing { outermost })
     }
 
-    /// Whether one of the spans contains all addresses from `start` up to `end`, without `end`: whether one starts at or below `start` and ends at or
-    /// above `end`. It is found by a binary search. Allocates no memory.
+    /// Whether one of the spans starts at or below `start` and ends at or above `end`, by a binary
+    /// search. Allocates no memory.
     pub fn encloses(&self, start: u64, end: u64) -> bool
         ensures { result ≡ encloses self.now start end }
     {
@@ -48,7 +48,7 @@ impl Enclosing {
     }
 }
 
-/// The spans that end above the ends of all spans before them.
+/// Of spans in the order of their starts, those that end above the ends of all spans before them.
 fn keep_outermost(alloc: Global, spans: &[Span]) -> Result<Vec<Span>, AllocError>
     requires { AreAscending spans.now }
     ensures same { IfOk result (λ kept. (start end : ℕ) → encloses kept.items start end ≡ encloses spans.now start end) }
@@ -67,7 +67,8 @@ fn keep_outermost(alloc: Global, spans: &[Span]) -> Result<Vec<Span>, AllocError
     Ok(kept)
 }
 
-/// Whether one of the spans encloses a range, by a binary search for the last span that starts at or below its start.
+/// Whether one of the spans encloses a range. A binary search finds the last span that starts at or
+/// below the range's start; its end decides.
 fn is_enclosed(spans: &[Span], start: u64, end: u64) -> bool
     requires { AreRising spans.now }
     ensures { result ≡ encloses spans.now start end }

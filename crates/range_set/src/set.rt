@@ -19,7 +19,7 @@ pub struct RangeSet {
     kept: Kept,
 }
 
-/// The spans; memory is allocated only for two or more of them.
+/// The stored spans. Only two or more of them need allocated memory.
 #[derive(Debug, Drop)]
 enum Kept {
     Empty,
@@ -49,7 +49,7 @@ impl RangeSet {
         RangeSet { kept: Kept::Empty }
     }
 
-    /// The addresses of one span. Allocates no memory.
+    /// The set of the addresses of one span. Allocates no memory.
     pub fn of_span(span: Span) -> RangeSet
         ensures { result ≡ span ∷ [] }
     {
@@ -75,28 +75,28 @@ impl RangeSet {
         is_held(self.spans(), a)
     }
 
-    /// The addresses that are in both sets, by one merge.
+    /// The set of the addresses that are in both sets, by one merge.
     pub fn meet(&self, alloc: Global, other: &RangeSet) -> Result<RangeSet, OutOfMemory>
         ensures members { IfOk result (λ set. (a : ℕ) → holds_any set a ≡ (holds_any self.now a && holds_any other.now a)) }
     {
         meet_spans(alloc, self.spans(), other.spans())
     }
 
-    /// The addresses that are in this set and not in the other, by one merge.
+    /// The set of the addresses that are in this set and not in the other, by one merge.
     pub fn minus(&self, alloc: Global, other: &RangeSet) -> Result<RangeSet, OutOfMemory>
         ensures members { IfOk result (λ set. (a : ℕ) → holds_any set a ≡ (holds_any self.now a && not (holds_any other.now a))) }
     {
         minus_spans(alloc, self.spans(), other.spans())
     }
 
-    /// The addresses that are in either set, by one merge.
+    /// The set of the addresses that are in either set, by one merge.
     pub fn join(&self, alloc: Global, other: &RangeSet) -> Result<RangeSet, OutOfMemory>
         ensures members { IfOk result (λ set. (a : ℕ) → holds_any set a ≡ (holds_any self.now a || holds_any other.now a)) }
     {
         join_spans(alloc, self.spans(), other.spans())
     }
 
-    /// The spans, in order.
+    /// The spans of the set, ascending.
     pub fn spans(&self) -> &[Span]
         ensures same { result.now ≡ self.now }
         ensures canonical { IsCanonical self.now }
@@ -108,7 +108,7 @@ impl RangeSet {
         }
     }
 
-    /// The spans, in order.
+    /// The spans of the set, ascending; the same as `spans`.
     pub fn as_slice(&self) -> &[Span]
         ensures same { result.now ≡ self.now }
         ensures canonical { IsCanonical self.now }

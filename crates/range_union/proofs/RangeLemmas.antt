@@ -1,5 +1,5 @@
--- Ranges of which no two meet, by their starts: the last below an address, which of them a range overlaps, and one more or fewer; for
--- `last_before`, `meets`, `take_met`, `put_range`.
+-- Ranges of which no two overlap, in the order of their starts (for `last_before`, `meets`,
+-- `take_met` and `put_range`).
 use Rattle.std.proofs.Common.{◌≡◌, ℕ, ◌<◌, ◌≤◌, ◌==◌, ◌&&◌, ◌||◌, not, nat_lt, min, max, Bool, true, false, cond, List, [], ◌∷◌, ◌++◌, map, length, Option, None, Some, refl, ap, sym, ◌∙◌, ◌⊎◌, inl, inr, subst, arith, eq-eqb}
 use Rattle.std.specs.List.{list_any, filter}
 use Rattle.std.specs.Ordering.{nat_cmp, is_le, match_ordering}
@@ -32,7 +32,7 @@ some_same x y is = cc
 none_some : (x : ℕ × ℕ) → None ≡ Some x → ⊥
 none_some x is = cc
 
--- the last of some entries
+-- The last of some entries.
 last_of : List (ℕ × ℕ) → Option (ℕ × ℕ)
 last_of [] = None
 last_of (e ∷ entries) = or_entry (last_of entries) (Some e)
@@ -42,7 +42,6 @@ unfolding last_of
 last_of-append [] e = refl
 last_of-append (d ∷ entries) e = ap (λ o. or_entry o (Some d)) (last_of-append entries e)
 
--- the test by which a map keeps what starts below
 pub below_is : (below start : ℕ) → (true && not (is_le (nat_cmp below start))) ≡ nat_lt start below
 below_is below start =
     elim (cases_order below start) [
@@ -63,7 +62,6 @@ unfolding last_of last_below
 last_kept test below same [] = refl
 last_kept test below same (e ∷ entries) = last_by test below e entries (nat_lt e.0 below) (same e) refl (last_kept test below same entries)
 
--- the last of what a map keeps
 pub last_of_kept : (test : ℕ × ℕ → Bool) (below : ℕ) (entries kept rest : List (ℕ × ℕ)) (e : ℕ × ℕ) → ((d : ℕ × ℕ) → test d ≡ nat_lt d.0 below) → kept ≡ filter test entries → kept ≡ rest ++ e ∷ [] → Some e ≡ last_below below entries
 last_of_kept test below entries kept rest e same all ends = sym (last_of-append rest e) ∙ ap last_of (sym ends ∙ all) ∙ last_kept test below same entries
 
@@ -71,7 +69,7 @@ pub none_kept : (test : ℕ × ℕ → Bool) (below : ℕ) (entries kept : List 
 unfolding last_of
 none_kept test below entries kept same all none = ap last_of (sym none ∙ all) ∙ last_kept test below same entries
 
--- where all start at or above an end, none starts below it, and none overlaps a range up to it
+-- If all entries start at or above `below`, none of them starts below it.
 none_below : (below a : ℕ) (entries : List (ℕ × ℕ)) → below ≤ a → StartsFrom a entries → AreApart entries → last_below below entries ≡ None
 unfolding last_below
 none_below below a [] le from apart = refl
@@ -97,13 +95,12 @@ above_by a e f None true from some more is =
     subst P (some_same e f is) (from, some)
 above_by a e f None false from some more is = absurd (none_some f is)
 
--- the last is above all starts, and not empty
 last_above : (below a : ℕ) (f : ℕ × ℕ) (entries : List (ℕ × ℕ)) → StartsFrom a entries → AreApart entries → last_below below entries ≡ Some f → (a ≤ f.0) × (f.0 < f.1)
 unfolding last_below
 last_above below a f [] from apart is = absurd (none_some f is)
 last_above below a f (e ∷ entries) from apart is = above_by a e f (last_below below entries) (nat_lt e.0 below) from apart.0 (λ l there. last_above below e.1 l entries apart.1 apart.2 there) is
 
--- the last range that starts below the end of a range decides whether it overlaps any
+-- The last range that starts below the end of a range decides whether it overlaps any.
 decides : ℕ → Option (ℕ × ℕ) → Bool
 decides start None = false
 decides start (Some e) = nat_lt start e.1
@@ -136,7 +133,6 @@ pub overlaps_last : (q : Range) (low high : ℕ) (entries : List (ℕ × ℕ)) �
 unfolding any_overlap decides
 overlaps_last q low high entries apart is = ap (decides q.start) is ∙ sym (met q entries apart)
 
--- the last range below an address is taken out
 at_same : (a : ℕ) → is_at (nat_cmp a) a ≡ true
 at_same a = grind (arith, nat_tests)
 
@@ -150,7 +146,6 @@ pub or_assoc_by : (a b c : Bool) → ((a || b) || c) ≡ (a || (b || c))
 or_assoc_by true b c = refl
 or_assoc_by false b c = refl
 
--- what is said of a list and of what is left where its last range below an address is taken out
 record Leaves (below : ℕ) (f : ℕ × ℕ) (entries rest : List (ℕ × ℕ)) : Type 0 where
   under : f.0 < below
   some : f.0 < f.1
@@ -227,11 +222,11 @@ taken start end low high entries new apart is above e =
       fewer = left.fewer;
     })
 
--- where the last that starts below the end of a range ends at or below its start, none overlaps it
+-- If the last range that starts below `end` ends at or below `start`, no range overlaps the one
+-- between them.
 pub past_none : (start end low high : ℕ) (entries : List (ℕ × ℕ)) → AreApart entries → Some (low, high) ≡ last_below end entries → high ≤ start → any_overlap (range_to start end) (ranges_by entries) ≡ false
 past_none start end low high entries apart is le = sym (overlaps_last (range_to start end) low high entries apart is) ∙ le-ltb start high le
 
--- one more range
 sides_by : (start end : ℕ) (e : ℕ × ℕ) → (nat_lt start e.1 ≡ false) ⊎ (nat_lt e.0 end ≡ false) → (e.1 ≤ start) ⊎ (end ≤ e.0)
 sides_by start end e (inl no_first) = inl (ltb-false start e.1 no_first)
 sides_by start end e (inr no_second) = inr (ltb-false e.0 end no_second)
@@ -292,12 +287,12 @@ pub put_overlaps : (start end : ℕ) (entries more : List (ℕ × ℕ)) → AreA
 unfolding any_overlap
 put_overlaps start end entries more apart some none e q = ap (λ xs. list_any (overlap q) (ranges_by xs)) e ∙ inserted_overlaps q start end entries apart some none
 
--- two ranges that overlap, as one
+-- Two ranges that overlap, as one.
 grown : (a b start end low high : ℕ) → a < b → start < end → low < high → start < high → low < end →
     ((nat_lt a high && nat_lt low b) || (nat_lt a end && nat_lt start b)) ≡ (nat_lt a (max end high) && nat_lt (min start low) b)
 grown a b start end low high some first second over under = grind (arith, nat_tests)
 
--- what is said of the ranges of a map and one more: they overlap what others did and one more
+-- The map and the widened range together overlap what the old ranges and the new one overlap.
 pub record Grows (first last : ℕ) (ends : List (ℕ × ℕ)) (start end : ℕ) (old : List (ℕ × ℕ)) : Type 0 where
   pub some : first < last
   pub apart : AreApart ends
@@ -332,7 +327,7 @@ pub grown_more : (first last start end : ℕ) (old ends rest new : List (ℕ × 
     (a b : ℕ) → a < b → any_overlap (range_to a b) (ranges_by new) ≡ (any_overlap (range_to a b) (ranges_by old) || overlap (range_to a b) (range_to start end))
 grown_more first last start end old ends rest new grows same none e a b less = put_overlaps first last ends new grows.apart grows.some none (e ∙ ap (λ xs. insert_entry nat_cmp xs first last) same) (range_to a b) ∙ grows.same a b less
 
--- where nothing could be put, nothing else is overlapped
+-- If the new range could not be put in, what overlapped nothing still does not.
 pub grown_no_other : (first last start end : ℕ) (old ends rest new : List (ℕ × ℕ)) → Grows first last ends start end old → rest ≡ ends → new ≡ rest → (a b : ℕ) → a < b → (any_overlap (range_to a b) (ranges_by old) || overlap (range_to a b) (range_to start end)) ≡ false → any_overlap (range_to a b) (ranges_by new) ≡ false
 grown_no_other first last start end old ends rest new grows same kept a b less none =
     ap (λ xs. any_overlap (range_to a b) (ranges_by xs)) (kept ∙ same)

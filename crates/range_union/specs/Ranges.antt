@@ -3,14 +3,14 @@ use Rattle.std.specs.Prelude.{ℕ, ◌&&◌, Bool, nat_lt, List}
 use Rattle.std.specs.List.{list_any}
 use Rattle.sym_edges.specs.Addresses.{Range}
 
--- two ranges that are not empty have an address in common
+-- whether two ranges have an address in common, if neither is empty
 abbrev pub overlap : Range → Range → Bool
 overlap a b = nat_lt a.start b.end && nat_lt b.start a.end
 
--- some range of the list overlaps a range
+-- whether some range of the list overlaps a range
 unfoldable pub any_overlap : Range → List Range → Bool
 any_overlap range ranges = list_any (overlap range) ranges
 
--- the addresses from a start up to an end, without it
+-- the range from a start up to an end, without the end
 abbrev pub range_to : ℕ → ℕ → Range
 range_to start end = record { start = start; end = end }

@@ -1,7 +1,8 @@
 //! Addresses as ranges of which no two overlap.
 //!
-//! [`RangeUnion`] takes ranges in any order. A new range replaces and includes the ranges that it overlaps, so each is put and taken out once. It
-//! says whether a range overlaps one of them. `specs/Ranges.antt` has the definition.
+//! [`RangeUnion`] takes ranges in any order. A new range takes the place of those that it overlaps,
+//! and is widened to include them. So each range is put in once and taken out at most once. `meets`
+//! says whether a range overlaps one of them (`specs/Ranges.antt`).
 #![tactic(auto)]
 
 mod ranges;

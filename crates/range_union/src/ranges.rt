@@ -1,4 +1,4 @@
-//! Addresses as ranges of which no two overlap.
+//! A union of ranges, kept as ranges of which no two overlap.
 ghost use Rattle.std.specs.Prelude.{◌≡◌, ℕ, ◌<◌, ◌||◌, false, [], MatchOption, OnOk, OnErr};
 ghost use Rattle.sym_edges.specs.Addresses.{Range};
 ghost use Rattle.range_union.specs.Ranges.{overlap, any_overlap, range_to};
@@ -9,7 +9,7 @@ use std::collections::BTreeMap;
 use std::marker::Model;
 use sym_edges::OutOfMemory;
 
-/// Ranges of addresses by their starts, of which no two overlap.
+/// Ranges of addresses, of which no two overlap; a map from their starts to their ends.
 #[derive(Drop)]
 pub struct RangeUnion {
     ends: BTreeMap<u128, u128>,
@@ -27,7 +27,7 @@ impl Model for RangeUnion {
     ghost invariant = { λ t. AreApart t.ends.entries };
 }
 
-/// The last range that starts below an address.
+/// The last range that starts below an address, if there is one.
 fn last_before(ends: &BTreeMap<u128, u128>, below: u128) -> Option<(u128, u128)>
     ensures { result ≡ last_below below ends.now.entries }
 {
@@ -46,7 +46,8 @@ impl RangeUnion {
         }
     }
 
-    /// Whether a range that is not empty overlaps one of them. The last one that starts below the end of the range decides.
+    /// Whether the range from `start` up to `end`, which must not be empty, overlaps one of the
+    /// ranges. The last one that starts below `end` decides.
     pub fn meets(&self, start: u128, end: u128) -> bool
         requires { start < end }
         ensures { result ≡ any_overlap (range_to start end) self.now }
@@ -57,7 +58,8 @@ impl RangeUnion {
         }
     }
 
-    /// Adds a range that is not empty. It replaces the ranges that it overlaps, and is widened by them. So each range is put and taken out once.
+    /// Adds a range, which must not be empty. The ranges that it overlaps are taken out, and it is
+    /// widened to include them. So each range is put in once and taken out at most once.
     pub fn put(&mut self, start: u128, end: u128) -> Result<(), OutOfMemory>
         requires { start < end }
         ensures more { OnOk result ((a b : ℕ) → a < b → any_overlap (range_to a b) self.new ≡ (any_overlap (range_to a b) self.old || overlap (range_to a b) (range_to start end))) }
@@ -66,7 +68,7 @@ impl RangeUnion {
         put_range(&mut self.ends, start, end)
     }
 
-    /// Adds a range that is not empty and overlaps none of them.
+    /// Adds a range, which must not be empty or overlap one of the ranges.
     pub fn add(&mut self, start: u128, end: u128) -> Result<(), OutOfMemory>
         requires some { start < end }
         requires apart { any_overlap (range_to start end) self.old ≡ false }
@@ -90,7 +92,8 @@ fn add_range(ends: &mut BTreeMap<u128, u128>, start: u128, end: u128) -> Result<
     Ok(())
 }
 
-/// Takes out the last range that overlaps a range that is not empty, if there is one.
+/// Takes out the last range that overlaps the one from `start` up to `end`, if there is one. The
+/// latter range must not be empty.
 #[tactic(auto, using(crate::proofs::RangeLemmas::none_left, crate::proofs::RangeLemmas::past_none, crate::proofs::RangeLemmas::taken_apart, crate::proofs::RangeLemmas::taken))]
 fn take_met(ends: &mut BTreeMap<u128, u128>, start: u128, end: u128) -> Option<(u128, u128)>
     requires apart { AreApart ends.old.entries }

@@ -9,7 +9,7 @@ use Rattle.step_maps.specs.Covers.{reaches, first_at, index_at, is_shared, first
 use Rattle.step_maps.specs.Overlays.{over}
 use Rattle.step_maps.specs.internal.Laying.{laid}
 
--- whether an item of another class than a number lies at or below one
+-- Whether there is an item of another class than `class`, or one that is shared.
 abbrev beneath : ℕ → Option FirstItem → Bool
 beneath class None = false
 beneath class (Some i) = i.shared || not (class == i.class)
@@ -38,7 +38,6 @@ beneath_is class (s ∷ items) a = go (reaches s a) (beneath_is class items a)
     go true is = beneath_first class s.class (laid items a) s.index ∙ ap (λ r. not (s.class == class) || r) is
     go false is = is
 
--- the first of the stretches, with a mark of those that differ from it
 abbrev marked : List Stretch → ℕ → Option Stretch → Option FirstItem
 marked items a o = option_map (λ s. record { index = s.index; class = s.class; shared = list_any (differs_there s.class a) items }) o
 
@@ -64,7 +63,7 @@ laid_marked (s ∷ items) a = go (reaches s a) (laid items a) (beneath_is s.clas
     go true r below is = top r ∙ ap (λ b. Some (record { index = s.index; class = s.class; shared = b })) (below ∙ sym (ap (λ b. b || list_any (differs_there s.class a) items) (own s.class)))
     go false r below is = is ∙ rest_same (find (λ t. reaches t a) items)
 
--- what is laid at an address is the first item there
+-- The item that is laid at an address is the first item there.
 pub laid_first : (items : List Stretch) (a : ℕ) → laid items a ≡ first_item items a
 unfolding first_item is_shared
 laid_first items a = laid_marked items a ∙ go (first_at items a)
@@ -76,7 +75,6 @@ laid_first items a = laid_marked items a ∙ go (first_at items a)
 pub first_where_laid : (items : List Stretch) (steps : Stepping (Option FirstItem)) → ((a : ℕ) → a < 2 ^ 64 → value_at None steps a ≡ laid items a) → (a : ℕ) → a < 2 ^ 64 → value_at None steps a ≡ first_item items a
 first_where_laid items steps same a fits = same a fits ∙ laid_first items a
 
--- what is told of the first stretch
 abbrev told : List Stretch → ℕ → Stretch → FirstItem
 told items a s = record { index = s.index; class = s.class; shared = is_shared items a }
 

@@ -1,4 +1,4 @@
--- Lemmas on which index comes first.
+-- Lemmas on the index of the first stretch.
 use Rattle.std.proofs.Common.{◌≡◌, ◌+◌, ◌-◌, ◌<◌, ◌^◌, ◌++◌, ◌==◌, ◌&&◌, min, nat_le, nat_lt, ℕ, zero, suc, Bool, true, false, cond, List, [], ◌∷◌, Option, None, Some, refl, sym, ap, ◌∙◌, arith}
 use Rattle.std.specs.List.{find}
 use Rattle.std.specs.Option.{option_map, option_or}
@@ -12,7 +12,6 @@ pub none_at : (x : ℕ) → index_at [] x ≡ None
 unfolding index_at first_at
 none_at x = refl
 
--- of one stretch
 pub of_one : (b : Bool) (s : Stretch) → option_map (λ (t : Stretch). t.index) (cond b (Some s) None) ≡ cond b (Some s.index) None
 of_one true s = refl
 of_one false s = refl
@@ -21,7 +20,6 @@ pub one_at : (s : Stretch) (x : ℕ) → index_at (s ∷ []) x ≡ cond (reaches
 unfolding index_at first_at
 one_at s x = of_one (reaches s x) s
 
--- of two lists
 index_or : (a b : Option Stretch) → option_map (λ (t : Stretch). t.index) (option_or a b) ≡ option_or (option_map (λ (t : Stretch). t.index) a) (option_map (λ (t : Stretch). t.index) b)
 index_or None b = refl
 index_or (Some s) b = refl
@@ -30,7 +28,6 @@ pub found_joined : (xs ys : List Stretch) (x : ℕ) → index_at (xs ++ ys) x �
 unfolding index_at first_at
 found_joined xs ys x = ap (option_map (λ (t : Stretch). t.index)) (find-append (λ t. reaches t x) xs ys) ∙ index_or (find (λ t. reaches t x) xs) (find (λ t. reaches t x) ys)
 
--- so many addresses from one on, cut at the last of all
 within_cut : (a s x top : ℕ) → x < top → (nat_le a x && nat_le x (min (a + (suc s - 1)) (top - 1))) ≡ (nat_le a x && nat_lt x (a + suc s))
 within_cut a s x top l = grind (arith, nat_tests)
 
@@ -48,7 +45,6 @@ cut_at n start (suc s) x l =
     ∙ one_at stretch x
     ∙ ap (λ b. cond b (Some n) None) (within_cut start s x (2 ^ 64) l)
 
--- of the first item
 pub item_index : (items : List Stretch) (x : ℕ) → option_map (λ (i : FirstItem). i.index) (first_item items x) ≡ index_at items x
 unfolding index_at first_item
 item_index items x = go (first_at items x)

@@ -49,7 +49,7 @@ index_held x y (s ∷ stops) (v ∷ values) a is = index_held (cond (nat_le s a)
     go true = refl
     go false = is
 
--- a cover up to the address before a stop is the run up to that stop
+-- The covers as runs: each ends at the address after its last.
 abbrev runs_of : List Cover → List (Run ℕ)
 runs_of covers = map cover_run covers
 
@@ -67,7 +67,6 @@ follows_covers r s (Some i) (t ∷ stops) (w ∷ values) low differs rises = eli
   | inr off ↦ rw off (low, λ touch same. differs touch (ap (λ w. Some w) same))
 ]
 
--- the next stop is not above the last one
 last_lower : (low more : ℕ) (stops : List ℕ) → low ≤ more → last_from low stops ≤ last_from more stops
 last_lower low more [] le = le
 last_lower low more (s ∷ stops) le = omega arith
@@ -90,7 +89,7 @@ covers_apart first (Some i) (t ∷ stops) (w ∷ values) rises fits = elim (bool
   )
 ]
 
--- a cover in front is a piece in front
+-- A cover in front is, as a run, a piece in front.
 with_cover_run : (first stop : ℕ) (now : Option FirstItem) (covers : List Cover) → 0 < stop → runs_of (with_cover first (stop - 1) now covers) ≡ with_piece first stop (index_of now) (runs_of covers)
 with_cover_run first stop None covers some = refl
 with_cover_run first stop (Some i) covers some = (let same : (stop - 1) + 1 ≡ stop = omega arith in ap (λ n. record { start = first; end = n; value = i.index } ∷ runs_of covers) same)
@@ -126,11 +125,11 @@ covers_values first now (t ∷ stops) (w ∷ values) a paired rises fits = elim 
     either_index x y true on = index_alike x y on
     either_index x y false on = refl
 
--- from a start on, and up to the address after the last one of 64 bits
+-- From `first` on, the function has the value that the stops give.
 abbrev pub Gives : (ℕ → Option FirstItem) → ℕ → Option FirstItem → List ℕ → List (Option FirstItem) → Type 0
 Gives f first now stops values = (a : ℕ) → first ≤ a → f a ≡ held_from now stops values a
 
--- each cover begins at an address of 64 bits, and has the mark of what is there
+-- A cover begins at an address of 64 bits, and says whether this address is shared.
 abbrev IsShownAt : (ℕ → Option FirstItem) → Cover → Type 0
 IsShownAt f c = (c.first < 2 ^ 64) × (option_map (λ i. i.shared) (f c.first) ≡ Some c.shared)
 
@@ -138,7 +137,7 @@ abbrev pub AreShownAt : (ℕ → Option FirstItem) → List Cover → Type 0
 AreShownAt f [] = Unit {0}
 AreShownAt f (c ∷ covers) = IsShownAt f c × AreShownAt f covers
 
--- at each stop the function has its value
+-- At each stop the function has the value of this stop.
 abbrev pub StopsTell : (ℕ → Option FirstItem) → List ℕ → List (Option FirstItem) → Type 0
 StopsTell f [] values = Unit {0}
 StopsTell f (s ∷ stops) [] = Unit {0}
@@ -166,13 +165,13 @@ shown_covers f first (Some i) (t ∷ stops) (w ∷ values) low fits rises at tel
   | inr off ↦ rw off ((low, ap (λ o. option_map (λ i. i.shared) o) at), shown_covers f t w stops values (omega (arith, fits, start_low t stops rises.1)) fits rises.1 tell.0 tell.1)
 ]
 
--- covers that have a function's index at each address, and its mark where they begin
+-- The covers have the function's index at each address, and say whether their first addresses are
+-- shared.
 pub record Joined (f : ℕ → Option FirstItem) (covers : List Cover) : Type 0 where
   pub apart : AreRuns (runs_of covers)
   pub values : (a : ℕ) → value_in (runs_of covers) a ≡ between 0 (2 ^ 64) (λ b. index_of (f b)) a
   pub shown : AreShownAt f covers
 
--- from an address on, below which there is nothing
 joined_from : (f : ℕ → Option FirstItem) (first : ℕ) (now : Option FirstItem) (stops : List ℕ) (values : List (Option FirstItem)) → length stops ≡ length values → RisesFrom (first + 1) stops → last_from first stops < 2 ^ 64 → Gives f first now stops values → ((a : ℕ) → a < first → f a ≡ None) → Joined f (covers_from first now stops values)
 joined_from f first now stops values paired rises fits gives none = record {
   apart = covers_apart first now stops values rises fits;
@@ -211,7 +210,7 @@ all_marked items f (c ∷ covers) same shown = (
   all_marked items f covers same shown.1,
 )
 
--- the joined stops of stretches are their covers
+-- The covers joined from the stops are the covers of the stretches.
 pub covers_are : (items : List Stretch) (steps : Stepping (Option FirstItem)) (covers : List Cover) → ((a : ℕ) → a < 2 ^ 64 → value_at None steps a ≡ laid items a) → IsStepping steps.stops steps.values → covers ≡ covers_from 0 None steps.stops steps.values → AreCovers items covers
 covers_are items steps covers same is made =
     let joined : Joined (value_at None steps) (covers_from 0 None steps.stops steps.values) = joined_whole steps.stops steps.values is in

@@ -14,14 +14,13 @@ or_true : (b : Bool) → (b || true) ≡ true
 or_true true = refl
 or_true false = refl
 
--- of three numbers the first differs from one of the others just where it differs from the second or the second from the third
 three_classes : (p q r : ℕ) (s t u : Bool) → (s || ((t || (u || not (q == r))) || not (p == q))) ≡ ((s || (t || not (p == q))) || (u || not (p == r)))
 three_classes p q r true t u = refl
 three_classes p q r false true u = refl
 three_classes p q r false false true = sym (or_true (not (p == q)))
 three_classes p q r false false false = grind (arith, nat_tests)
 
--- items are laid over one another in any grouping
+-- Laying items over one another is associative.
 over_assoc : (p q r : Option FirstItem) → over p (over q r) ≡ over (over p q) r
 over_assoc None q r = refl
 over_assoc (Some p) None r = refl
@@ -34,13 +33,13 @@ over_none : (top : Option FirstItem) → over top None ≡ top
 over_none None = refl
 over_none (Some top) = refl
 
--- stretches in two lists, the first over the second
+-- A list of stretches is its front half laid over its back half.
 laid_split : (xs ys : List Stretch) (a : ℕ) → laid (xs ++ ys) a ≡ over (laid xs a) (laid ys a)
 unfolding laid
 laid_split [] ys a = refl
 laid_split (x ∷ xs) ys a = ap (λ o. over (own_item x a) o) (laid_split xs ys a) ∙ over_assoc (own_item x a) (laid xs a) (laid ys a)
 
--- two halves make the whole
+-- The map of two halves is the map of the whole list.
 pub halves_laid : (all xs ys : List Stretch) (upper lower both : Stepping (Option FirstItem)) → all ≡ xs ++ ys → ((a : ℕ) → a < 2 ^ 64 → value_at None upper a ≡ laid xs a) → ((a : ℕ) → a < 2 ^ 64 → value_at None lower a ≡ laid ys a) → ((a : ℕ) → value_at None both a ≡ over (value_at None upper a) (value_at None lower a)) → (a : ℕ) → a < 2 ^ 64 → value_at None both a ≡ laid all a
 halves_laid all xs ys upper lower both whole left right by a fits =
     by a
@@ -49,14 +48,13 @@ halves_laid all xs ys upper lower both whole left right by a fits =
     ∙ sym (laid_split xs ys a)
     ∙ ap (λ l. laid l a) (sym whole)
 
--- a stretch after the last stop of a map
+-- The item of a stretch that no other item shares.
 abbrev pub alone : Stretch → FirstItem
 alone s = record { index = s.index; class = s.class; shared = false }
 
 abbrev pub Behind : Stepping (Option FirstItem) → Stepping (Option FirstItem) → Stretch → Type 0
 Behind old more s = (a : ℕ) → a < 2 ^ 64 → value_at None more a ≡ (if nat_lt s.last a then None else if nat_le s.first a then Some (alone s) else value_at None old a)
 
--- what such a stretch adds is what it shows alone, where nothing was from its first address on
 seen_behind : (old more : Stepping (Option FirstItem)) (s : Stretch) (r : Option FirstItem) (a : ℕ) → s.first ≤ s.last → a < 2 ^ 64 → Behind old more s → (s.first ≤ a → value_at None old a ≡ None) → over (value_at None more a) r ≡ over (value_at None old a) (over (own_item s a) r)
 seen_behind old more s r a some fits behind none = elim (cases_lt a s.first) [
   | inl low ↦
@@ -82,11 +80,10 @@ seen_behind old more s r a some fits behind none = elim (cases_lt a s.first) [
   ]
 ]
 
--- above the last address nothing is left
 gone_behind : (old more : Stepping (Option FirstItem)) (s : Stretch) (a : ℕ) → Behind old more s → s.last < a → a < 2 ^ 64 → value_at None more a ≡ None
 gone_behind old more s a behind past fits = (let up : nat_lt s.last a ≡ true = grind (arith, nat_tests) in behind a fits ∙ if_true (nat_lt s.last a) None (if nat_le s.first a then Some (alone s) else value_at None old a) up)
 
--- stretches that ascend, up to one, lie in the map, and the rest is after it
+-- The stretches up to one are in the map, and the others begin after it.
 pub record InOrder (items : List Stretch) (steps : Stepping (Option FirstItem)) (last : ℕ) (rest : List Stretch) : Type 0 where
   pub done : (a : ℕ) → a < 2 ^ 64 → over (value_at None steps a) (laid rest a) ≡ laid items a
   pub none : (a : ℕ) → last < a → a < 2 ^ 64 → value_at None steps a ≡ None
@@ -141,7 +138,7 @@ pub order_ends : (items rest : List Stretch) (steps : Stepping (Option FirstItem
 unfolding laid
 order_ends items rest steps last o none a fits = (let o2 : InOrder items steps last [] = rw none at o in sym (over_none (value_at None steps a)) ∙ o2.done a fits)
 
--- from an address on, and up to the next stop, the same is seen
+-- Between `at` and the next stop the same item is laid at all addresses.
 steady_same : (items : List Stretch) (at : ℕ) (next : Option ℕ) (a : ℕ) → AreSteady items at next → at ≤ a → a < 2 ^ 64 → BelowEnd a next → laid items a ≡ laid items at
 unfolding laid
 steady_same [] at next a steady le fits below = refl
@@ -166,7 +163,7 @@ steady_sooner (s ∷ items) at x y steady = (λ a le fits below. steady.0 a le f
 pub steady_front : (items later : List Stretch) (s : Stretch) (at : ℕ) (x y next : Option ℕ) → items ≡ s ∷ later → next ≡ sooner x y → ((a : ℕ) → at ≤ a → a < 2 ^ 64 → BelowEnd a x → reaches s a ≡ reaches s at) → AreSteady later at y → AreSteady items at next
 steady_front items later s at x y next whole is own steady = rw (whole, is) (λ a le fits below. own a le fits (sooner_left x y a below), steady_sooner later at x y steady)
 
--- up to an address all is laid, and from there on what is seen at it
+-- Below `at` the map is right; from `at` on it has the value that is right at `at`.
 pub record Lays (items : List Stretch) (steps : Stepping (Option FirstItem)) (at : ℕ) : Type 0 where
   pub done : (a : ℕ) → a < at → a < 2 ^ 64 → value_at None steps a ≡ laid items a
   pub now : (a : ℕ) → at ≤ a → value_at None steps a ≡ laid items at

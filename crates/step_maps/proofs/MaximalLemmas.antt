@@ -3,12 +3,12 @@ use Rattle.std.proofs.lemmas.Bool.Decides.{leb_tells}
 use Rattle.step_maps.specs.Runs.{Run, value_in, AreRuns, IsRuns, AreMaximal}
 use Rattle.step_maps.proofs.RunLemmas.{first_value, rest_above, none_below, at_end}
 
--- the first run begins at or above an address, and right below it the function has another value or none
+-- The first run begins at or above `low`, and right below it the function has another value or
+-- none.
 abbrev StartsFrom : {V : Type 0} → ℕ → (ℕ → Option V) → List (Run V) → Type 0
 StartsFrom low f [] = Unit {0}
 StartsFrom low f (r ∷ runs) = (low ≤ r.start) × ((a : ℕ) → a + 1 ≡ r.start → f a ≢ Some r.value)
 
--- right below the run after a first run
 starts_next : {V : Type 0} (f : ℕ → Option V) (x : Run V) (xs : List (Run V)) (low : ℕ) → low ≤ x.start → AreRuns (x ∷ xs) → ((a : ℕ) → low ≤ a → value_in (x ∷ xs) a ≡ f a) → StartsFrom x.end f xs
 starts_next f x [] low above p same = tt
 starts_next f x (y ∷ ys) low above p same = (
@@ -49,6 +49,6 @@ starts_least f (x ∷ xs) p same = (
       cc,
 )
 
--- so each run of a function is maximal
+-- Each run of a function is maximal.
 pub maximal : {V : Type 0} (f : ℕ → Option V) (xs : List (Run V)) → IsRuns f xs → AreMaximal f xs
 maximal f xs is = all_maximal f xs is.apart 0 (λ a low. is.values a) (starts_least f xs is.apart is.values)

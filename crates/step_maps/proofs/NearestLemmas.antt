@@ -1,5 +1,5 @@
--- Of the members at or below a key the nearest one, by a test that says of which two the second counts: it depends on the
--- members of each key alone.
+-- The nearest of the members whose keys are at or below a given one. A test decides which of two
+-- members counts, and sees only their keys.
 use Rattle.std.proofs.Common.{◌≡◌, ◌≢◌, ℕ, zero, suc, ◌==◌, not, ◌&&◌, nat_le, nat_lt, Bool, cond, true, false, List, [], ◌∷◌, Option, Some, None, refl, sym, ◌∙◌, ap, inl, inr, arith}
 use Rattle.std.specs.List.{filter}
 use Rattle.std.specs.List.Sorted.{IsStableByKey, ties}
@@ -8,13 +8,13 @@ use Rattle.std.proofs.lemmas.Bool.{cases_order, le-leb, lt-leb, eq-eqb, ne_eqb, 
 use Rattle.std.proofs.lemmas.Bool.Decides.{nat_tests}
 use Rattle.std.proofs.lemmas.List.Elements.{filter_agree}
 
--- a test of two keys that agrees with their order: whether of their members the second counts
+-- A test of keys that agrees with their order: whether the second of two members counts.
 pub record IsKeyTest (test : ℕ → ℕ → Bool) : Type 0 where
   pub through : (a b c : ℕ) → test a b ≡ true → test b c ≡ true → test a c ≡ true
   pub back : (a b c : ℕ) → test a b ≡ false → test b c ≡ false → test a c ≡ false
   pub turned : (a b : ℕ) → a ≢ b → test a b ≡ not (test b a)
 
--- of members with one key the last counts, or the first
+-- Two such tests: of members with one key, the last counts, or the first.
 pub last_counts : IsKeyTest nat_le
 last_counts = record {
   through = λ a b c h k. grind (arith, nat_tests);
@@ -36,13 +36,13 @@ below_zero : (v : ℕ) → (v == 0) ≡ nat_le v 0
 below_zero v = grind (arith, nat_tests)
 
 module _ {X : Type 0} (test : ℕ → ℕ → Bool) (key : X → ℕ) where
-  -- of two members the one that counts
+  -- The one of two members that counts.
   abbrev pub nearer : Option X → Option X → Option X
   nearer None other = other
   nearer (Some x) None = Some x
   nearer (Some x) (Some y) = cond (test (key x) (key y)) (Some y) (Some x)
 
-  -- of the members at or below a key the one that counts
+  -- The one of the members at or below a key that counts.
   abbrev pub nearest : List X → ℕ → Option X
   nearest [] a = None
   nearest (x ∷ xs) a = nearer (cond (nat_le (key x) a) (Some x) None) (nearest xs a)
@@ -66,7 +66,6 @@ module _ {X : Type 0} (test : ℕ → ℕ → Bool) (key : X → ℕ) where
   nearer_nearer is (Some x) (Some y) None = none_behind (nearer (Some x) (Some y))
   nearer_nearer is (Some x) (Some y) (Some z) = three is x y z
 
-  -- members with different keys may change places
   turn : (b : Bool) (x y : X) → cond (not b) (Some y) (Some x) ≡ cond b (Some x) (Some y)
   turn true x y = refl
   turn false x y = refl
@@ -77,11 +76,11 @@ module _ {X : Type 0} (test : ℕ → ℕ → Bool) (key : X → ℕ) where
       ∙ ap (λ o. nearer o rest) (ap (λ b. cond b (Some y) (Some x)) (is.turned _ _ other) ∙ turn (test (key y) (key x)) x y)
       ∙ nearer_nearer is (Some y) (Some x) rest
 
-  -- the members of one key, in their order
+  -- The members of one key, in their order.
   abbrev pub with_key : ℕ → List X → List X
   with_key v xs = filter (λ x. key x == v) xs
 
-  -- the one of all members that counts
+  -- The one of all members that counts.
   abbrev joined : List X → Option X
   joined [] = None
   joined (x ∷ xs) = nearer (Some x) (joined xs)
@@ -90,7 +89,6 @@ module _ {X : Type 0} (test : ℕ → ℕ → Bool) (key : X → ℕ) where
   joined_one true x xs = refl
   joined_one false x xs = refl
 
-  -- a member may stand behind or in front of some others
   abbrev Passes : X → Option X → List X → Type 0
   Passes x rest xs = nearer (joined xs) (nearer (Some x) rest) ≡ nearer (Some x) (nearer (joined xs) rest)
 
@@ -106,7 +104,6 @@ module _ {X : Type 0} (test : ℕ → ℕ → Bool) (key : X → ℕ) where
           ∙ ap (nearer (Some x)) (sym (nearer_nearer is (Some y) (joined (with_key v xs)) rest))
       go less false e = less
 
-  -- the same by the keys in turn
   by_keys : List X → ℕ → Option X
   by_keys xs zero = joined (with_key 0 xs)
   by_keys xs (suc a) = nearer (joined (with_key (suc a) xs)) (by_keys xs a)
@@ -151,7 +148,7 @@ module _ {X : Type 0} (test : ℕ → ℕ → Bool) (key : X → ℕ) where
   by_keys_same xs ys same zero = ap joined (same 0)
   by_keys_same xs ys same (suc a) = ap (λ l. nearer (joined l) (by_keys xs a)) (same (suc a)) ∙ ap (nearer (joined (with_key (suc a) ys))) (by_keys_same xs ys same a)
 
-  -- so a stable sort keeps the nearest; `some` gives a member for each key
+  -- A stable sort by keys keeps the nearest member. `some` gives a member for each key.
   pub nearest_sorted : IsKeyTest test → (some : ℕ → X) → ((v : ℕ) → key (some v) ≡ v) → (xs ys : List X) → IsStableByKey key nat_cmp xs ys → (a : ℕ) → nearest ys a ≡ nearest xs a
   nearest_sorted is some has xs ys stable a =
       nearest_by_keys is ys a ∙ by_keys_same ys xs same a ∙ sym (nearest_by_keys is xs a)

@@ -9,11 +9,12 @@ use Rattle.step_maps.specs.internal.Places.{IsNextFirst}
 use Rattle.step_maps.specs.declared.stretch.FirstItem.{FirstItem}
 use Rattle.step_maps.proofs.SteppingLemmas.{held_before}
 
--- what both functions give, the first before the second
+-- The value of the first function laid over that of the second.
 abbrev pub wanted : List ℕ → List (Option FirstItem) → List ℕ → List (Option FirstItem) → ℕ → Option FirstItem
 wanted xs x_values ys y_values a = over (held_from None xs x_values a) (held_from None ys y_values a)
 
--- below the last stop all is done; from there on the rest gives what is wanted, and up to the next stop that is what holds now
+-- The invariant of the merge: below the last stop the result is right. From there on it has the
+-- value wanted now, and the stops that are left give the rest.
 pub record Left (want : ℕ → Option FirstItem) (both : Stepping (Option FirstItem)) (xs : List ℕ) (x_values : List (Option FirstItem)) (ys : List ℕ) (y_values : List (Option FirstItem)) (x y : Option FirstItem) : Type 0 where
   pub firsts : RisesFrom (last_from 0 both.stops) xs
   pub seconds : RisesFrom (last_from 0 both.stops) ys
@@ -35,7 +36,7 @@ held_now : {T : Type 0} (before v : T) (s : ℕ) (stops : List ℕ) (values : Li
 unfolding held_from
 held_now before v s stops values a le = ap (λ b. held_from (cond b v before) stops values a) (le-leb s a le)
 
--- a stop of the first
+-- The step of the merge if the next stop is one of the first list.
 first_step : (want : ℕ → Option FirstItem) (both more : Stepping (Option FirstItem)) (s : ℕ) (v : Option FirstItem) (xs : List ℕ) (x_values : List (Option FirstItem)) (ys : List ℕ) (y_values : List (Option FirstItem)) (x y : Option FirstItem)
     → Left want both (s ∷ xs) (v ∷ x_values) ys y_values x y → (0 < length ys → s ≤ get_or ys 0 0)
     → ((before : Option FirstItem) (a : ℕ) → value_at before more a ≡ cond (nat_le s a) (over v y) (value_at before both a)) → last_from 0 more.stops ≡ s
@@ -56,7 +57,7 @@ first_step want both more s v xs x_values ys y_values x y l lower at last =
       now = λ a h. (let high : s ≤ a = omega arith in at None a ∙ ap (λ b. cond b (over v y) (value_at None both a)) (le-leb s a high));
     }
 
--- a stop of the second
+-- The step of the merge if the next stop is one of the second list.
 second_step : (want : ℕ → Option FirstItem) (both more : Stepping (Option FirstItem)) (s : ℕ) (v : Option FirstItem) (xs : List ℕ) (x_values : List (Option FirstItem)) (ys : List ℕ) (y_values : List (Option FirstItem)) (x y : Option FirstItem)
     → Left want both xs x_values (s ∷ ys) (v ∷ y_values) x y → (0 < length xs → s ≤ get_or xs 0 0)
     → ((before : Option FirstItem) (a : ℕ) → value_at before more a ≡ cond (nat_le s a) (over x v) (value_at before both a)) → last_from 0 more.stops ≡ s
@@ -77,7 +78,6 @@ second_step want both more s v xs x_values ys y_values x y l lower at last =
       now = λ a h. (let high : s ≤ a = omega arith in at None a ∙ ap (λ b. cond b (over x v) (value_at None both a)) (le-leb s a high));
     }
 
--- the lists that are left, with their first members apart
 opened_first : (want : ℕ → Option FirstItem) (both : Stepping (Option FirstItem)) (xs : List ℕ) (x_values : List (Option FirstItem)) (i : ℕ) (v d : Option FirstItem) (ys : List ℕ) (y_values : List (Option FirstItem)) (x y : Option FirstItem)
     → i < length xs → i < length x_values → v ≡ get_or x_values i d → Left want both (drop i xs) (drop i x_values) ys y_values x y → Left want both (get_or xs i 0 ∷ drop (i + 1) xs) (v ∷ drop (i + 1) x_values) ys y_values x y
 opened_first want both xs x_values i v d ys y_values x y in_stops in_values read l =

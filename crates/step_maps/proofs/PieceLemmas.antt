@@ -19,7 +19,7 @@ none_either : {V : Type 0} (b : Bool) (x : Option V) → x ≡ None → (if b th
 none_either true x none = none
 none_either false x none = refl
 
--- where the function has no value, it has none between two addresses
+-- Where the function has no value, it has none if cut to an interval.
 pub between_none : {V : Type 0} (start end : ℕ) (f : ℕ → Option V) (a : ℕ) → f a ≡ None → between start end f a ≡ None
 between_none start end f a none = none_either (nat_le start a && nat_lt a end) (f a) none
 
@@ -29,7 +29,6 @@ between_same start end f g same a = elim (cases_lt a end) [
   | inr high ↦ (let out : (nat_le start a && nat_lt a end) ≡ false = grind (arith, nat_tests) in if_false _ (f a) None out ∙ sym (if_false _ (g a) None out))
 ]
 
--- a start that lies above says the same from there on
 pub between_later : {V : Type 0} (low start end : ℕ) (f : ℕ → Option V) (a : ℕ) → low ≤ start → start ≤ a → between start end f a ≡ between low end f a
 between_later low start end f a le high = (let same : (nat_le start a && nat_lt a end) ≡ (nat_le low a && nat_lt a end) = grind (arith, nat_tests) in ap (λ b. if b then f a else None) same)
 
@@ -54,7 +53,6 @@ pieces_apart end start (Some v) (t ∷ stops) (w ∷ values) differ rises high =
   pieces_apart end t w stops values differ.1 rises.1 high,
 )
 
--- what a piece in front adds
 pub piece_above : {V : Type 0} (start end : ℕ) (now : Option V) (runs : List (Run V)) (a : ℕ) → end ≤ a → value_in (with_piece start end now runs) a ≡ value_in runs a
 piece_above start end None runs a high = refl
 piece_above start end (Some v) runs a high = rest_above (record { start = start; end = end; value = v }) runs a high

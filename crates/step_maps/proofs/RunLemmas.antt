@@ -2,7 +2,7 @@ use Rattle.std.proofs.Common.{◌≡◌, ℕ, ◌<◌, ◌≤◌, Bool, true, fa
 use Rattle.std.proofs.lemmas.Bool.Decides.{nat_tests, leb_tells}
 use Rattle.step_maps.specs.Runs.{Run, has, value_in, AreRuns, Follows}
 
--- a choice whose test is known
+-- An if whose test is known.
 pub if_true : {V : Type 0} (b : Bool) (x y : V) → b ≡ true → (if b then x else y) ≡ x
 if_true b x y is = ap (λ t. if t then x else y) is
 
@@ -18,27 +18,23 @@ has_below r a low = grind (arith, nat_tests)
 pub has_above : {V : Type 0} (r : Run V) (a : ℕ) → r.end ≤ a → has r a ≡ false
 has_above r a high = grind (arith, nat_tests)
 
--- what the first run has
 pub first_value : {V : Type 0} (r : Run V) (runs : List (Run V)) (a : ℕ) → r.start ≤ a → a < r.end → value_in (r ∷ runs) a ≡ Some r.value
 first_value r runs a low high = if_true (has r a) (Some r.value) (value_in runs a) (has_within r a low high)
 
--- what it does not have, the others decide
 pub rest_below : {V : Type 0} (r : Run V) (runs : List (Run V)) (a : ℕ) → a < r.start → value_in (r ∷ runs) a ≡ value_in runs a
 rest_below r runs a low = if_false (has r a) (Some r.value) (value_in runs a) (has_below r a low)
 
 pub rest_above : {V : Type 0} (r : Run V) (runs : List (Run V)) (a : ℕ) → r.end ≤ a → value_in (r ∷ runs) a ≡ value_in runs a
 rest_above r runs a high = if_false (has r a) (Some r.value) (value_in runs a) (has_above r a high)
 
--- below what follows a run nothing has a value
 pub none_after : {V : Type 0} (r : Run V) (runs : List (Run V)) (a : ℕ) → Follows r runs → AreRuns runs → a < r.end → value_in runs a ≡ None
 none_after r [] a follows apart low = refl
 none_after r (s ∷ runs) a follows apart low = rest_below s runs a (omega arith) ∙ none_after s runs a apart.1 apart.2 (omega arith)
 
--- below the first run nothing has a value
+-- Below the first run there is no value.
 pub none_below : {V : Type 0} (r : Run V) (runs : List (Run V)) (a : ℕ) → AreRuns (r ∷ runs) → a < r.start → value_in (r ∷ runs) a ≡ None
 none_below r runs a apart low = rest_below r runs a low ∙ none_after r runs a apart.1 apart.2 (omega arith)
 
--- at the end of the first run there is another value or none
 pub at_end : {V : Type 0} (r : Run V) (runs : List (Run V)) → AreRuns (r ∷ runs) → value_in (r ∷ runs) r.end ≡ Some r.value → ⊥
 at_end r [] apart is = (let none : value_in (r ∷ []) r.end ≡ None = rest_above r [] r.end (omega arith) in cc)
 at_end r (s ∷ runs) apart is =

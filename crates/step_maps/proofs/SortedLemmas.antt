@@ -1,4 +1,4 @@
--- Stretches that do not overlap are laid alike in any order.
+-- Stretches that do not overlap give the same map in any order.
 use Rattle.std.proofs.Common.{◌≡◌, ℕ, zero, suc, ◌+◌, ◌^◌, ◌<◌, ◌≤◌, nat_lt, Bool, true, false, if◌then◌else◌, List, [], ◌∷◌, Option, None, Some, arith, refl, sym, ap, ◌∙◌}
 use Rattle.std.specs.List.{AllByRecursion, sum_by}
 use Rattle.std.specs.List.Sorted.{IsPermutation}
@@ -28,7 +28,7 @@ some_all (s ∷ items) some = (some.0, some_all items some.1)
 pub stretches_moved : (items sorted : List Stretch) → IsPermutation items sorted → AreStretches items → AreStretches sorted
 stretches_moved items sorted moved some = some_all sorted (recursion_from_All IsStretch sorted (All-permutation IsStretch items sorted moved (All-from_recursion IsStretch items (all_some items some))))
 
--- a number of each stretch that has an address, in all
+-- The sum of a number over all stretches that contain an address.
 abbrev total : (Stretch → ℕ) → ℕ → List Stretch → ℕ
 total f a [] = 0
 total f a (s ∷ items) = if reaches s a then f s + total f a items else total f a items
@@ -54,7 +54,8 @@ none_there f a (s ∷ items) none = go (reaches s a) (none_there f a items) none
     go true later is = absurd (omega (arith, is))
     go false later is = later is
 
--- what is laid where at most one stretch has the address, by numbers for which the order does not matter
+-- The item that is laid at an address that at most one stretch contains, given by sums that do not
+-- depend on the order.
 abbrev only : ℕ → ℕ → ℕ → Option FirstItem
 only zero index class = None
 only (suc n) index class = Some (record { index = index; class = class; shared = false })
@@ -82,7 +83,7 @@ laid_only a (s ∷ items) few = go (reaches s a) (laid_only a items) few
         ∙ only_one s.index s.class _ _ _ none (none_there (λ t. t.index) a items none) (none_there (λ t. t.class) a items none)
     go false later few = later few
 
--- in a list that ascends at most one has it
+-- Of stretches that ascend at most one contains an address.
 none_behind : (last a : ℕ) (items : List Stretch) → AreStretches items → ascends_from last items ≡ true → a ≤ last → count a items ≡ 0
 none_behind last a [] some up low = refl
 none_behind last a (s ∷ items) some up low =

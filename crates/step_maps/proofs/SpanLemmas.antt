@@ -1,4 +1,5 @@
--- Stretches that are not empty and have not the last address of all (push_spans, and what is made of its stretches).
+-- Stretches that are not empty and do not contain the last address (for `push_spans` and the code
+-- that uses it).
 use Rattle.std.proofs.Common.{◌+◌, ◌<◌, ◌≤◌, ◌^◌, List, [], ◌∷◌, ◌++◌}
 use Rattle.step_maps.specs.declared.stretch.Stretch.{Stretch}
 use Rattle.step_maps.specs.Covers.{AreStretches}

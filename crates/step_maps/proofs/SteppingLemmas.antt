@@ -8,7 +8,7 @@ use Rattle.sym_edges.specs.Rising.{RisesFrom}
 use Rattle.sym_edges.proofs.RisingLemmas.{rises_sorted}
 use Rattle.step_maps.specs.Stepping.{held_from, last_from, IsStepping}
 
--- one more stop at the end
+-- The values with one more stop at the end.
 pub held_push : {V : Type 0} (before v : V) (stops : List ℕ) (values : List V) (s a : ℕ) → length stops ≡ length values → held_from before (stops ++ s ∷ []) (values ++ v ∷ []) a ≡ cond (nat_le s a) v (held_from before stops values a)
 unfolding held_from
 held_push before v [] [] s a same = refl
@@ -20,7 +20,7 @@ cond_twice : {V : Type 0} (b : Bool) (x y z : V) → cond b x z ≡ cond b x (co
 cond_twice true x y z = refl
 cond_twice false x y z = refl
 
--- another value for the last stop
+-- The values with another value for the last stop.
 pub held_over : {V : Type 0} (before v : V) (stops : List ℕ) (values : List V) (i low a : ℕ) → length stops ≡ length values → length stops ≡ i + 1 → held_from before stops (set values i v) a ≡ cond (nat_le (last_from low stops) a) v (held_from before stops values a)
 unfolding held_from
 held_over before v [] values i low a same last = absurd (omega arith)
@@ -42,7 +42,6 @@ last_index low (t ∷ []) (suc i) d last = absurd (omega arith)
 last_index low (t ∷ u ∷ stops) zero d last = absurd (omega arith)
 last_index low (t ∷ u ∷ stops) (suc i) d last = last_index t (u ∷ stops) i d (omega arith)
 
--- the stops still rise with one more that is above the last
 rises_more : (low d : ℕ) (stops : List ℕ) (s : ℕ) → RisesFrom low stops → (length stops ≡ 0 → low ≤ s) → (0 < length stops → last_from d stops < s) → RisesFrom low (stops ++ s ∷ [])
 rises_more low d [] s rises first later = (first refl, tt)
 rises_more low d (t ∷ []) s rises first later = (let up : t < s = later (omega arith) in (rises.0, (omega arith, tt)))
@@ -52,7 +51,6 @@ rises_more low d (t ∷ u ∷ stops) s rises first later =
 pub rises_push : (stops : List ℕ) (s : ℕ) → RisesFrom 0 stops → (0 < length stops → last_from 0 stops < s) → RisesFrom 0 (stops ++ s ∷ [])
 rises_push stops s rises later = rises_more 0 0 stops s rises (λ none. omega arith) later
 
--- stops that rise from an address on are all above what is below it
 pub held_before : {V : Type 0} (before : V) (low : ℕ) (stops : List ℕ) (values : List V) (a : ℕ) → RisesFrom low stops → a < low → held_from before stops values a ≡ before
 unfolding held_from
 held_before before low [] values a rises below = refl
@@ -60,7 +58,7 @@ held_before before low (s ∷ stops) [] a rises below = refl
 held_before before low (s ∷ stops) (v ∷ values) a rises below =
     ap (λ b. held_from (cond b v before) stops values a) (lt-leb s a (omega arith)) ∙ held_before before (s + 1) stops values a rises.1 (omega arith)
 
--- the value of the last stop at or below an address, found by a place
+-- The value at an address is that of the last stop at or below it.
 pub held_found : {V : Type 0} (before d : V) (low : ℕ) (stops : List ℕ) (values : List V) (i a : ℕ) → RisesFrom low stops → length stops ≡ length values → i < length stops → ((k e : ℕ) → k ≤ i → get_or stops k e ≤ a) → ((k e : ℕ) → i < k → k < length stops → a < get_or stops k e) → held_from before stops values a ≡ get_or values i d
 unfolding held_from
 held_found before d low [] values i a rises same inside at_most above = absurd (omega arith)
@@ -73,7 +71,6 @@ held_found before d low (s ∷ t ∷ stops) (v ∷ values) zero a rises same ins
 held_found before d low (s ∷ stops) (v ∷ values) (suc i) a rises same inside at_most above =
     held_found (cond (nat_le s a) v before) d (s + 1) stops values i a rises.1 (omega arith) (omega arith) (λ k e h. at_most (suc k) e (omega arith)) (λ k e h g. above (suc k) e (omega arith) (omega arith))
 
--- all stops are above the address
 pub held_none : {V : Type 0} (before : V) (stops : List ℕ) (values : List V) (a : ℕ) → ((k e : ℕ) → k < length stops → a < get_or stops k e) → held_from before stops values a ≡ before
 unfolding held_from
 held_none before [] values a above = refl
@@ -87,24 +84,24 @@ parted stops a rises = IsPartitionedBy-leb (λ s. s) stops a (rises_sorted 0 sto
 abbrev pub Point : List ℕ → ℕ → ℕ → Type 0
 Point stops a i = IsPartitionPoint (λ s. nat_le s a ≡ true) (λ s. nat_le s a ≡ false) stops i
 
--- where `partition_point` answers 0
+-- The value if no stop is at or below the address.
 pub point_none : {V : Type 0} (before : V) (stops : List ℕ) (values : List V) (a i : ℕ) → Point stops a i → i ≡ 0 → before ≡ held_from before stops values a
 point_none before stops values a i point none =
     sym (held_none before stops values a (λ k e h. (let is : nat_le (get_or stops k e) a ≡ false = point.1 k e (omega arith) h in grind (arith, nat_tests))))
 
--- and where it answers more
+-- The value if a stop is at or below the address.
 pub point_some : {V : Type 0} (before v : V) (stops : List ℕ) (values : List V) (a i : ℕ) → IsStepping stops values → Point stops a i → i ≢ 0 → i ≤ length stops → v ≡ get_or values (i - 1) v → v ≡ held_from before stops values a
 point_some before v stops values a i stepping point some inside read =
     read ∙ sym (held_found before v 0 stops values (i - 1) a stepping.rising stepping.paired (omega arith)
     (λ k e h. (let is : nat_le (get_or stops k e) a ≡ true = point.0 k e (omega arith) (omega arith) in grind (arith, nat_tests)))
     (λ k e h g. (let is : nat_le (get_or stops k e) a ≡ false = point.1 k e (omega arith) g in grind (arith, nat_tests))))
 
--- below the first stop
+-- Below the first stop the value is `before`.
 pub held_below_first : {V : Type 0} (before : V) (stops : List ℕ) (values : List V) (a : ℕ) → IsStepping stops values → (0 < length stops → a < get_or stops 0 0) → held_from before stops values a ≡ before
 held_below_first before [] values a stepping below = held_none before [] values a (λ k e h. absurd (omega arith))
 held_below_first before (s ∷ stops) values a stepping below = held_before before s (s ∷ stops) values a (omega arith, stepping.rising.1) (below (omega arith))
 
--- from a stop on, and up to the next
+-- From a stop on, up to the next one, the value is that of this stop.
 pub held_at_index : {V : Type 0} (before d : V) (stops : List ℕ) (values : List V) (i a : ℕ) → IsStepping stops values → i < length stops → get_or stops i 0 ≤ a → (i + 1 < length stops → a < get_or stops (i + 1) 0) → held_from before stops values a ≡ get_or values i d
 held_at_index before d stops values i a stepping inside low high =
     let rises : IsNonDecreasingBy (λ s. s) stops = rises_sorted 0 stops stepping.rising in

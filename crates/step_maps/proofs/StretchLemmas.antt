@@ -10,7 +10,7 @@ pub stretches_back : (xs ys : List Stretch) → AreStretches (xs ++ ys) → AreS
 stretches_back [] ys all = all
 stretches_back (x ∷ xs) ys all = stretches_back xs ys all.1
 
--- one more after the others
+-- One more stretch at the end.
 pub stretches_push : (xs : List Stretch) (s : Stretch) → AreStretches xs → s.first ≤ s.last → AreStretches (xs ++ s ∷ [])
 stretches_push [] s all some = (some, tt)
 stretches_push (x ∷ xs) s all some = (all.0, stretches_push xs s all.1 some)

@@ -1,4 +1,5 @@
--- Which stretch an address belongs to, and whether it is shared: a sign for each address, in order.
+-- Worked examples: which stretch is the first at each address, and whether the address is shared,
+-- as one character for each address.
 use Rattle.std.proofs.Common.{◌≡◌, ℕ, ◌+◌, ◌-◌, ◌^◌, Bool, true, false, map, List, [], ◌∷◌, Option, None, Some, refl}
 use Rattle.std.specs.List.{range_with_len}
 use Prim.Native.String.{String}
@@ -8,29 +9,29 @@ use Rattle.step_maps.specs.Covers.{index_at, is_shared, first_item}
 use Rattle.step_maps.specs.Overlays.{over}
 use Rattle.step_maps.proofs.Computing.{step_maps_computes}
 
--- the addresses from one to another, both included, an index, a class
+-- The stretch with these first and last addresses, index and class.
 abbrev on : ℕ → ℕ → ℕ → ℕ → Stretch
 on first last index class = record { first = first; last = last; index = index; class = class }
 
--- the digit of an index below 10, and a point for none
+-- The digit of an index below 10, or a point if there is none.
 abbrev digit : Option ℕ → ℕ
 digit None = 46
 digit (Some n) = 48 + n
 
--- a plus sign where it is shared, else a minus sign
+-- A plus sign if the address is shared, otherwise a minus sign.
 abbrev sign : Bool → ℕ
 sign true = 43
 sign false = 45
 
--- the index at each of some addresses from one on
+-- The index at each of `count` addresses.
 unfoldable indices : List Stretch → ℕ → ℕ → String
 indices items from count = shown (map (λ a. digit (index_at items a)) (range_with_len from count))
 
--- and whether each is shared
+-- Whether each of `count` addresses is shared.
 unfoldable marks : List Stretch → ℕ → ℕ → String
 marks items from count = shown (map (λ a. sign (is_shared items a)) (range_with_len from count))
 
--- the first of two stretches lies inside the second's end
+-- The first of these stretches begins before the end of the second.
 abbrev two : List Stretch
 two = on 5 9 0 0 ∷ on 0 7 1 1 ∷ []
 
@@ -42,17 +43,17 @@ two_marks : marks two 0 12 ≡ "-----+++----"
 unfolding marks step_maps_computes
 two_marks = refl
 
--- all that is told of an address that both have
+-- The first item at an address that both stretches contain.
 two_both : first_item two 6 ≡ Some (record { index = 0; class = 0; shared = true })
 unfolding step_maps_computes
 two_both = refl
 
--- no stretch
+-- There is no stretch.
 none_indices : indices [] 0 3 ≡ "..."
 unfolding indices step_maps_computes
 none_indices = refl
 
--- one stretch of one address, which is not shared with itself
+-- One stretch of one address, which is not shared.
 one_indices : indices (on 4 4 7 3 ∷ []) 3 3 ≡ ".7."
 unfolding indices step_maps_computes
 one_indices = refl
@@ -61,12 +62,12 @@ one_marks : marks (on 4 4 7 3 ∷ []) 3 3 ≡ "---"
 unfolding marks step_maps_computes
 one_marks = refl
 
--- the last address of 64 bits, as the first and as the last of a stretch
+-- The last address of 64 bits, as the first and as the last of a stretch.
 top_indices : indices (on (2 ^ 64 - 1) (2 ^ 64 - 1) 1 0 ∷ on (2 ^ 64 - 3) (2 ^ 64 - 1) 2 0 ∷ []) (2 ^ 64 - 4) 5 ≡ ".221."
 unfolding indices step_maps_computes
 top_indices = refl
 
--- equal stretches of two classes: the first in the list has all, and all is shared
+-- Equal stretches of two classes: the first in the list has all addresses, and all are shared.
 equal_indices : indices (on 2 4 1 0 ∷ on 2 4 2 1 ∷ on 2 4 3 0 ∷ []) 1 5 ≡ ".111."
 unfolding indices step_maps_computes
 equal_indices = refl
@@ -75,7 +76,7 @@ equal_marks : marks (on 2 4 1 0 ∷ on 2 4 2 1 ∷ on 2 4 3 0 ∷ []) 1 5 ≡ "-
 unfolding marks step_maps_computes
 equal_marks = refl
 
--- one that has all addresses of the others, first in the list and last
+-- A stretch that contains all others, as the first in the list and as the last.
 outer_first : indices (on 0 9 0 0 ∷ on 2 3 1 0 ∷ on 5 6 2 1 ∷ []) 0 10 ≡ "0000000000"
 unfolding indices step_maps_computes
 outer_first = refl
@@ -92,24 +93,24 @@ outer_last_marks : marks (on 2 3 1 0 ∷ on 5 6 2 1 ∷ on 0 9 0 0 ∷ []) 0 10 
 unfolding marks step_maps_computes
 outer_last_marks = refl
 
--- a third class under two of one: shared, though the second is like the first
+-- A stretch of a third class under two of one class: the address is shared.
 third_marks : marks (on 1 1 0 0 ∷ on 1 1 1 0 ∷ on 1 1 2 5 ∷ []) 0 3 ≡ "-+-"
 unfolding marks step_maps_computes
 third_marks = refl
 
--- the classes of those below differ from one another and from the first
+-- The classes of the stretches below differ from one another and from that of the first.
 mixed_marks : marks (on 1 3 0 0 ∷ on 2 3 1 4 ∷ on 3 3 2 5 ∷ []) 0 5 ≡ "--++-"
 unfolding marks step_maps_computes
 mixed_marks = refl
 
--- one item over another, over none and under none
+-- An item over another, over none, and under none.
 over_other : over (Some (record { index = 1; class = 3; shared = false })) (Some (record { index = 2; class = 4; shared = false })) ≡ Some (record { index = 1; class = 3; shared = true })
 over_other = refl
 
 over_like : over (Some (record { index = 1; class = 3; shared = false })) (Some (record { index = 2; class = 3; shared = false })) ≡ Some (record { index = 1; class = 3; shared = false })
 over_like = refl
 
--- one below that is shared has an item of another class with it
+-- If the lower item is shared, so is the upper one that hides it.
 over_shared : over (Some (record { index = 1; class = 3; shared = false })) (Some (record { index = 2; class = 3; shared = true })) ≡ Some (record { index = 1; class = 3; shared = true })
 over_shared = refl
 

@@ -24,7 +24,7 @@ first_at items a = find (λ s. reaches s a) items
 unfoldable pub index_at : List Stretch → ℕ → Option ℕ
 index_at items a = option_map (λ s. s.index) (first_at items a)
 
--- whether a stretch with another class than the first one contains the address, too
+-- whether the address is also in a stretch that has another class than the first one
 unfoldable pub is_shared : List Stretch → ℕ → Bool
 is_shared items a = option_map_or (λ s. list_any (λ t. reaches t a && not (t.class == s.class)) items) (first_at items a) false
 

@@ -1,4 +1,4 @@
--- An end of addresses, if there is one.
+-- An address compared with an end that may be missing.
 use Rattle.std.specs.Prelude.{ℕ, ◌<◌, ◌≤◌, Option, None, Some}
 
 -- an address is below the end, if there is one

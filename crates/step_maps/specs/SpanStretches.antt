@@ -1,4 +1,4 @@
--- The stretches of sets of addresses.
+-- Stretches made from the ranges of a set of addresses.
 use Rattle.std.specs.Prelude.{ℕ, ◌+◌, ◌-◌, ◌<◌, ◌≤◌, ◌^◌, List, [], ◌∷◌}
 use Rattle.sym_edges.specs.Addresses.{Range}
 use Rattle.step_maps.specs.declared.stretch.Stretch.{Stretch}

@@ -8,12 +8,13 @@ abbrev pub Differ : {V : Type 0} → V → List V → Type 0
 Differ before [] = Unit {0}
 Differ before (v ∷ values) = (before ≢ v) × Differ v values
 
--- the interval up to an end, if it has a value, and then the later ones
+-- the later runs, with the interval from `start` up to `end` in front of them if it has a value
 abbrev pub with_piece : {V : Type 0} → ℕ → ℕ → Option V → List (Run V) → List (Run V)
 with_piece start end None runs = runs
 with_piece start end (Some v) runs = record { start = start; end = end; value = v } ∷ runs
 
--- the intervals that have a value: from each stop up to the next one, and from the last stop up to an end
+-- the intervals that have a value: each goes from one stop up to the next, or from the last stop up
+-- to `end`
 abbrev pub pieces_from : {V : Type 0} → ℕ → ℕ → Option V → List ℕ → List (Option V) → List (Run V)
 pieces_from end start now [] values = with_piece start end now []
 pieces_from end start now (s ∷ stops) [] = with_piece start end now []

@@ -10,7 +10,8 @@ use crate::stretch::{CoverList, FirstItem, Stretch};
 use std::alloc::Global;
 use sym_edges::{ListOf, OutOfMemory};
 
-/// The first item of the list at each address. This takes n log n turns for n stretches, however they overlap, and n turns if they ascend.
+/// The first item of the list at each address. The time for n stretches is O(n log n), however they
+/// overlap, and O(n) if they ascend.
 #[tactic(auto, using(crate::proofs::FirstLemmas::first_where_laid))]
 pub fn first_items(
     alloc: Global,
@@ -23,8 +24,8 @@ pub fn first_items(
     Ok(steps)
 }
 
-/// For each address in some stretch, which stretch is the first in the list that contains it. This takes n log n turns for n stretches, however they
-/// overlap, and n turns if they ascend.
+/// For each address in some stretch, which stretch is the first in the list that contains it. The
+/// time for n stretches is O(n log n), however they overlap, and O(n) if they ascend.
 pub fn covers(alloc: Global, items: &[Stretch]) -> Result<CoverList, OutOfMemory>
     requires { AreStretches items.now }
     ensures { IfOk result (λ covers. AreCovers items.now covers) }

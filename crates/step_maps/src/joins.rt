@@ -1,11 +1,11 @@
-//! Covers from changes of the index.
+//! Covers, made from the stops of a map of first items.
 ghost use Rattle.std.specs.Prelude.{◌≡◌, ◌-◌, ◌^◌, ◌++◌, [], None, IfOk, OnOk};
 ghost use Rattle.step_maps.specs.internal.Joining.{is_same_index, with_cover, covers_from};
 
 use crate::stretch::{Cover, FirstItem};
 use std::alloc::{AllocError, Global};
 
-/// One cover from each change of the index up to the next.
+/// One cover for each maximal interval on which the first item's index is the same.
 pub(crate) fn joined_covers(
     alloc: Global,
     stops: &[u64],

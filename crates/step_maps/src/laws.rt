@@ -16,7 +16,8 @@ pub fn runs_are_maximal<V>()
     ensures { (f : ℕ → Option V) (xs : List (Run V)) → IsRuns f xs → AreMaximal f xs }
 {}
 
-/// The pieces of a step map without equal neighbours are its runs, up to any end above its stops.
+/// The intervals between the stops of a step map, up to an end above all stops, are its runs if no
+/// two neighbouring values are equal and the first value is not `None`.
 #[tactic(auto, using(crate::proofs::PieceLemmas::pieces_are_runs))]
 pub fn steps_are_runs<V>()
     ensures { (end : ℕ) (steps : Stepping (Option V)) → IsStepping steps.stops steps.values → Differ None steps.values → last_from 0 steps.stops < end → IsRuns (between 0 end (value_at None steps)) (pieces end steps) }

@@ -1,4 +1,4 @@
-//! Stretches that lie over one another, half by half.
+//! The map of first items of stretches that may overlap.
 ghost use Rattle.std.specs.Prelude.{◌≡◌, ℕ, ◌+◌, ◌^◌, ◌<◌, ◌≤◌, true, false, nat_le, nat_lt, if◌then◌else◌, None, Some, IfSome, IfOk, OnOk};
 ghost use Rattle.std.specs.List.Sorted.{IsPermutation};
 ghost use Rattle.step_maps.specs.Stepping.{last_from, value_at};
@@ -12,14 +12,17 @@ use crate::stretch::{FirstItem, Stretch};
 use std::alloc::Global;
 use sym_edges::OutOfMemory;
 
-/// At most this many stretches are laid stop by stop, without a map for each half.
+/// A list of at most this many stretches is not cut in two, but handled stop by stop
+/// (`one_by_one`).
 const FEW: usize = 4;
 
-/// Parts of at most this many stretches are sorted, too, not only the whole list; larger parts would be sorted too often.
+/// The whole list and, of the parts, only those of at most this many stretches are tried in sorted
+/// order. To sort larger parts too would take too long.
 const SHORT: usize = 64;
 
-/// The first item at each address. If no stretches overlap, they are laid one after another; otherwise the map of one half is laid over that of the
-/// other.
+/// The first item at each address. If no stretches overlap, they are laid one after another.
+/// Otherwise the list is cut in two, and the map of the front half is laid over that of the back
+/// half.
 pub(crate) fn layered(
     alloc: Global,
     items: &[Stretch],
@@ -35,7 +38,7 @@ pub(crate) fn layered(
     halved(alloc, items)
 }
 
-/// The stretches laid one after another, whatever their order in the list, if none overlap.
+/// The map of the stretches, from a sorted copy, if none of them overlap; otherwise `None`.
 #[tactic(auto, using(crate::proofs::SortedLemmas::stretches_moved, crate::proofs::SortedLemmas::sorted_laid))]
 fn disjoint(
     alloc: Global,
@@ -60,7 +63,9 @@ fn sorted_by_first(alloc: Global, items: &[Stretch]) -> Result<Vec<Stretch>, Out
     Ok(sorted)
 }
 
-/// If the stretches ascend, they are laid in their order; otherwise the map of one half is laid over that of the other.
+/// The map of the stretches. If they ascend, they are laid in their order. Otherwise the list is
+/// cut in two, and the map of the front half is laid over that of the back half; short lists are
+/// handled without cutting if possible.
 fn halved(alloc: Global, items: &[Stretch]) -> Result<StepMap<Option<FirstItem>>, OutOfMemory>
     requires { AreStretches items.now }
     ensures { IfOk result (λ steps. (a : ℕ) → a < 2 ^ 64 → value_at None steps a ≡ laid items.now a) }
@@ -103,7 +108,7 @@ fn is_ascending(items: &[Stretch]) -> bool
     true
 }
 
-/// Lays stretches that ascend.
+/// The map of stretches that ascend.
 fn in_order(alloc: Global, items: &[Stretch]) -> Result<StepMap<Option<FirstItem>>, OutOfMemory>
     requires all { AreStretches items.now }
     requires up { ascends items.now ≡ true }
@@ -124,7 +129,7 @@ fn in_order(alloc: Global, items: &[Stretch]) -> Result<StepMap<Option<FirstItem
     Ok(steps)
 }
 
-/// Lays a stretch after the last stop.
+/// Adds a stretch that begins at or above the last stop.
 #[inline]
 fn lay_behind(steps: &mut StepMap<Option<FirstItem>>, item: Stretch) -> Result<(), OutOfMemory>
     requires some { item.first ≤ item.last }
@@ -145,7 +150,8 @@ fn lay_behind(steps: &mut StepMap<Option<FirstItem>>, item: Stretch) -> Result<(
     Ok(())
 }
 
-/// Lays few stretches: at each address where one begins or has ended, the first of all that contain it.
+/// The map of a few stretches. At each address at which a stretch begins, or which follows the end
+/// of one, all are searched for the first that contains the address.
 fn one_by_one(alloc: Global, items: &[Stretch]) -> Result<StepMap<Option<FirstItem>>, OutOfMemory>
     ensures { IfOk result (λ steps. (a : ℕ) → a < 2 ^ 64 → value_at None steps a ≡ laid items.now a) }
 {
@@ -182,7 +188,7 @@ fn laid_at(items: &[Stretch], a: u64) -> Option<FirstItem>
     over(own_item(*item, a), laid_at(later, a))
 }
 
-/// The first address above another at which a stretch begins or has ended.
+/// The lowest address above `at` at which a stretch begins, or which follows the end of one.
 fn next_stop(items: &[Stretch], at: u64) -> Option<u64>
     ensures steady { AreSteady items.now at result }
     ensures above { BelowEnd at result }

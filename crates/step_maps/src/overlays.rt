@@ -9,7 +9,8 @@ use crate::stretch::FirstItem;
 use std::alloc::Global;
 use sym_edges::OutOfMemory;
 
-/// The first item at each address if one map of first items lies over another, by one merge.
+/// The map in which one map of first items lies over another, by one merge. Where the upper map has
+/// an item, this item is the first.
 pub fn overlay(
     alloc: Global,
     upper: &StepMap<Option<FirstItem>>,
@@ -45,7 +46,7 @@ pub(crate) fn over(top: Option<FirstItem>, below: Option<FirstItem>) -> Option<F
     })
 }
 
-/// Whether the next stop is one of the first function.
+/// Whether the lower of the two next stops is that of the first list.
 #[inline]
 fn takes_first(xs: &[u64], i: usize, ys: &[u64], j: usize) -> bool
     requires more { i + j < length xs.now + length ys.now }

@@ -1,4 +1,4 @@
-//! The stretches of sets of addresses.
+//! Stretches made from the spans of a set of addresses.
 ghost use Rattle.std.specs.Prelude.{◌≡◌, ◌++◌, OnOk};
 ghost use Rattle.step_maps.specs.SpanStretches.{span_stretches, AreFit};
 
@@ -6,7 +6,7 @@ use crate::stretch::Stretch;
 use std::alloc::AllocError;
 use sym_edges::Span;
 
-/// Adds the stretches of an item's addresses.
+/// Adds one stretch for each span of an item.
 pub fn push_spans(
     stretches: &mut Vec<Stretch>,
     index: u32,

@@ -25,7 +25,7 @@ impl<V> Model for StepMap<V> {
 }
 
 impl<V: Copy + Drop> StepMap<V> {
-    /// No stop yet. Allocates no memory.
+    /// A map without stops. Allocates no memory.
     pub fn new(alloc: Global) -> StepMap<V>
         ensures { result ≡ record { stops = []; values = [] } }
     {
@@ -35,7 +35,7 @@ impl<V: Copy + Drop> StepMap<V> {
         }
     }
 
-    /// No stop yet, and room for `count` stops.
+    /// A map without stops, with memory for `count` stops.
     pub fn with_room(alloc: Global, count: usize) -> Result<StepMap<V>, OutOfMemory>
         ensures { IfOk result (λ steps. steps ≡ record { stops = []; values = [] }) }
     {
@@ -44,7 +44,8 @@ impl<V: Copy + Drop> StepMap<V> {
         Ok(StepMap { stops, values })
     }
 
-    /// From this address on, the value is the given one. If the address is the last stop, the value of this stop is replaced.
+    /// Sets the value from the address `from` on. If `from` is the last stop, the value of this
+    /// stop is replaced.
     #[inline]
     pub fn set(&mut self, from: u64, value: V) -> Result<(), OutOfMemory>
         requires { last_from 0 self.old.stops ≤ from }
@@ -55,7 +56,7 @@ impl<V: Copy + Drop> StepMap<V> {
         push_step(&mut self.stops, &mut self.values, from, value)
     }
 
-    /// Frees the room that no stop uses.
+    /// Frees the memory that no stop uses.
     pub fn shrink(&mut self)
         ensures { self.new ≡ self.old }
     {

@@ -1,11 +1,11 @@
--- Bytes written in lower-case hexadecimal, for worked rows.
+-- Bytes written in lower-case hexadecimal, for worked examples.
 use Rattle.std.proofs.Common.{ℕ, zero, suc, ◌+◌, ◌*◌, ◌-◌, ◌/◌, ◌%◌, ◌==◌, nat_lt, if◌then◌else◌, List, [], ◌∷◌, codes}
 use Prim.Native.String.{String}
 
 abbrev pub nibble : ℕ → ℕ
 nibble c = if nat_lt c 58 then c - 48 else c - 87
 
--- the bytes of a text of hexadecimal digits; spaces are passed over
+-- The bytes of a text of hexadecimal digits; spaces are ignored.
 unfoldable pub bytes : List ℕ → List ℕ
 bytes [] = []
 bytes (a ∷ []) = []
@@ -15,7 +15,7 @@ unfoldable pub hex : String → List ℕ
 unfolding bytes
 hex text = bytes (codes text)
 
--- a number as so many bytes, the lowest first
+-- A number as `width` bytes, the lowest first.
 unfoldable pub little : ℕ → ℕ → List ℕ
 little zero n = []
 little (suc width) n = n % 256 ∷ little width (n / 256)

@@ -4,7 +4,7 @@ use Rattle.sym_edges.specs.Outside.{ReadsFront}
 use Rattle.sym_edges.specs.Memory.{left_of}
 use Rattle.sym_edges.specs.declared.name.NamedFile.{NamedFile}
 
--- what is left once `n` more bytes were read
+-- What is left after `n` more bytes were read.
 pub left_more : (files : List NamedFile) (chosen : Option ℕ) (place n : ℕ) → left_of files chosen (place + n) ≡ drop n (left_of files chosen place)
 unfolding left_of
 left_more files None place n = grind (arith, common_steps)
@@ -14,7 +14,7 @@ no_length : (left : List ℕ) → length left ≡ 0 → left ≡ []
 no_length [] is = refl
 no_length (x ∷ left) is = cc
 
--- what is read into a buffer is a front of what was left
+-- The bytes that are read into a buffer are a prefix of what was left.
 pub reads_front : (left buf piece : List ℕ) (n step : ℕ) (after : Option (List ℕ)) → 0 < step → n ≡ min step (min (length buf) (length left)) → piece ≡ take n left → after ≡ Some (drop n left) → ReadsFront left n (length buf) (take n (piece ++ drop n buf)) after
 reads_front left buf piece n step after some is front rest =
     let inside : n ≤ length left = omega arith in

@@ -1,4 +1,5 @@
--- Numbers that rise are in order at any two places, and so are members of a list whose numbers rise.
+-- In a list of numbers that rise, a later number is greater; so members whose numbers rise are
+-- sorted by them.
 use Rattle.std.proofs.Common.{◌≡◌, ◌<◌, ◌≤◌, ◌+◌, ℕ, zero, suc, true, false, eqb, ltb, List, [], ◌∷◌, map, length, get_or, sym, arith, ⊎_elim}
 use Rattle.std.specs.List.Sorted.{IsNonDecreasingBy, IsPartitionPoint}
 use Rattle.std.proofs.lemmas.Bool.{ne_eqb, ltb-true, ltb-false, cases_lt}
@@ -37,7 +38,7 @@ rises_ordered low (x ∷ xs) rises (suc i) (suc j) d e order there = rises_order
 pub rises_sorted : (low : ℕ) (xs : List ℕ) → RisesFrom low xs → IsNonDecreasingBy (λ x. x) xs
 rises_sorted low xs rises i j d order there = rises_ordered low xs rises i j d d order there
 
--- the number of a member, whatever default is given
+-- The number of a member does not depend on the default.
 number_at : {X : Type 0} (number : X → ℕ) (xs : List X) (k : ℕ) (d : X) → k < length xs → number (get_or xs k d) ≡ get_or (map number xs) k 0
 number_at number xs k d there = sym (get_or-map number xs k d 0 there)
 
@@ -51,7 +52,7 @@ ordered_by number xs rises i j d e order there =
 pub sorted_by : {X : Type 0} (number : X → ℕ) (xs : List X) → RisesFrom 0 (map number xs) → IsNonDecreasingBy number xs
 sorted_by number xs rises i j d order there = ordered_by number xs rises i j d d order there
 
--- a search by halves finds how many members have numbers below a bound
+-- The result of a binary search is the count of members with numbers below a bound.
 pub stand_below : {X : Type 0} (number : X → ℕ) (bound count : ℕ) (xs : List X) → count ≤ length xs → IsPartitionPoint (λ (x : X). ltb (number x) bound ≡ true) (λ (x : X). ltb (number x) bound ≡ false) xs count → StandBelow number bound count xs
 stand_below number bound count xs within point = record {
   within = within;
@@ -59,18 +60,19 @@ stand_below number bound count xs within point = record {
   above = λ k d from there. ltb-false _ _ (point.1 k d from there);
 }
 
--- none of those that stand below it is the bound
+-- No member below the bound has the bound as its number.
 pub differ_below : {X : Type 0} (number : X → ℕ) (bound count : ℕ) (xs : List X) → StandBelow number bound count xs → (k : ℕ) (d : X) → k < count → eqb (number (get_or xs k d)) bound ≡ false
 differ_below number bound count xs h k d under = let less = h.below k d under in ne_eqb _ _ (λ e. absurd (omega arith))
 
--- none at all is, where all stand below it
+-- If all members are below the bound, no member has the bound as its number.
 pub differ_all : {X : Type 0} (number : X → ℕ) (bound count : ℕ) (xs : List X) → StandBelow number bound count xs → count ≡ length xs → (k : ℕ) (d : X) → k < length xs → eqb (number (get_or xs k d)) bound ≡ false
 differ_all number bound count xs h whole k d there = differ_below number bound count xs h k d (omega arith)
 
 lt_of_le_ne : {a b : ℕ} → a ≤ b → (b ≡ a → ⊥) → a < b
 lt_of_le_ne le ne = omega arith
 
--- or where the first that does not stand below it is another number
+-- If the first member that is not below the bound has another number, no member has the bound as
+-- its number.
 pub differ_other : {X : Type 0} (number : X → ℕ) (bound count : ℕ) (xs : List X) (first : X) → RisesFrom 0 (map number xs) → StandBelow number bound count xs → count < length xs → (number (get_or xs count first) ≡ bound → ⊥) → (k : ℕ) (d : X) → k < length xs → eqb (number (get_or xs k d)) bound ≡ false
 differ_other number bound count xs first rises h there other k d inside =
     ne_eqb _ _

@@ -1,4 +1,4 @@
--- A list of bytes as a quoted text, so that a worked row that is wrong is shown as text.
+-- A list of bytes as a quoted text, so that a wrong worked example is reported as text.
 use Rattle.std.proofs.Common.{ℕ, List}
 use Rattle.std.proofs.Common.{[] as nil, ◌∷◌ as ◌∷ᴸ◌}
 use Prim.Native.Nat.{Ordering, compare}
@@ -15,7 +15,7 @@ scalar Ordering.lt _ _ = Unit
 scalar Ordering.eq o p = both o p
 scalar Ordering.gt o p = both o p
 
--- a number below 55296 is a character; others are shown as zero
+-- A number below 55,296 as a character; the null character for any other number.
 abbrev below : (n : ℕ) → (o p q : Ordering) → (scalar o p q → IsScalar n) → Char
 below n Ordering.lt p q ok = char n (ok tt)
 below n Ordering.eq p q ok = nul

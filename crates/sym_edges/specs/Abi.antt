@@ -11,7 +11,7 @@ register_names =
 unfoldable pub register_name : ℕ → List ℕ
 register_name number = slice_index_or register_names number []
 
--- rsp
+-- the DWARF number of rsp
 abbrev pub stack_pointer : ℕ
 stack_pointer = 7
 
@@ -23,7 +23,7 @@ return_address = 16
 unfoldable pub is_kept : ℕ → Bool
 is_kept column = column == 3 || (column == 6 || (nat_le 12 column && nat_le column 15))
 
--- what a column means if no rule is given for it
+-- what is known of a column for which no rule is given
 pub data Default : Type 0 where
   -- the register still has its value in the caller
   KeepsValue : Default

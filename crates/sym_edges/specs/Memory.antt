@@ -41,7 +41,8 @@ pub record MemFiles : Type 0 where
   pub left : List ℕ
   pub faults : ℕ
 
--- the store after an opening, given the place of the file; with no place the opening failed
+-- the store after an opening of `name`, given the index of its file; without an index the opening
+-- has failed
 abbrev pub opened_at : MemFiles → List ℕ → Option ℕ → MemFiles
 opened_at m name None = record m { calls = next_call m.calls; asked = m.asked ++ name ∷ []; faults = next_call m.faults }
 opened_at m name (Some i) = record m { calls = next_call m.calls; asked = m.asked ++ name ∷ []; left = bytes_at m.files i }

@@ -2,7 +2,8 @@ use Rattle.std.specs.Prelude.{◌≡◌, ℕ, ◌+◌, ◌^◌, ◌<◌, ◌≤�
 use Rattle.sym_edges.specs.declared.fault.Stop.{Stop}
 use Rattle.sym_edges.specs.declared.fault.Stop.TheVariants.{Fault, NoMemory}
 
--- a fact for each way in which a call ends: a value, a fault of its own, out of memory
+-- if the call gave a value, `P` holds for it; if it ended with a fault of its own, `Q` holds for
+-- the fault; if memory ran out, `R` holds
 abbrev pub MatchStop : {A F : Type 0} → Result A (Stop F) → (A → Type 0) → (F → Type 0) → Type 0 → Type 0
 MatchStop (Ok x) P Q R = P x
 MatchStop (Err (Fault f)) P Q R = Q f
@@ -53,7 +54,8 @@ pub record ReadsFront (before : List ℕ) (n room : ℕ) (bytes : List ℕ) (aft
   pub ended : 0 < room → (n ≡ 0) ↔ (before ≡ [])
   pub inside : n ≤ length before
 
--- the same, if what was left is known; otherwise what is left is not known either
+-- `ReadsFront` holds, if what was left is known; otherwise what is left afterwards is not known
+-- either
 abbrev pub Reads : Option (List ℕ) → ℕ → ℕ → List ℕ → Option (List ℕ) → Type 0
 Reads None n room bytes after = after ≡ None
 Reads (Some before) n room bytes after = ReadsFront before n room bytes after
@@ -67,7 +69,7 @@ append_told (Some held) piece = Some (held ++ piece)
 abbrev pub Rose : ℕ → ℕ → Type 0
 Rose before after = before + 1 < 2 ^ 64 → before < after
 
--- a prefix of the bytes was added
+-- a prefix of `bytes` was added to what the sink holds
 pub record AddsFront (before after : Option (List ℕ)) (bytes : List ℕ) : Type 0 where
   pub count : ℕ
   pub within : count ≤ length bytes

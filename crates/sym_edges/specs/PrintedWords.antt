@@ -20,7 +20,7 @@ section_word sect.DebugFrame = codes "debug_frame"
 section_word sect.EhFrame = codes "eh_frame"
 section_word sect.Text = codes "text"
 
--- the word for a reason
+-- the word for a reason to leave a frame entry out
 abbrev pub reason_word : Reason → List ℕ
 reason_word reason.Cie = codes "cie"
 reason_word reason.Augmentation = codes "augmentation"

@@ -11,12 +11,13 @@ AsksOnce (Ok bytes) before name after = after ≡ before ++ name ∷ []
 AsksOnce (Err (Fault end)) before name after = after ≡ before ++ name ∷ []
 AsksOnce (Err NoMemory) before name after = (after ≡ before ++ name ∷ []) ⊎ (after ≡ before)
 
--- there are at most `limit` bytes; if the bytes of the file are known, these are all of them
+-- at most `limit` bytes were read; if the bytes of the file are known, they are the bytes that were
+-- read
 abbrev pub IsWhole : Option (List ℕ) → List ℕ → ℕ → Type 0
 IsWhole None bytes limit = length bytes ≤ limit
 IsWhole (Some whole) bytes limit = (whole ≡ bytes) × (length bytes ≤ limit)
 
--- if the bytes of the file are known, there are more than `limit`
+-- if the bytes of the file are known, there are more than `limit` of them
 abbrev pub IsLonger : Option (List ℕ) → ℕ → Type 0
 IsLonger None limit = Unit {0}
 IsLonger (Some whole) limit = limit < length whole

@@ -22,7 +22,7 @@ pub struct FileStore<'a, R: Files> {
 }
 
 impl<'a, R: Files> FileStore<'a, R> {
-    /// Nothing is open.
+    /// A store in which no file is open.
     pub fn new(alloc: Global, system: &'a R) -> FileStore<'a, R>
         ensures asked { ⟦<FileStore<'a, R> as Store>⟧.asked result ≡ [] }
         ensures files { ⟦<FileStore<'a, R> as Store>⟧.files result ≡ None }

@@ -1,4 +1,4 @@
-//! Lists, which contracts see by their members.
+//! Lists; a contract sees a list as its members in order.
 ghost use Rattle.std.specs.Prelude.{◌≡◌, ◌==◌, length, slice_get};
 ghost use Rattle.std.specs.Option.{option_copied};
 
@@ -10,7 +10,7 @@ pub struct ListOf<T> {
     items: Vec<T>,
 }
 
-/// Bytes in order.
+/// A list of bytes.
 pub type ByteRun = ListOf<u8>;
 
 /// The numbers, from 1, of the calls that are to fail.

@@ -1,7 +1,7 @@
 //! Faults that have a place.
 use crate::part::Sect;
 
-/// A fault and its kind; `at` is its place in the section, counted from the first byte of the section.
+/// A fault: its kind, its section, and its place, counted from the first byte of the section.
 #[derive(Clone, Copy, PartialEq, Eq, Debug)]
 pub struct Located<K> {
     pub kind: K,

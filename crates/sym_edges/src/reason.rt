@@ -1,6 +1,7 @@
 //! The reasons for which frame entries are left out.
 
-/// Why a frame description entry is left out of the text; the reasons are in the order in which they are looked for.
+/// Why a frame description entry is left out of the symbol file. The reasons are in the order in
+/// which they are looked for.
 #[derive(Clone, Copy, Debug, PartialEq, Eq)]
 pub enum Reason {
     Cie,

@@ -5,7 +5,7 @@ ghost use Rattle.std.specs.Io.KnownBytes.{Appends, Consumes, IsAtEnd, Keeps};
 use crate::fault::Failed;
 use std::io::{ErrorKind, Read, Write};
 
-/// How often a call is made if each time it is interrupted; then this is a fault like any other.
+/// How often an interrupted call is made. If the last try is interrupted too, the call has failed.
 const TRIES: u32 = 100;
 
 /// One read, tried again if a signal interrupts it.

@@ -1,12 +1,13 @@
-//! What a place that takes bytes promises.
+//! The trait `Sink`: something that takes bytes, such as a stream.
 ghost use Rattle.std.specs.Prelude.{◌≡◌, ℕ, ◌≤◌, ◌<◌, List, Option, length, take, Ok, IfOk, OnErr};
 ghost use Rattle.sym_edges.specs.Outside.{append_told, Rose};
 
 use crate::fault::Failed;
 
-/// A place that takes bytes.
+/// Something that takes bytes, such as a stream or a list in memory.
 ///
-/// Contracts see the bytes that a sink took, if it shows them, and a count of faults, which never falls.
+/// Contracts see the bytes that a sink took, if it shows them, and a count of faults, which never
+/// falls.
 pub trait Sink {
     ghost taken: { Self → Option (List ℕ) };
 

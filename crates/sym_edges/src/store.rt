@@ -1,4 +1,4 @@
-//! What a place that has files promises.
+//! The trait `Store`: named files that can be opened and read.
 ghost use Rattle.std.specs.Prelude.{◌≡◌, ℕ, ◌≤◌, ◌<◌, ◌↔◌, List, [], ◌∷◌, ◌++◌, Option, length, take, IfOk, OnOk, OnErr};
 ghost use Rattle.sym_edges.specs.Outside.{Files, Opens, Reads, MatchStop, OnFault, OnNoMemory, Rose};
 

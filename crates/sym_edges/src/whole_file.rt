@@ -49,7 +49,7 @@ pub fn read_all<S: Store>(
     }
 }
 
-/// What is left of the open file, read `room` bytes at a time.
+/// Reads what is left of the open file, at most `room` bytes at a time.
 #[tactic(auto, using(crate::proofs::ReadingLemmas::parted_more, crate::proofs::ReadingLemmas::parted_whole, crate::proofs::ReadingLemmas::parted_longer))]
 fn read_rest<S: Store>(
     alloc: Global,

@@ -1,4 +1,4 @@
--- How often numbers stand in lists.
+-- How often numbers are in lists.
 use Rattle.std.proofs.Common.{◌≡◌, ℕ, ◌+◌, ◌<◌, ◌≤◌, max, List, [], ◌∷◌, ◌++◌, arith}
 use Rattle.std.specs.List.{All}
 use Rattle.std.proofs.lemmas.Bool.Decides.{nat_tests}
@@ -24,13 +24,13 @@ once_if_below n x h = grind (arith, nat_tests)
 same_once : (x : ℕ) → one_if_same x x ≡ 1
 same_once x = grind (arith, nat_tests)
 
--- where each number of a list is below a bound, so are all its members
+-- If each number that is in a list is below a bound, all members are.
 pub all_below : (n : ℕ) (xs : List ℕ) → ((x : ℕ) → 0 < times x xs → x < n) → All (λ x. x < n) xs
 all_below n [] h = All-nil (λ x. x < n)
 all_below n (y ∷ ys) h =
     All-cons (λ x. x < n) y ys (h y (omega (arith, same_once y))) (all_below n ys (λ x there. h x (omega arith)))
 
--- one more than the greatest number
+-- One more than the greatest number, or 0 for no number.
 abbrev pub ceiling : List ℕ → ℕ
 ceiling [] = 0
 ceiling (x ∷ xs) = max (x + 1) (ceiling xs)

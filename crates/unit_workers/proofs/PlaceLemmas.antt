@@ -1,4 +1,4 @@
--- Results in the places of their numbers.
+-- Results at the places of their numbers.
 use Rattle.std.proofs.Common.{◌≡◌, ℕ, ◌+◌, ◌<◌, ◌≢◌, ◌⊎◌, List, [], ◌∷◌, ◌++◌, length, get_or, set, replicate, Option, None, Some, IfSome, arith, refl, sym, ap, ◌∙◌, subst, inl, inr, ⊎_elim, length-set, get_or-set_same, get_or-set_other}
 use Rattle.std.specs.Prelude.{IsSomeAnd}
 use Rattle.std.specs.List.{All}
@@ -16,7 +16,7 @@ pub length-placed : {A : Type 0} (slots : List (Option A)) (found : List (ℕ ×
 length-placed slots [] = refl
 length-placed slots (r ∷ rs) = length-set (placed slots rs) r.0 (Some r.1) ∙ length-placed slots rs
 
--- the last result is the first that is put into its place
+-- The last result is put into its place first.
 pub placed_push : {A : Type 0} (slots : List (Option A)) (found : List (ℕ × A)) (r : ℕ × A) → placed slots (found ++ r ∷ []) ≡ placed (set slots r.0 (Some r.1)) found
 placed_push slots [] r = refl
 placed_push slots (x ∷ xs) r = ap (λ s. set s x.0 (Some x.1)) (placed_push slots xs r)
@@ -25,7 +25,7 @@ other_number : (k x : ℕ) → k ≢ x → one_if_same k x ≡ 0
 other_number k x n = grind (arith, nat_tests)
 
 module _ {A : Type 0} (gives : ℕ → A → Type 0) where
-  -- a place after one more result, by whether it is the result's
+  -- What holds of a place after one more result was put in.
   one_placed : (P : Option A → Type 0) (slots : List (Option A)) (r : ℕ × A) (k : ℕ) (d : Option A) → k < length slots → (k ≡ r.0 → P (Some r.1)) → (k ≢ r.0 → P (get_or slots k d)) → P (get_or (set slots r.0 (Some r.1)) k d)
   one_placed P slots r k d near here apart =
       dite (ℕ_discrete k r.0)

@@ -1,4 +1,4 @@
--- What the rule says at any moment. Serves the laws.
+-- What follows from the rule of the shared word at any moment (for the laws).
 use Rattle.std.proofs.Common.{◌≡◌, ℕ, ◌<◌, ◌≤◌, ◌≢◌, min, arith}
 use Rattle.std.specs.Prelude.{slice_index}
 use Rattle.std.proofs.lemmas.Bool.Decides.{nat_tests}

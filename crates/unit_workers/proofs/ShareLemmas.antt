@@ -1,10 +1,10 @@
--- The shares of a list; for `share_of`, and for what is joined share after share in crates above.
+-- The shares of a list (for `share_of`, and for crates that join shares).
 use Rattle.std.proofs.Common.{◌≡◌, ℕ, zero, suc, ◌+◌, ◌-◌, ◌*◌, ◌≤◌, min, List, [], ◌∷◌, ◌++◌, length, take, drop, inl, inr, ap, sym, ◌∙◌, arith}
 use Rattle.std.proofs.lemmas.Bool.{cases_lt}
 use Rattle.std.proofs.lemmas.List.{length-drop, take_all, drop_all}
 use Rattle.unit_workers.specs.Shares.{share}
 
--- the members between the bounds of a share
+-- The members between the bounds of a share are the share.
 pub share_between : {A : Type 0} (size k from to : ℕ) (xs : List A) → from ≡ min (size * k) (length xs) → to ≡ min (size * k + size) (length xs) → take (to - from) (drop from xs) ≡ share size k xs
 share_between size k from to xs at last =
     elim (cases_lt (size * k) (length xs)) [
@@ -25,7 +25,7 @@ share_between size k from to xs at last =
           ap (take (to - from)) none ∙ take_all (to - from) [] (omega arith) ∙ sym (ap (take size) no_share ∙ take_all size [] (omega arith))
     ]
 
--- the members of the first shares, and one share more
+-- The first shares and the next one.
 pub share_next : {A : Type 0} (size k : ℕ) (xs : List A) → take (size * (k + 1)) xs ≡ take (size * k) xs ++ share size k xs
 share_next size k xs = ap (λ n. take n xs) (let more : size * (k + 1) ≡ size * k + size = omega arith in more) ∙ take_plus (size * k) size xs
   where

@@ -26,13 +26,13 @@ word_set : (ws : List ℕ) (y : ℕ) → length ws ≡ 1 → (length (set ws 0 y
 word_set [] y e = absurd (omega arith)
 word_set (w ∷ ws) y e = (e, refl)
 
--- what holds of each view still does once the seat id has another one
+-- What holds of each view still does if one view is replaced by another of which it holds.
 each_set : (P : View → Type 0) (views : List View) (id : ℕ) (w : View) → ((i : ℕ) (v : View) → get_elem? views i ≡ some v → P v) → P w
     → (i : ℕ) (v : View) → get_elem? (set views id w) i ≡ some v → P v
 each_set P views id w all one i v e =
     ⊎_elim (λ (t : (i ≡ id) × (w ≡ v)). subst P t.1 one) (λ (t : (i ≢ id) × (get_elem? views i ≡ some v)). all i v t.1) (at_set views id i w v e)
 
--- a draw turns the word from k into k + 1 and the seat's view from v into w
+-- A draw keeps the rule: the word grows by 1, and one view changes.
 drawn_to : (lot : Lot) (s : St) (d : Drawing lot s) (id y : ℕ) (v w : View) → get_elem? s.views id ≡ some v → IsView lot w → w.share ≡ v.share
     → w.rights + (y - lot.count) ≡ v.rights + (slice_index s.words 0 - lot.count)
     → ((x : ℕ) → times x w.drawn + once_below (min (slice_index s.words 0) lot.count) x ≡ times x v.drawn + once_below (min y lot.count) x)
@@ -127,7 +127,7 @@ joins lot id v other w of s d me apart them =
       each = each_set (IsView lot) vs other spent (each_set (IsView lot) s.views id (both v w) d.each left) right;
     }
 
--- a view with the whole share and no right has each number below the count
+-- A view with the whole share and no right has each number below the count once.
 pub closes : (lot : Lot) (s : St) (id : ℕ) (v : View) → Drawing lot s → get_elem? s.views id ≡ some v → 0 < lot.workers → v.share ≡ lot.workers → v.rights ≡ 0 → HasEachBelow lot.count v.drawn
 closes lot s id v d me some_worker whole none x =
     let idle : (i : ℕ) (u : View) → i ≢ id → get_elem? s.views i ≡ some u → u.share ≡ 0

@@ -26,7 +26,7 @@ module _ {A : Type 0} (g : A → ℕ) where
   terms_le (x ∷ xs) (suc j) zero v u n e d = omega (arith, ap g (some-injective x u d), term_le xs j v e)
   terms_le (x ∷ xs) (suc j) (suc k) v u n e d = omega (arith, terms_le xs j k v u (λ h. n (ap suc h)) e d)
 
-  -- where each other member weighs nothing, one member weighs what all do
+  -- If all members but one weigh nothing, the sum is the weight of this one.
   pub weightless : (l : List A) → ((k : ℕ) (u : A) → get_elem? l k ≡ some u → g u ≡ 0) → total g l ≡ 0
   weightless [] none = refl
   weightless (x ∷ xs) none = omega (arith, none 0 x refl, weightless xs (λ k u e. none (suc k) u e))

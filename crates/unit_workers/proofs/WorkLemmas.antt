@@ -13,7 +13,7 @@ pub numbers_push : {A : Type 0} (found : List (ℕ × A)) (k : ℕ) (out : A) �
 numbers_push [] k out = refl
 numbers_push (r ∷ rs) k out = ap (λ ks. r.0 ∷ ks) (numbers_push rs k out)
 
--- how many numbers may still come: all that are above those that were drawn
+-- How many numbers a hand may still draw: at most those above all that it drew.
 abbrev pub ahead : Held → ℕ
 ahead hand = hand.roll.count - ceiling hand.drawn
 
@@ -35,7 +35,7 @@ module _ {A : Type 0} (gives : ℕ → A → Type 0) (roll : Roll) where
     each = w.each;
   }
 
-  -- the last of some workers, and the others
+  -- The last of some workers is done, and so are the others.
   pub popped : (works left : List (Result (Worked A) OutOfMemory)) (last : Option (Result (Worked A) OutOfMemory)) (worked : Worked A) → AreWorked gives roll works → works ≡ left ++ option_to_list last → last ≡ Some (Ok worked)
       → IsWorked gives roll 0 worked.hand worked.found.items × AreWorked gives roll left
   popped works left last worked each is here =

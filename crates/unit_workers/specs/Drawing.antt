@@ -1,10 +1,16 @@
--- The rule of the one shared word.
+-- The rule of the word that all workers share.
 --
--- Some workers share one word, which counts their draws. Each worker has a seat, and the seat's view is what the worker knows: the numbers that it
--- drew; its rights, which are the draws that it may still make without finding a number; its share, which is the number of workers that it stands
--- for; and the lot, which is how many numbers and workers there are. A draw adds 1 to the word. If it found k there and k is below the count, this
--- worker gets the number k; otherwise a right is spent. So no number is drawn twice, and none is left out. The rule says this by sums over all views,
--- and every step keeps the rule (`Steps`).
+-- Some workers share one word, which counts their draws. Each worker has a seat, and the seat's
+-- view is what the worker knows:
+--
+-- - drawn: the numbers that it drew
+-- - rights: how many more draws it may make that find no number
+-- - share: how many workers it stands for
+-- - lot: how many numbers and how many workers there are
+--
+-- A draw adds 1 to the word. If it found k there and k is below the count, this worker gets the
+-- number k; otherwise a right is spent. So no number is drawn twice, and none is left out. The rule
+-- says this by sums over all views, and every step keeps the rule (`Steps`).
 use Rattle.std.specs.Prelude.{◌≡◌, ℕ, ◌+◌, ◌-◌, ◌^◌, ◌<◌, ◌≤◌, min, List, [], length, slice_index}
 use mathlib.Core.Option.{some}
 use lib.ListN.{get_elem?}

@@ -7,7 +7,7 @@ use Rattle.unit_workers.specs.Drawing.{view, lot_of}
 use Rattle.unit_workers.specs.declared.lot.Lot.{Lot}
 use Rattle.unit_workers.specs.declared.view.View.{View}
 
--- the first seat has all rights and the whole share
+-- at the start, the first seat has all rights and the whole share
 abbrev pub first_view : Lot → View
 first_view lot = view lot [] lot.workers lot.workers
 
@@ -17,7 +17,8 @@ with_number v k = view v.lot (v.drawn ++ k ∷ []) v.rights v.share
 abbrev pub with_less : View → View
 with_less v = view v.lot v.drawn (v.rights - 1) v.share
 
--- a draw found k in the word. If k is below the count, k is above all numbers of the list and is added to it; otherwise one right is spent
+-- a draw found k in the word: if k is below the count, it is above all numbers of the list and is
+-- added to them; otherwise one right is spent
 pub record Draws (me : Me ℕ View) (k : ℕ) (after : Me ℕ View) : Type 0 where
   pub number : k < me.0.lot.count → (after ≡ (with_number me.0 k, me.1)) × All (λ x. x < k) me.0.drawn
   pub none : me.0.lot.count ≤ k → after ≡ (with_less me.0, me.1)

@@ -1,4 +1,4 @@
-//! Who does the work: threads, memory, and how many workers there are.
+//! The workers, with the threads and the memory that they use.
 ghost use Rattle.std.specs.Prelude.{◌≡◌, ◌^◌, ◌≤◌, IfOk, vec_len};
 ghost use Rattle.unit_workers.specs.Working.{AreInOrder};
 
@@ -9,7 +9,7 @@ use std::marker::Model;
 use std::thread::Threads;
 use sym_edges::OutOfMemory;
 
-/// Some workers, 1 to 64, with what starts their threads and what gives them memory.
+/// Some workers, 1 to 64, with what starts their threads and the allocator of their memory.
 #[derive(Drop)]
 pub struct Crew<'c, R: Threads + Sync> {
     rt: &'c R,
@@ -44,12 +44,12 @@ impl<'c, R: Threads + Sync> Crew<'c, R> {
         self.workers
     }
 
-    /// What gives them memory.
+    /// The allocator of the workers' memory.
     pub fn alloc(&self) -> Global {
         self.alloc
     }
 
-    /// Runs the job at each number below `count`, by these workers ([`run_all`]).
+    /// Runs the job for each number below `count`, by these workers ([`run_all`]).
     pub fn run<J: UnitJob + Sync, G: Gate + Sync>(
         &self,
         job: &J,

@@ -1,21 +1,22 @@
-//! What workers do: a job reads a unit by its number.
+//! The job of the workers: it reads a unit, given its number.
 ghost use Rattle.std.specs.Prelude.{ℕ, IfOk};
 
 use std::alloc::Global;
 use sym_edges::OutOfMemory;
 
-/// The reading of units by their numbers.
+/// A job, which reads units by their numbers.
 pub trait UnitJob {
-    /// What a unit gives.
+    /// The result of a unit.
     type Out: Drop;
-    /// Memory that a worker reuses from one unit to the next, so that it is allocated once: stacks and lists that each unit fills again. It may
-    /// contain anything when a unit begins, and stays with its worker. A job without such memory has `()`.
+    /// Memory that a worker reuses from one unit to the next, for stacks and lists that each unit
+    /// fills again. It may contain anything when a unit begins, and stays with its worker. A job
+    /// without such memory has `()`.
     type Scratch: Drop;
 
-    /// The relation between a number and its results.
+    /// Which results are right for a number.
     ghost gives: { Self → ℕ → Self.Out → Type 0 };
 
-    /// Made once for each worker.
+    /// The scratch of one worker, which is made once.
     fn scratch(&self, alloc: Global) -> Result<Self::Scratch, OutOfMemory>;
 
     /// The result of unit `k`.
@@ -33,7 +34,7 @@ pub trait Gate {
     fn at(&self, k: usize);
 }
 
-/// Does nothing.
+/// The gate that does nothing.
 #[derive(Clone, Copy)]
 pub struct NoGate;
 

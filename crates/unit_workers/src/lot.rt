@@ -1,6 +1,7 @@
-//! What tickets are made with.
+//! The numbers with which tickets are made.
 
-/// What tickets are made with: how many units there are, and how many workers may draw.
+/// The numbers with which tickets are made: how many units there are, and how many workers may
+/// draw.
 #[derive(Drop)]
 pub struct Lot {
     pub count: u64,

@@ -1,4 +1,4 @@
-//! Results by the numbers of their units.
+//! The results of units, put at the places of their numbers.
 ghost use Rattle.std.specs.Prelude.{◌≡◌, ◌<◌, length, replicate, None, IfOk, vec_len};
 ghost use Rattle.std.specs.List.{All};
 ghost use Rattle.unit_workers.specs.Working.{AreInOrder, AreTaken, AreWorked, IsGathered, IsResult, placed};
@@ -9,7 +9,7 @@ use crate::worker::{Work, Worked};
 use std::alloc::Global;
 use sym_edges::OutOfMemory;
 
-/// `count` empty places.
+/// `count` places without a result.
 pub fn vacant<T: Drop>(alloc: Global, count: usize) -> Result<Vec<Option<T>>, OutOfMemory>
     ensures { IfOk result (λ v. v.items ≡ replicate count None) }
 {
@@ -56,7 +56,7 @@ pub fn gather<J: UnitJob>(
     Ok(hand)
 }
 
-/// The results in order; each place must have one.
+/// The results in order. Each place must have one.
 pub fn take_all<J: UnitJob>(
     alloc: Global,
     _job: &J,

@@ -1,6 +1,6 @@
-//! The rule that all steps of drawing keep.
+//! The rule that all steps on the shared word keep.
 
-// The rule of the word, and the names of the steps on it.
+// The rule of the shared word, and the names of the steps on it.
 ghost use Rattle.unit_workers.specs.Drawing.{Drawing};
 ghost use Rattle.unit_workers.specs.Steps.{first_view, Draws, giving, given, both, spent};
 

@@ -1,4 +1,4 @@
-//! The shares of a list, each of which is a job of a worker.
+//! The shares of a list. Each share is one worker's job.
 ghost use Rattle.std.specs.Prelude.{◌≡◌, ◌+◌, ◌*◌, ◌≤◌, min};
 ghost use Rattle.unit_workers.specs.Shares.{share};
 

@@ -85,7 +85,8 @@ impl Hand {
         Hand { seat }
     }
 
-    /// The next number. If all are drawn there is none, and a right is spent. Allocates no memory.
+    /// Draws the next number. If all are drawn there is none, and a right is spent. Allocates no
+    /// memory.
     pub fn draw(&mut self, tickets: &Tickets) -> Option<usize>
         requires of { self.old.roll ≡ tickets.now }
         requires right { 0 < self.old.rights }
@@ -110,7 +111,8 @@ impl Hand {
         tickets.word.shared.join_seat::<Both>(&mut self.seat, seat);
     }
 
-    /// Ends the tickets. All hands were joined into this one, and no right is left, so this hand has each number once.
+    /// Ends the tickets. This hand stands for all workers and has no right left, so it drew each
+    /// number once.
     pub fn close(self, tickets: Tickets)
         requires of { self.roll ≡ tickets }
         requires share { self.share ≡ tickets.workers }

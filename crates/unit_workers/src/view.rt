@@ -1,13 +1,13 @@
-//! What the holder of a seat at the word knows.
+//! What a seat at the shared word knows.
 ghost use Rattle.std.specs.Prelude.{ℕ, List};
 ghost use Rattle.std.specs.Borrow.{ftrue};
 ghost use Rattle.unit_workers.specs.declared.lot.Lot.{Lot};
 
 use std::marker::Model;
 
-/// What a seat at the word knows. No value of this type is ever made.
+/// What a seat at the shared word knows. No value of this type is ever made.
 pub struct View {
-    /// What the word was made with.
+    /// The numbers with which the word was made.
     pub ghost lot: { Lot },
     /// The numbers that were drawn, in order.
     pub ghost drawn: { List ℕ },

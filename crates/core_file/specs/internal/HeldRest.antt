@@ -9,7 +9,7 @@ use Rattle.sym_edges.specs.declared.whole_file.ReadEnd.TheVariants.{CantOpen, Ca
 use Rattle.core_file.specs.HeldBlocks.{is_too_long}
 use Rattle.core_file.specs.StoredFile.{IsHeld, IsPast}
 
--- these bytes were read from what was left, and they are not too many
+-- these bytes were read from the rest of the file, and they are not too many
 abbrev pub HasTaken : Option (List ℕ) → Option (List ℕ) → List ℕ → Type 0
 HasTaken left left_after bytes = IsParted left bytes left_after × (is_too_long bytes ≡ false)
 

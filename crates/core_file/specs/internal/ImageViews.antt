@@ -1,4 +1,4 @@
--- A loaded file, as the specs see it.
+-- A loaded file as the definitions have it, from the fields that the code stores.
 use Rattle.core_file.specs.LoadedImages.{LoadedImage}
 use Rattle.core_file.specs.declared.images.Image.{Image}
 

@@ -1,4 +1,4 @@
--- Bytes in blocks of `size` bytes: each block is all zeros, or one of those in memory.
+-- Bytes in blocks of `size` bytes: each block is all zeros, or is one of the blocks in memory.
 use Rattle.std.specs.Prelude.{◌≡◌, ℕ, zero, suc, ◌*◌, ◌^◌, ◌<◌, ◌≤◌, List, [], ◌∷◌, ◌++◌, length, take, drop, replicate}
 use Rattle.core_file.specs.declared.blocks.Blocks.{Blocks}
 use Rattle.core_file.specs.HeldBlocks.{held_blocks}
@@ -34,7 +34,7 @@ pub record IsKept (b : Blocks) : Type 0 where
   pub few : b.room ≤ 2 ^ 32
   pub fits : b.limit ≤ 2 ^ 40
 
--- the bytes after the blocks are one block at most, and all bytes are not too many
+-- the bytes after the blocks are at most one block, and all bytes together are at most `limit`
 pub record IsHeld (b : Blocks) : Type 0 where
   pub kept : IsKept b
   pub short : length b.tail.items ≤ b.size

@@ -1,4 +1,4 @@
--- The modules so far, and what was found about them.
+-- The modules so far, with the pages and the addresses of code that were found for them.
 use Rattle.std.specs.Prelude.{◌≡◌, ℕ, ◌<◌, ◌^◌}
 use Rattle.std.specs.List.{list_any}
 use Rattle.std.specs.Ordering.{nat_cmp}
@@ -9,7 +9,8 @@ use Rattle.core_file.specs.Memory.{Memory}
 use Rattle.core_file.specs.Modules.{is_own_page}
 use Rattle.core_file.specs.Code.{is_code}
 
--- the pages and the code are those of the modules, and of the core
+-- the pages are those of these modules' own files, and the code is that of the core's segments and
+-- of these modules
 pub record IsListing (memory : Memory) (l : Listing) : Type 0 where
   pub pages : (a : ℕ) → contains nat_cmp l.pages a ≡ is_own_page memory l.modules.items a
   pub code : (a : ℕ) → a < 2 ^ 64 → list_any (λ s. reaches s a) l.code.items ≡ is_code memory l.modules.items a

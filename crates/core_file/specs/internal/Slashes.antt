@@ -1,4 +1,4 @@
--- What follows the last slash, given the rest of a text.
+-- What follows the last slash of a text, given the part of the text that is not searched yet.
 use Rattle.std.specs.Prelude.{ℕ, ◌==◌, Bool, List, if◌then◌else◌}
 use Rattle.std.specs.List.{list_any}
 use Rattle.core_file.specs.Modules.{behind_slash}

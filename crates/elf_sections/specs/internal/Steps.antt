@@ -1,4 +1,4 @@
--- What the functions below the public calls return.
+-- What the private functions of the crate return.
 use Rattle.std.specs.Prelude.{◌≡◌, ℕ, ◌==◌, ◌&&◌, true, false, List, Option, Some, None, length, is_none, map}
 use Rattle.sym_edges.specs.Addresses.{Range}
 use Rattle.elf_sections.specs.Notes.{NoteParts}
@@ -14,7 +14,8 @@ use Rattle.elf_sections.specs.declared.symbols.Found.TheVariants.{Nameless, Othe
 abbrev pub note_view : Note → NoteParts
 note_view n = record { name = n.name.now; kind = n.kind; descriptor = n.descriptor.now }
 
--- what each finding about an entry means
+-- what it means if an entry of a symbol table was found to be nameless, no function symbol, or a
+-- function symbol
 abbrev pub Classifies : Found → List Range → List ℕ → SymbolEntry → Type 0
 Classifies Nameless ranges strings e = is_nameless ranges strings e ≡ true
 Classifies Other ranges strings e = (is_nameless ranges strings e ≡ false) × (function_of ranges strings e ≡ None)

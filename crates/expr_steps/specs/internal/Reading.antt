@@ -1,4 +1,4 @@
--- The steps from a constant on, and a loop over steps.
+-- The steps of a constant and the operations after it, and a loop over steps.
 use Rattle.std.specs.Prelude.{◌≡◌, ℕ, ◌+◌, ◌≤◌, Bool, List, ◌∷◌, Option, None, Some}
 use Rattle.std.specs.List.{sum_by}
 use Rattle.std.specs.Option.{option_and_then}
@@ -25,28 +25,29 @@ constant_of (PlusUconst addend) = None
 constant_of Shl = None
 constant_of Ge = None
 
--- a constant and the operation after it are one step, whatever comes later
+-- a constant and the operation after it are one step, whatever operations follow
 pub record IsPair (kept : Option ℕ) (value : ℕ) (operation : Operation) (s : Step) (keeps : Option ℕ) : Type 0 where
   pub steps : (later : List Operation) → steps_of (Constant value ∷ operation ∷ later) kept ≡ in_front s (steps_of later keeps)
 
--- the constant is a step alone
+-- the constant is a step alone, whatever operations follow
 pub record IsAlone (kept : Option ℕ) (value : ℕ) (operation : Operation) : Type 0 where
   pub steps : (later : List Operation) → steps_of (Constant value ∷ operation ∷ later) kept ≡ in_front (step.Constant value) (steps_of (operation ∷ later) None)
 
--- neither the two together nor the constant alone is a step
+-- neither the constant alone nor the constant with the operation is a step
 pub record IsNoStep (kept : Option ℕ) (value : ℕ) (operation : Operation) : Type 0 where
   pub steps : (later : List Operation) → steps_of (Constant value ∷ operation ∷ later) kept ≡ None
 
--- the steps of an operation and of those ahead
+-- the steps of an operation and of the operations ahead
 unfoldable pub steps_behind : Operation → Option ℕ → Ahead → Option (List Step)
 steps_behind operation kept c = option_and_then (λ ops. steps_of (operation ∷ ops) kept) (operations_at c)
 
--- a depth, if it is known, is at most `most`
+-- a depth of the stack, if it is known, is at most `most`
 abbrev pub IsAtMost : ℕ → Option ℕ → Type 0
 IsAtMost most None = Unit {0}
 IsAtMost most (Some depth) = depth ≤ most
 
--- the standing of an expression, given what is known of the steps that were read and the steps that are left
+-- how an expression uses the CFA, given the words and the depths of the steps that were read, and
+-- the steps that are left
 unfoldable pub stands : Bool → ℕ → Option ℕ → Option ℕ → List Step → Option Standing
 stands start count free over given = standing_by start (count + sum_by words given) (depth_after given free) (depth_after given over)
 

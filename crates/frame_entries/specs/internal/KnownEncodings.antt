@@ -1,4 +1,4 @@
--- If the encoding of each R of an augmentation is one that is read, so is that of the last R.
+-- If each R of an augmentation gives an encoding that is read, then so does the last R.
 use Rattle.std.specs.Prelude.{◌≡◌, true}
 use Rattle.frame_entries.specs.declared.augmentation.Encodings.{Encodings}
 use Rattle.frame_entries.specs.Pointers.{is_encoding}

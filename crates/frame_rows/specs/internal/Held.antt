@@ -1,4 +1,4 @@
--- The context that is owned or lent.
+-- The context that is owned or borrowed by a `HeldContext`.
 use Rattle.frame_rows.specs.declared.machine.CieContext.{CieContext}
 use Rattle.frame_rows.specs.declared.held_context.HeldContext.{HeldContext}
 use Rattle.frame_rows.specs.declared.held_context.HeldContext.TheVariants.{Own, Lent}

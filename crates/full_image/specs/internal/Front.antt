@@ -11,7 +11,7 @@ use Rattle.elf_sections.specs.declared.fault.ElfFault.TheVariants.{InflatedTooLo
 use Rattle.full_image.specs.Compressed.{Stream, is_packed}
 use Rattle.full_image.specs.FullImage.{sections_fault, are_too_long, full_sections, streams_by}
 
--- the first fault of the sections
+-- the first fault of the sections, if compressed ones are inflated (true) or refused (false)
 abbrev pub tables_fault : Bool → List ℕ → Option ElfFault
 tables_fault true file = sections_fault file
 tables_fault false file = option_or (bytes_fault file) (compressed_fault file)
@@ -21,7 +21,7 @@ unfoldable pub front_fault : Bool → List ℕ → Option ElfFault
 front_fault full file = option_or (header_fault file) (option_or (names_fault file) (option_or (tables_fault full file)
     (option_or (loaded_fault file) (fault_if (are_too_long (streams_by full file)) InflatedTooLong None))))
 
--- the parts of a file
+-- the parts of the image of a file, as if it had no fault
 abbrev pub parts_by : Bool → List ℕ → ImageParts
 parts_by true file = with_sections (full_sections file) (parts_of file)
 parts_by false file = parts_of file
@@ -31,7 +31,7 @@ abbrev pub bytes_by : List (Option (List ℕ)) → List ℕ → ℕ → SectionH
 bytes_by outcomes file index s =
     if is_packed (names file) s then unwrap_or (unwrap_or (slice_get outcomes index) None) [] else bytes_of file s
 
--- what the code keeps of a file that has no such fault
+-- what the code stores of a file that has no fault before anything is inflated
 pub record IsFront (full : Bool) (file : List ℕ) (plain : ImageParts) (streams : List (Option Stream)) : Type 0 where
   pub plain_is : plain ≡ parts_of file
   pub streams_are : streams ≡ streams_by full file

@@ -16,7 +16,7 @@ unfoldable pub sup_front_fault : List ℕ → Option ElfFault
 sup_front_fault file = option_or (sup_header_fault file) (option_or (names_fault file)
     (option_or (sections_fault file) (fault_if (are_too_long (streams file)) InflatedTooLong None)))
 
--- what the code keeps of a file that has no such fault
+-- what the code stores of a supplementary file that has no fault before anything is inflated
 pub record IsSupFront (file : List ℕ) (plain : ImageParts) (held : List (Option Stream)) : Type 0 where
   pub plain_is : plain ≡ sup_parts_of file
   pub streams_are : held ≡ streams file

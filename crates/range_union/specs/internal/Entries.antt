@@ -1,4 +1,4 @@
--- Ranges of which no two overlap, as the entries of a map by their starts.
+-- Ranges of which no two overlap, as the entries of a map from starts to ends.
 use Rattle.std.specs.Prelude.{◌≡◌, ℕ, ◌<◌, ◌≤◌, ◌||◌, true, nat_lt, if◌then◌else◌, List, [], ◌∷◌, length, map, Option, None, Some}
 use Rattle.sym_edges.specs.Addresses.{Range}
 use Rattle.range_union.specs.Ranges.{overlap, any_overlap, range_to}

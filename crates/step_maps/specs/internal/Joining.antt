@@ -9,12 +9,12 @@ is_same_index None (Some y) = false
 is_same_index (Some x) None = false
 is_same_index (Some x) (Some y) = x.index == y.index
 
--- the cover up to a last address, if there is an item, and then the later covers
+-- the later covers, with the one from `first` to `last` in front of them if there is an item
 abbrev pub with_cover : ℕ → ℕ → Option FirstItem → List Cover → List Cover
 with_cover first last None covers = covers
 with_cover first last (Some item) covers = record { first = first; last = last; index = item.index; shared = item.shared } ∷ covers
 
--- one cover from each change of the index up to the next
+-- one cover for each maximal interval on which the first item's index is the same
 abbrev pub covers_from : ℕ → Option FirstItem → List ℕ → List (Option FirstItem) → List Cover
 covers_from first now [] values = with_cover first (2 ^ 64 - 1) now []
 covers_from first now (s ∷ stops) [] = with_cover first (2 ^ 64 - 1) now []

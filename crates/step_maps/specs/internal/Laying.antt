@@ -6,11 +6,11 @@ use Rattle.step_maps.specs.Covers.{reaches}
 use Rattle.step_maps.specs.Overlays.{over}
 use Rattle.step_maps.specs.Ends.{BelowEnd}
 
--- the item of one stretch alone
+-- the item that one stretch alone gives at an address, if it contains the address
 abbrev pub own_item : Stretch → ℕ → Option FirstItem
 own_item s a = if reaches s a then Some (record { index = s.index; class = s.class; shared = false }) else None
 
--- each stretch laid over those after it
+-- the first item at an address, if each stretch is laid over those after it
 unfoldable pub laid : List Stretch → ℕ → Option FirstItem
 laid [] a = None
 laid (s ∷ items) a = over (own_item s a) (laid items a)
@@ -24,13 +24,14 @@ abbrev pub ascends : List Stretch → Bool
 ascends [] = true
 ascends (s ∷ items) = ascends_from s.last items
 
--- the lower of two stops, if there are any
+-- the lower of two stops, either of which may be missing
 abbrev pub sooner : Option ℕ → Option ℕ → Option ℕ
 sooner None y = y
 sooner (Some x) None = Some x
 sooner (Some x) (Some y) = Some (min x y)
 
--- from `at` on, up to the stop `next`, each stretch contains all addresses or none
+-- each stretch contains all addresses from `at` up to `next`, or none of them; if `next` is
+-- missing, all addresses from `at` on count
 abbrev pub AreSteady : List Stretch → ℕ → Option ℕ → Type 0
 AreSteady [] at next = Unit {0}
 AreSteady (s ∷ items) at next = ((a : ℕ) → at ≤ a → a < 2 ^ 64 → BelowEnd a next → reaches s a ≡ reaches s at) × AreSteady items at next
