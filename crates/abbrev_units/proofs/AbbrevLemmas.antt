@@ -1,4 +1,4 @@
--- How far abbreviations go, and their lists as loops make them.
+-- How many bytes abbreviations pass, and the loops that read them.
 use Rattle.std.proofs.Common.{◌≡◌, ◌<◌, ℕ, zero, suc, Bool, nat_eq, pos, List, [], ◌∷◌, length, Option, None, Some, Result, Ok, Err, refl, sym, ap, ◌∙◌, arith}
 use Rattle.sym_edges.specs.declared.fault.Stop.{Stop}
 use Rattle.sym_edges.specs.declared.fault.Stop.TheVariants.{Fault, NoMemory}
@@ -52,7 +52,7 @@ specs_follow c = list_follows spec_at spec_goes c
 pub abbrevs_follow : (c : Ahead) → list_at abbrev_at c ≡ list_cases abbrev_at c
 abbrevs_follow c = list_follows abbrev_at abbrev_goes c
 
--- ---- as a unit uses them
+-- The same readings, as a unit uses them.
 
 used_spec_goes : (wide : Bool) (c : Ahead) → GoesOn c (used_spec_at wide c)
 unfolding used_spec_at
@@ -64,7 +64,7 @@ unfolding used_abbrev_at
 used_abbrev_goes wide c =
     goes_of (used_abbrev_at wide c) c (passes_then (abbrev_at c) (one_by (used_abbrev wide)) 1 0 c (abbrev_passes c) (λ found. (omega arith, refl)))
 
--- a change of each member that is read is one of the list's members
+-- A change of each member before the list is made changes the members of the list.
 more_by : {A B : Type 0} (f : A → B) (x : A) (later : Result (List A × Ahead) CursorFault) → ((later >>= all_by f) >>= λ rest. Ok (f x ∷ rest.0, rest.1)) ≡ ((later >>= λ rest. Ok (x ∷ rest.0, rest.1)) >>= all_by f)
 more_by f x (Ok rest) = refl
 more_by f x (Err fault) = refl
@@ -88,7 +88,7 @@ abbrevs_are : (wide : Bool) (c : Ahead) → list_at (used_abbrev_at wide) c ≡ 
 unfolding list_at used_abbrev_at used_at
 abbrevs_are wide c = members_by (used_abbrev wide) abbrev_at (suc (length c.bytes)) c
 
--- an abbreviation with the attributes that a unit uses
+-- An abbreviation with the attributes that a unit uses.
 pub specs_given : (wide : Bool) (code tag : ℕ) (children : Bool) (specs : Result (List AttributeSpec × Ahead) CursorFault) (used : List SpecFields) (d : Ahead) → (specs >>= all_by (used_spec wide)) ≡ Ok (used, d)
     → ((specs >>= λ l. Ok (Some (record { code = code; tag = tag; children = children; specs = l.0 }), l.1)) >>= one_by (used_abbrev wide)) ≡ Ok (Some (record { code = code; tag = tag; children = children; specs = used }), d)
 specs_given wide code tag children (Ok l) used d is = ap (λ r. r >>= λ l. Ok (Some (record { code = code; tag = tag; children = children; specs = l.0 }), l.1)) is
@@ -99,7 +99,8 @@ pub specs_fault : (wide : Bool) (code tag : ℕ) (children : Bool) (specs : Resu
 specs_fault wide code tag children (Ok l) fault is = cc
 specs_fault wide code tag children (Err other) fault is = cc
 
--- the attributes that were read, and those still to come; and the abbreviations
+-- The attributes that were read, followed by those still to be read; then the same for
+-- abbreviations.
 pub specs_begin : (wide : Bool) (done : List SpecFields) (c : Ahead) → done ≡ [] → Behind (used_spec_at wide) done c (used_specs_at wide c)
 specs_begin wide done c none = begins (used_spec_at wide) done c _ (used_spec_goes wide) none (specs_are wide c)
 

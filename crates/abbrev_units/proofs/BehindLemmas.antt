@@ -1,10 +1,11 @@
--- Lists as loops make them: the members that were read, and those still to come.
+-- Lists that a loop reads: the members that were read, followed by those still to be read.
 use Rattle.std.proofs.Common.{◌≡◌, ◌<◌, List, [], ◌∷◌, ◌++◌, length, Option, None, Some, Result, Ok, Err, sym, ap, ◌∙◌}
 use Rattle.leb_cursor.specs.Ahead.{Ahead}
 use Rattle.leb_cursor.specs.Lists.{list_at, GoesOn}
 use Rattle.leb_cursor.proofs.ListLemmas.{behind, none_behind, list_more, list_ends, list_refused, shorter_by}
 
--- what is wanted is what was read in front of what is still ahead, where each reading goes on
+-- The wanted list is the members that were read, followed by those still ahead; and each reading
+-- goes on.
 unfoldable pub Behind : {A E : Type 0} → (Ahead → Result (Option A × Ahead) E) → List A → Ahead → Result (List A × Ahead) E → Type 0
 Behind read done c want = ((d : Ahead) → GoesOn d (read d)) × (behind done (list_at read c) ≡ want)
 

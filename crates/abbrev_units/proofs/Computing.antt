@@ -1,4 +1,5 @@
--- What a proof unfolds to compute the definitions of abbrev_units and of the crates below it where the input is written out.
+-- The definitions of abbrev_units and of the crates below it that a proof unfolds to compute a
+-- worked example.
 use Rattle.std.specs.Prelude.{⊤}
 use Rattle.leb_cursor.proofs.Computing.{leb_cursor_computes}
 use Rattle.code_table.proofs.Computing.{code_table_computes}

@@ -1,4 +1,4 @@
--- How far a value goes.
+-- How many bytes the reading of a value passes.
 use Rattle.std.proofs.Common.{◌≡◌, ℕ, ℤ, pos, Bool, ◌||◌, nat_eq, cond, List, [], ◌∷◌, Option, None, Some, Result, Ok, Err, refl, sym, ap, ◌∙◌, arith}
 use Rattle.std.specs.List.{find}
 use Rattle.std.proofs.lemmas.Bool.Decides.{nat_tests}
@@ -52,7 +52,7 @@ values_pass (spec ∷ specs) c =
     passes_then (value_at spec c) _ 0 0 c (form_passes spec.form spec.implicit spec.wide c)
     (λ first. passes_then (values_at specs first.1) _ 0 0 first.1 (values_pass specs first.1) (λ later. (omega arith, refl)))
 
--- a row that is found has the code that was looked for
+-- The row that is found has the code that was looked for.
 row_code : (code : ℕ) (rows : List FormRow) (row : FormRow) → Some row ≡ find (λ (r : FormRow). nat_eq r.code code) rows → row.code ≡ code
 row_code code [] row is = absurd (grind (arith, is))
 row_code code (first ∷ rows) row is = grind (arith, nat_tests, row_code code rows row, is)

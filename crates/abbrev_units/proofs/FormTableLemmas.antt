@@ -1,4 +1,4 @@
--- The rows of forms, listed by their codes.
+-- The rows of forms, in a list whose indices are their codes.
 use Rattle.std.proofs.Common.{◌≡◌, ℕ, zero, suc, Bool, List, [], ◌∷◌, ◌++◌, length, Option, None, Some, sym, ap, subst, ◌∙◌}
 use Rattle.std.specs.List.{slice_get}
 use Rattle.code_table.specs.Forms.{forms, form_row}
@@ -8,7 +8,7 @@ use Rattle.abbrev_units.specs.internal.FormRows.{AreRows, row_said}
 some_same : {A : Type 0} {x y : A} → Some x ≡ Some y → x ≡ y
 some_same is = cc
 
--- what holds of each, and of one more
+-- What holds for each member holds after one more member, for which it holds too.
 pub each_more : {A : Type 0} (P : ℕ → A → Type 0) (made : List A) (one : A) → ((k : ℕ) (x : A) → slice_get made k ≡ Some x → P k x) → P (length made) one → (k : ℕ) (x : A) → slice_get (made ++ one ∷ []) k ≡ Some x → P k x
 each_more P [] one each last zero x is = subst (P 0) (some_same is) last
 each_more P [] one each last (suc k) x is = absurd (cc)
@@ -16,7 +16,7 @@ each_more P (m ∷ made) one each last zero x is = each zero x is
 each_more P (m ∷ made) one each last (suc k) x is =
     each_more (λ n. P (suc n)) made one (λ n y there. each (suc n) y there) last k x is
 
--- an empty list has no member
+-- An empty list has no members.
 pub none_at : {A : Type 0} (made : List A) (k : ℕ) (x : A) → made ≡ [] → slice_get made k ≡ Some x → ⊥
 none_at made k x none there = let past : None ≡ Some x = ap (λ (m : List _). slice_get m k) (sym none) ∙ there in cc
 

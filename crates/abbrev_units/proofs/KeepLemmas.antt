@@ -1,4 +1,4 @@
--- For `keep` and `class_of`: what each slot keeps of values, by their classes.
+-- What each slot keeps of values of each class; for `keep` and `class_of`.
 use Rattle.std.proofs.Common.{◌≡◌, ℕ, ◌^◌, ℤ, pos, negsuc, Bool, true, false, cond, List, length, Option, None, Some, IfSome, Result, Ok, Err, refl, sym, ap, subst, arith}
 use Rattle.std.specs.Int.{w64, cast_signed, cast_unsigned}
 use Rattle.std.specs.Option.{option_and_then}
@@ -29,7 +29,7 @@ use Rattle.abbrev_units.proofs.OkLemmas.{value_or}
 use Rattle.abbrev_units.specs.internal.Picked.{plain_of}
 use Rattle.abbrev_units.specs.internal.Takes.{HasClass, MakesNumbers, has_numbers, number_of}
 
--- nothing is kept of a block
+-- Nothing is kept of a block.
 block_kept : (s : Slot) (start len : ℕ) → None ≡ kept_by s (value.Block start len)
 block_kept slot.Low start len = refl
 block_kept _ start len = refl
@@ -43,7 +43,7 @@ keeps_plain s (value.Block start len) = block_kept s start len
 keeps_plain s value.Other = other_kept s
 keeps_plain s _ = refl
 
--- the operands of layouts
+-- The kind of operand that each layout gives.
 number_is : (reading : Result (ℕ × Ahead) CursorFault) (x : Operand) (d : Ahead) → number_in reading ≡ Ok (x, d) → (n : ℕ) × (x ≡ operand.Num n)
 number_is (Ok n) x d is = (n.0, sym (ap (value_or x) is))
 number_is (Err fault) x d is = absurd (grind (arith, is))
@@ -62,7 +62,7 @@ signed_fits : (z : ℤ) → fits_i64 z ≡ true → cast_signed w64 (cast_unsign
 signed_fits (pos n) fits = to_z-of_z w64 (pos n) (record { sfits = ltb-true n (2 ^ 63) fits })
 signed_fits (negsuc n) fits = to_z-of_z w64 (negsuc n) (record { sfits = ltb-true n (2 ^ 63) fits })
 
--- the value of a form and its number
+-- The value of a form, and the number that stands for it.
 number_class : (f : FormClass) (layout : Kind) (class : Class) → has_numbers layout ≡ true → MakesNumbers f class → HasClass f layout class
 number_class f layout class has makes implicit constant c d x s constant_is is =
     let number = numbers layout c d x has is in
@@ -107,7 +107,7 @@ text_class implicit constant c d x s constant_is is =
     let text = text_is (text_at c) c.at x d is in
     subst (λ (o : Operand). option_and_then (kept_by s) (value_in class.InlineText (number_of constant o)) ≡ kept_by s (value_of form.InlineText implicit o)) (sym text.1) refl
 
--- a number with a sign
+-- A signed operand.
 abbrev with_sign : ℤ × Ahead → Result (Operand × Ahead) CursorFault
 with_sign number = Ok (operand.Signed number.0, number.1)
 

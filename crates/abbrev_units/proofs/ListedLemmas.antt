@@ -1,4 +1,4 @@
--- Lists that grow keep what stands in them.
+-- A list that grows keeps the members that it had.
 use Rattle.std.proofs.Common.{◌≡◌, ◌≤◌, ◌-◌, ℕ, Bool, true, List, [], ◌∷◌, ◌++◌, length, take, drop, Option, None, Some, is_some, unwrap_or, IfSome, Result, Ok, Err, refl, sym, ap, subst, ◌∙◌, arith}
 use Rattle.std.proofs.lemmas.List.{length-append, length-drop, append-nil, append_assoc, take-append-le, drop-append-le, take_all, drop_at}
 use Rattle.std.proofs.Math.ListN.{drop_of_length-le}
@@ -19,7 +19,7 @@ use Rattle.abbrev_units.specs.internal.Listed.{part, IsInside, abbrev_in, abbrev
 use Rattle.abbrev_units.proofs.AbbrevLemmas.{abbrevs_begin, abbrevs_stopped}
 use Rattle.abbrev_units.proofs.BehindLemmas.{Behind, goes_on, ends}
 
--- lists that others begin
+-- A list is a prefix of the list that it grew to.
 starts_by : {A : Type 0} (before after more : List A) → after ≡ before ++ more → Starts before after
 starts_by before after more is = is ∙ ap (λ rest. before ++ rest) (sym (ap (drop (length before)) is ∙ drop_at before more (length before) refl))
 
@@ -39,7 +39,7 @@ starts_more before after longer more starts is =
 pub added_more : {A : Type 0} (before after longer more : List A) → Starts before after → longer ≡ after ++ more → drop (length before) longer ≡ drop (length before) after ++ more
 added_more before after longer more starts is = ap (drop (length before)) is ∙ drop-append-le (length before) after more (starts_below before after starts)
 
--- a part stays
+-- The members that a run selects do not change.
 kept_part : {A : Type 0} (before more : List A) (run : Run) → IsInside run before → part run (before ++ more) ≡ part run before
 kept_part before more run inside =
     let from : run.from ≤ length before = omega (arith, inside.0, inside.1) in
@@ -53,7 +53,7 @@ still_inside : {A : Type 0} (before after : List A) (run : Run) → Starts befor
 still_inside before after run starts inside =
     (inside.0, omega (arith, inside.1, ap length starts, length-append before (drop (length before) after)))
 
--- what stands from a number on, as a run
+-- The members from an index on, as a run.
 part_rest : {A : Type 0} (xs : List A) (run : Run) (from : ℕ) → run.from ≡ from → run.to ≡ length xs → drop from xs ≡ part run xs
 part_rest xs run from start end =
     sym (ap (take (run.to - run.from)) (ap (λ n. drop n xs) start) ∙ take_all (run.to - run.from) (drop from xs) (omega (arith, start, end, length-drop from xs)))
@@ -121,7 +121,7 @@ abbrevs_and : (specs : List SpecFields) (heads : List Head) (head : Head) → ab
 abbrevs_and specs [] head = refl
 abbrevs_and specs (first ∷ heads) head = ap (λ (rest : List Abbrev). abbrev_in specs first ∷ rest) (abbrevs_and specs heads head)
 
--- the abbreviations that were read, and those still to come
+-- The abbreviations that were read, followed by those still to be read.
 pub record Reads (wide : Bool) (lists : Lists) (heads : List Head) (c : Ahead) (want : Result (List Abbrev × Ahead) CursorFault) : Type 0 where
   pub held : AreHeld lists heads
   pub rest : Behind (used_abbrev_at wide) (abbrevs_in lists.specs.items heads) c want

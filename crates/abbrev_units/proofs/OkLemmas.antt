@@ -1,9 +1,9 @@
--- What holds of an answer, where there is one.
+-- What holds for the value of a result, if there is a value.
 use Rattle.std.proofs.Common.{Bool, true, false, cond, Result, Ok, Err, IfOk}
 use Rattle.sym_edges.specs.Results.{◌>>=◌}
 use Rattle.leb_cursor.specs.Ahead.{Ahead}
 
--- after another answer, of which something holds, or nothing that counts; and of either of two
+-- The same for two results one after the other, and for the one of two results that a test chooses.
 pub then_ok : {A B E : Type 0} (P : A → Type 0) (Q : B → Type 0) (first : Result A E) (next : A → Result B E) → IfOk first P → ((x : A) → P x → IfOk (next x) Q) → IfOk (first >>= next) Q
 then_ok P Q (Ok x) next holds later = later x holds
 then_ok P Q (Err fault) next holds later = tt
@@ -16,7 +16,7 @@ pub either_ok : {A E : Type 0} (Q : A → Type 0) (test : Bool) (given other : R
 either_ok Q true given other one two = one
 either_ok Q false given other one two = two
 
--- the parts of a reading, or others where there is none
+-- The value of a reading and what is ahead after it, or defaults if the reading has a fault.
 abbrev pub value_or : {A F : Type 0} → A → Result (A × Ahead) F → A
 value_or old (Ok x) = x.0
 value_or old (Err fault) = old

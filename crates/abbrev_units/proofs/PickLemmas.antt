@@ -1,4 +1,4 @@
--- For `Filled` and `pick_values`: the first value of each attribute goes to its slot.
+-- The first value of each attribute goes to its slot; for `Filled` and `pick_values`.
 use Rattle.std.proofs.Common.{◌≡◌, ◌<◌, ◌≤◌, ◌+◌, ℕ, Bool, true, false, nat_eq, cond, List, [], ◌∷◌, ◌++◌, length, take, drop, map, get_or, Option, None, Some, is_some, Result, Ok, Err, IfOk, refl, sym, ap, ◌∙◌, ◌||◌, arith}
 use Rattle.std.proofs.lemmas.Bool.Decides.{nat_tests}
 use Rattle.std.proofs.lemmas.List.{drop_more, take_all, take-append-drop, map-append}
@@ -17,7 +17,7 @@ use Rattle.abbrev_units.specs.Values.{behind_values, only_ahead, value_at, value
 use Rattle.abbrev_units.proofs.OkLemmas.{then_ok, then_any, value_or, ahead_or}
 use Rattle.abbrev_units.specs.internal.Filled.{attributes_of, fill_in, filled_by, free_in, is_among, slot_number}
 
--- a value, unless one was there before
+-- The earlier value, if there is one, or else the later one.
 abbrev or_value : Option Value → Value → Option Value
 or_value (Some old) value = Some old
 or_value None value = Some value
@@ -29,18 +29,18 @@ note_if false old value = old
 abbrev given : ℕ → Value → Given
 given attribute value = record { attribute = attribute; value = value }
 
--- one value more at the end of a list
+-- One value more at the end of a list.
 first_more : (wanted attribute : ℕ) (value : Value) (seen : List Given) → first_of wanted (seen ++ given attribute value ∷ []) ≡ note_if (nat_eq attribute wanted) (first_of wanted seen) value
 unfolding first_of
 first_more wanted attribute value [] = grind (arith, nat_tests)
 first_more wanted attribute value (before ∷ rest) = grind (arith, nat_tests, first_more wanted attribute value rest)
 
--- one attribute more at the end of a list
+-- One attribute more at the end of a list.
 among_more : (wanted attribute : ℕ) (seen : List ℕ) → is_among wanted (seen ++ attribute ∷ []) ≡ (nat_eq attribute wanted || is_among wanted seen)
 among_more wanted attribute [] = refl
 among_more wanted attribute (before ∷ rest) = grind (arith, nat_tests, among_more wanted attribute rest)
 
--- an attribute that nobody asks for is none of those that are asked for
+-- An attribute that is not needed differs from each needed one.
 unasked : (attribute asked : ℕ) → is_asked attribute ≡ false → is_asked asked ≡ true → nat_eq attribute asked ≡ false
 unasked attribute asked none some = by (nat_eq attribute asked) refl
   where
@@ -50,17 +50,17 @@ unasked attribute asked none some = by (nat_eq attribute asked) refl
         let same : attribute ≡ asked = grind (arith, nat_tests, test) in
         sym some ∙ ap is_asked (sym same) ∙ none
 
--- a value goes to the slot of its attribute
+-- A value goes to the slot of its attribute.
 firsts_more : (s : Slot) (attribute : ℕ) (value : Value) (seen : List Given) → IsSlot s attribute → first_values (seen ++ given attribute value ∷ []) ≡ put_in s (or_value (pick_of s (first_values seen)) value) (first_values seen)
 firsts_more slot.Passed attribute value seen is = simp (first_more, unasked attribute)
 firsts_more _ attribute value seen is = rw is (simp first_more)
 
--- a slot is filled where its attribute was among those before
+-- A slot is filled if its attribute is among the earlier ones.
 fills_more : (s : Slot) (attribute : ℕ) (before : List ℕ) → IsSlot s attribute → fill_in (filled_by before) s ≡ filled_by (before ++ attribute ∷ [])
 fills_more slot.Passed attribute before is = simp (among_more, unasked attribute)
 fills_more _ attribute before is = rw is (simp among_more)
 
--- whether a slot has had its value
+-- Whether a slot already has a value.
 abbrev names_of : List Given → List ℕ
 names_of values = map (λ (g : Given). g.attribute) values
 
@@ -73,7 +73,7 @@ slot_seen : (s : Slot) (values : List Given) → get_or (filled_by (names_of val
 slot_seen slot.Passed values = refl
 slot_seen _ values = seen_is _ values
 
--- a value is kept where it is the first of its slot
+-- A value is kept if it is the first one for its slot.
 put_same : (s : Slot) (first : PickFields) → put_in s (pick_of s first) first ≡ first
 put_same slot.Passed first = refl
 put_same _ first = refl
@@ -93,7 +93,7 @@ kept_more s attribute value seen is =
     ap kept_of (firsts_more s attribute value seen is)
     ∙ kept_where s value (first_values seen) (pick_of s (first_values seen)) (get_or (filled_by (names_of seen)) (slot_number s) false) refl (slot_seen s seen)
 
--- the values of attributes, and of others behind them
+-- The values of attributes, followed by the values of later attributes.
 abbrev behind : List Given → List Given × Ahead → Result (List Given × Ahead) FormFault
 behind front later = Ok (front ++ later.0, later.1)
 
@@ -138,7 +138,7 @@ unfolding values_at
 values_refused specs more x values c d fault front last =
     values_append specs (x ∷ more) c ∙ ap (λ r. r >>= others (x ∷ more)) front ∙ ap (λ r. (r >>= first_on x more) >>= behind values) last
 
--- the attributes of values
+-- The values have these attributes.
 abbrev AreNamed : List ℕ → List Given × Ahead → Type 0
 AreNamed names values = names_of values.0 ≡ names
 
@@ -150,7 +150,7 @@ names_are (spec ∷ specs) c =
     (λ first. then_ok (AreNamed (attributes_of specs)) (AreNamed (spec.attribute ∷ attributes_of specs)) (values_at specs first.1) _ (names_are specs first.1)
     (λ later same. ap (λ (n : List ℕ). spec.attribute ∷ n) same))
 
--- the reading so far, and one value more: where the picks so far come from
+-- The values that were read so far, from which the picks come; then one value more.
 pub record Read (specs : List SpecFields) (c d : Ahead) (picks : PickFields) : Type 0 where
   pub values : List Given
   pub reads : values_at specs c ≡ Ok (values, d)
@@ -181,7 +181,7 @@ picks_next specs x s value picks c d e so_far is next =
     ∙ ap (λ (p : PickFields). Ok (p, e)) (kept_more s x.attribute value read.values is
     ∙ ap (λ (n : List ℕ). kept_in n s value (picks_of read.values)) read.names ∙ ap (kept_in (attributes_of specs) s value) read.are)
 
--- the loop's steps
+-- The steps of the loop.
 pub picks_begin : (specs : List SpecFields) (c : Ahead) → picks_at (take 0 specs) c ≡ Ok (no_picks, c)
 unfolding picks_at values_at first_of
 picks_begin specs c = refl
@@ -211,7 +211,7 @@ picks_refused specs i x picks c d fault so_far there is refused =
 pub picks_end : (specs : List SpecFields) (i : ℕ) (picks : PickFields) (c d : Ahead) → picks_at (take i specs) c ≡ Ok (picks, d) → length specs ≤ i → Ok (picks, d) ≡ picks_at specs c
 picks_end specs i picks c d so_far all = sym so_far ∙ ap (λ (s : List SpecFields). picks_at s c) (take_all i specs all)
 
--- what a reading of picks leaves ahead
+-- What is ahead after a reading of picks.
 passed_by : (reading : Result (List Given × Ahead) FormFault) (picks : PickFields) (d : Ahead) → Ok (picks, d) ≡ with_picks reading → Ok d ≡ only_ahead reading
 passed_by (Ok x) picks d is = ap Ok (ap (ahead_or d) is)
 passed_by (Err fault) picks d is = absurd (grind (arith, is))

@@ -1,4 +1,4 @@
--- The abbreviation of a code, by its number and by the map of places.
+-- An abbreviation is found by its code, directly or in the map of indices.
 use Rattle.std.proofs.Common.{◌≡◌, ◌⊎◌, inl, inr, ◌<◌, ◌≤◌, ◌+◌, ◌-◌, ℕ, zero, suc, Bool, true, false, ◌&&◌, nat_eq, nat_lt, nat_le, cond, List, [], ◌∷◌, length, drop, Option, None, Some, refl, sym, ap, subst, ◌∙◌, arith}
 use Rattle.std.specs.Option.{unwrap_or}
 use Rattle.std.specs.Prelude.{slice_get, get_or}
@@ -13,13 +13,13 @@ use Rattle.abbrev_units.specs.SpecFields.{Abbrev}
 use Rattle.abbrev_units.specs.Abbreviations.{abbrev_of}
 use Rattle.abbrev_units.specs.Places.{first_place, Follow, IsDense, HasPlaces}
 
--- the abbreviation of a code stands at its first place
+-- The abbreviation of a code is the one at the first index with this code.
 find_is : (code : ℕ) (list : List Abbrev) → abbrev_of code list ≡ slice_get list (first_place code list)
 unfolding abbrev_of first_place
 find_is code [] = refl
 find_is code (a ∷ rest) = grind (arith, nat_tests, find_is code rest)
 
--- codes that follow a number one by one
+-- Codes that are consecutive numbers.
 follow_at : (before n : ℕ) (list : List Abbrev) (k code : ℕ) → Follow before n list → k < n → code ≡ before + k + 1 → first_place code list ≡ k
 unfolding first_place
 follow_at before zero list k code front below is = absurd (omega arith)
@@ -39,7 +39,7 @@ follow_more before n [] d front there is = absurd (omega arith)
 follow_more before zero (a ∷ rest) d front there is = (omega (arith, is), tt)
 follow_more before (suc n) (a ∷ rest) d front there is = (front.0, follow_more (before + 1) n rest d front.1 (omega arith) (omega (arith, is)))
 
--- an abbreviation that stands nowhere
+-- An abbreviation as a default for an index outside of the list.
 nowhere : Abbrev
 nowhere = record { code = 0; tag = 0; children = false; specs = [] }
 
@@ -49,7 +49,7 @@ dense_more n list code front there is number =
     let here : (get_or list n nowhere).code ≡ 0 + n + 1 = sym (is nowhere) ∙ number ∙ omega arith in
     subst (λ m. Follow 0 m list) next (follow_more 0 n list nowhere front there here)
 
--- a code is one of the first so many, or it is not
+-- A code that is not dense is 0 or above the dense codes.
 front_not : (code dense : ℕ) (low : Bool) → nat_lt 0 code ≡ low → (nat_lt 0 code && nat_le code dense) ≡ false → (code ≤ 0) ⊎ (0 + dense < code)
 front_not code dense true low is = inr (grind (arith, nat_tests, low, is))
 front_not code dense false low is = inl (grind (arith, nat_tests, low))
@@ -65,7 +65,7 @@ found_nowhere list dense code front all is =
     let away = subst (λ n. (code ≤ 0) ⊎ (0 + n < code)) all (front_not code dense (nat_lt 0 code) refl is) in
     sym (find_is code list ∙ ap (slice_get list) (follow_none 0 dense list code front (omega arith) away) ∙ slice_get_past list (length list) (omega arith))
 
--- by the map
+-- Finding by the map.
 mapped : (list : List Abbrev) (dense : ℕ) (places : BTreeMap ℕ ℕ) (code : ℕ) → (dense ≡ length list) ⊎ HasPlaces places 0 list → (dense ≡ length list → ⊥) → unwrap_or (get nat_cmp places code) (length list) ≡ first_place code list
 mapped list dense places code (inl all) not = absurd (not all)
 mapped list dense places code (inr has) not =
@@ -80,7 +80,7 @@ pub missed_by_map : (list : List Abbrev) (dense : ℕ) (places : BTreeMap ℕ �
 missed_by_map list dense places code others not is =
     sym (find_is code list ∙ ap (slice_get list) (sym (mapped list dense places code others not) ∙ ap (λ o. unwrap_or o (length list)) (sym is)) ∙ slice_get_past list (length list) (omega arith))
 
--- the map as it is made from the last abbreviation to the first
+-- The map, as it is made from the last abbreviation to the first.
 pub places_none : (list : List Abbrev) (places : BTreeMap ℕ ℕ) → places.entries ≡ [] → HasPlaces places (length list) list
 unfolding first_place
 places_none list places empty code =

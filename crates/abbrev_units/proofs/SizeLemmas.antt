@@ -18,7 +18,7 @@ use Rattle.abbrev_units.specs.SpecFields.{SpecFields}
 use Rattle.abbrev_units.specs.Values.{only_ahead}
 use Rattle.abbrev_units.specs.internal.FormRows.{HasRow, size_in}
 
--- a reading of a number passes what a run of so many bytes passes, with the same fault
+-- Reading a number passes the same bytes as reading a run of that size, and has the same fault.
 only_by : (short : Bool) (fault : CursorFault) (value : ℕ) (run : List ℕ) (c : Ahead) → only_ahead (cond short (Err fault) (Ok (value, c))) ≡ only_ahead (cond short (Err fault) (Ok (run, c)))
 only_by true fault value run c = refl
 only_by false fault value run c = refl
@@ -39,7 +39,7 @@ run_ahead : (n : ℕ) (c : Ahead) → only_ahead (run_at n c) ≡ only_ahead (ta
 unfolding run_at
 run_ahead n c = run_by c.at (take_at n c)
 
--- no bytes, and bytes that are there
+-- Passing no bytes, and passing bytes that are there.
 pub passed_none : (c : Ahead) → passed 0 c ≡ c
 unfolding passed
 passed_none c =
@@ -53,7 +53,7 @@ take_there n c there = cond-false _ _ _ (le-ltb (length c.bytes) n there)
 pub take_fits : (n : ℕ) (c : Ahead) → n ≤ length c.bytes → only_ahead (take_at n c) ≡ Ok (passed n c)
 take_fits n c there = ap only_ahead (take_there n c there)
 
--- what a reading of a run passed
+-- What reading a run passes.
 run_passed : (short : Bool) (fault : CursorFault) (run : List ℕ) (n : ℕ) (c d : Ahead) → only_ahead (cond short (Err fault) (Ok (run, passed n c))) ≡ Ok d → (short ≡ false) × (d ≡ passed n c)
 run_passed true fault run n c d is = absurd (grind (arith, is))
 run_passed false fault run n c d is = let same : passed n c ≡ d = cc in (refl, sym same)
@@ -78,7 +78,7 @@ sized kind.U64 size c is = fixed_sized 8 c ∙ same_size 8 size c is
 sized kind.Bytes16 size c is = run_ahead 16 c ∙ same_size 16 size c is
 sized _ size c is = absurd (cc)
 
--- a run of two parts
+-- Passing two runs is passing one run of both sizes together.
 pub passed_two : (m n : ℕ) (c : Ahead) → passed n (passed m c) ≡ passed (m + n) c
 unfolding passed
 passed_two m n c =
@@ -90,7 +90,7 @@ pub long_enough : (m n sum : ℕ) (c : Ahead) → sum ≡ m + n → sum ≤ leng
 unfolding passed
 long_enough m n sum c is there = omega (arith, is, there, length-drop m c.bytes)
 
--- the row of an attribute whose form is known
+-- The row of an attribute whose form is known.
 pub direct_row : (spec : SpecFields) (row : FormRow) → nat_eq spec.form 0x16 ≡ false → Some row ≡ form_row spec.form (forms spec.wide) → HasRow spec row
 unfolding form_at direct_at
 direct_row spec row direct is c = cond-false _ _ _ direct ∙ ap (λ r. value_by r spec.implicit c) (sym is)

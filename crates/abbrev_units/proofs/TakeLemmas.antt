@@ -1,4 +1,4 @@
--- For `make_takes` and `Abbrev::read`: where the takes succeed, they leave what is kept of the values.
+-- If the takes succeed, they leave what is kept of the values; for `make_takes` and `Abbrev::read`.
 use Rattle.std.proofs.Common.{◌≡◌, ◌<◌, ◌≤◌, ◌+◌, ℕ, ℤ, Bool, true, false, List, [], ◌∷◌, ◌++◌, length, take, drop, get_or, Option, Some, Result, Ok, Err, refl, sym, ap, ◌∙◌, arith, subst}
 use Rattle.std.proofs.lemmas.List.{drop_more, take_more, take_all}
 use Rattle.std.proofs.Math.ListN.{drop_of_length-le}
@@ -29,7 +29,7 @@ use Rattle.abbrev_units.proofs.PickLemmas.{attributes_more, picks_next, values_n
 use Rattle.abbrev_units.proofs.OkLemmas.{value_or, ahead_or}
 use Rattle.abbrev_units.proofs.SizeLemmas.{long_enough, passed_none, passed_two, sized, take_fits, take_passed, take_there}
 
--- a reading that succeeds in two parts
+-- Two readings, one after the other, that both succeed.
 pub record Parts {X Y : Type 0} (first : Result X CursorFault) (next : X → Result Y CursorFault) (y : Y) : Type 0 where
   pub middle : X
   pub one : first ≡ Ok middle
@@ -39,7 +39,7 @@ parts_of : {X Y : Type 0} (first : Result X CursorFault) (next : X → Result Y 
 parts_of (Ok x) next y is = record { middle = x; one = refl; two = is }
 parts_of (Err fault) next y is = absurd (grind (arith, is))
 
--- a take that succeeds
+-- One take that succeeds.
 pub record Taken (take : Take) (picks after : PickFields) (c d : Ahead) : Type 0 where
   pub fits : take.bytes ≤ length c.bytes
   pub operand : Operand
@@ -66,7 +66,7 @@ taken_is take picks after c d is =
       puts = sym (ap (λ (n : ℕ). put_in take.slot (value_in take.class n) picks) (ap (value_or 0) operand.two) ∙ ap (value_or after) number.two);
     }
 
--- takes that succeed, and the bytes after the last
+-- Takes that succeed, and the bytes after the last take.
 pub record TakenAll (takes : List Take) (tail : ℕ) (picks after : PickFields) (c d : Ahead) : Type 0 where
   pub before : Ahead
   pub front : all_taken takes picks c ≡ Ok (after, before)
@@ -95,7 +95,7 @@ takes_there : (takes : List Take) (tail : ℕ) (picks after : PickFields) (c d :
 takes_there takes tail picks after c d front there =
     ap (λ r. r >>= tail_behind tail) front ∙ ap (λ r. r >>= with_tail after) (take_there tail d there)
 
--- one take more at the end
+-- One take more at the end of a list.
 abbrev last_taken : Take → PickFields × Ahead → Result (PickFields × Ahead) CursorFault
 last_taken take x = take_one take x.0 x.1
 
@@ -116,7 +116,7 @@ unfolding all_taken
 last_is [] take picks c = one_taken (take_one take picks c)
 last_is (first ∷ takes) take picks c = last_by (take_one first picks c) takes take (λ x. last_is takes take x.0 x.1)
 
--- one value more of what is kept
+-- One value more, of which something or nothing is kept.
 passes_on : (given : Slot) (value : Value) (picks : PickFields) → given ≡ Passed → put_in given (kept_by given value) picks ≡ picks
 passes_on given value picks is = ap (λ (s : Slot). put_in s (kept_by s value) picks) is
 
@@ -134,7 +134,7 @@ kept_next true specs x given value picks c d e so_far goes next =
 kept_next false specs x given value picks c d e so_far goes next =
     none_next specs x given value picks c d e (values_at specs c) refl so_far goes next
 
--- the value of an attribute by the row of its form
+-- The value of an attribute, given the row of its form.
 abbrev row_value : FormRow → ℤ → Operand × Ahead → Result (Value × Ahead) FormFault
 row_value row implicit x = Ok (value_of row.class implicit x.0, x.1)
 
@@ -145,7 +145,7 @@ operand_there : (reading : Result (Operand × Ahead) CursorFault) (d : Ahead) �
 operand_there (Ok x) d is = let there : x.1 ≡ d = cc in (x.0, ap (λ (e : Ahead). Ok (x.0, e)) there)
 operand_there (Err fault) d is = absurd (grind (arith, is))
 
--- an attribute more, whose operand joins the bytes after the last take
+-- One attribute more, whose operand is added to the bytes after the last take.
 pub takes_joined : (kept : Bool) (takes : List Take) (specs : List SpecFields) (x : SpecFields) (row : FormRow) (given : Slot) (bytes more : ℕ) → AreTakes kept takes bytes specs → HasRow x row → GoesTo kept specs x.attribute given → Joins given row.layout bytes more → AreTakes kept takes more (specs ++ x ∷ [])
 takes_joined kept takes specs x row given bytes more so_far has goes joins c d picks is =
     let whole = takes_are takes more no_picks picks c d is in
@@ -158,7 +158,7 @@ takes_joined kept takes specs x row given bytes more so_far has goes joins c d p
     kept_next kept specs x given value picks c middle d (so_far c middle picks (takes_there takes bytes no_picks picks c whole.before whole.front first)) goes (has middle ∙ row_reads row x.implicit middle d operand.0 operand.1)
     ∙ ap (λ (p : PickFields). Ok (p, d)) (passes_on given value picks joins.unasked)
 
--- an attribute more, whose operand is taken
+-- One attribute more, which has a take.
 pub takes_next : (kept : Bool) (takes next : List Take) (take : Take) (specs : List SpecFields) (x : SpecFields) (row : FormRow) (given : Slot) (bytes : ℕ) → AreTakes kept takes bytes specs → HasRow x row → GoesTo kept specs x.attribute given → TakesValue x row bytes given take → next ≡ takes ++ take ∷ [] → AreTakes kept next 0 (specs ++ x ∷ [])
 takes_next kept takes next take specs x row given bytes so_far has goes takes_it is_next c d picks is =
     let whole = takes_are next 0 no_picks picks c d is in
@@ -173,7 +173,7 @@ takes_next kept takes next take specs x row given bytes so_far has goes takes_it
     ∙ ap (λ (p : PickFields). Ok (p, d)) (sym (last.puts ∙ ap (λ (s : Slot). put_in s (value_in take.class (number_of take.constant last.operand)) both.middle.0) takes_it.into
     ∙ ap (λ (v : Option Value). put_in given v both.middle.0) (takes_it.keeps middle d last.operand reads)))
 
--- the loop's steps
+-- The steps of the loop.
 nothing_kept : (kept : Bool) (c : Ahead) → kept_at kept [] c ≡ Ok (no_picks, c)
 unfolding values_at first_of
 nothing_kept true c = refl
@@ -210,7 +210,7 @@ more_taken specs i x there is = take_more specs i x there ∙ ap (λ (y : SpecFi
 pub takes_end : (kept : Bool) (takes : List Take) (tail i : ℕ) (specs : List SpecFields) → AreTakes kept takes tail (take i specs) → length specs ≤ i → AreTakes kept takes tail specs
 takes_end kept takes tail i specs are all = subst (AreTakes kept takes tail) (take_all i specs all) are
 
--- takes in a loop
+-- Takes that a loop executes.
 pub takes_more : (takes : List Take) (i : ℕ) (x fill : Take) (picks after : PickFields) (c d : Ahead) (want : Result (PickFields × Ahead) CursorFault) → all_taken (drop i takes) picks c ≡ want → i < length takes → x ≡ get_or takes i fill → take_one x picks c ≡ Ok (after, d) → all_taken (drop (i + 1) takes) after d ≡ want
 unfolding all_taken
 takes_more takes i x fill picks after c d want so_far there is goes =
@@ -223,7 +223,7 @@ unfolding all_taken
 takes_done takes tail i run old picks b c d so_far all rest =
     ap (λ r. r >>= tail_behind tail) (sym so_far ∙ ap (λ (t : List Take). all_taken t picks c) (drop_of_length-le takes all)) ∙ ap (λ r. r >>= with_tail picks) (sym rest)
 
--- what a reading by takes says
+-- What is known after the takes of an abbreviation have succeeded.
 pub read_picked : (kept : Bool) (takes : List Take) (tail : ℕ) (specs : List SpecFields) (none picks : PickFields) (c d : Ahead) → AreTakes kept takes tail specs → takes_at takes tail none c ≡ Ok (picks, d) → none ≡ no_picks → kept ≡ true → picks_at specs c ≡ Ok (picks, d)
 unfolding picks_at
 read_picked kept takes tail specs none picks c d are goes is asked =

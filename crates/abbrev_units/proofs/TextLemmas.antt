@@ -7,11 +7,11 @@ use Rattle.leb_cursor.specs.Texts.{front_text}
 use Rattle.leb_cursor.specs.Readings.{fixed_at, text_at}
 use Rattle.abbrev_units.specs.Texts.{ahead_from, read_or_none, place_width, text_in, number_in}
 
--- a cursor up to the end of the section
+-- What a cursor up to the end of the section has ahead.
 pub whole_ahead : (bytes : List ℕ) (place : ℕ) → (let ahead : Ahead = record { bytes = drop place (take (length bytes) bytes); at = place } in ahead) ≡ ahead_from place bytes
 whole_ahead bytes place = ap (λ (all : List ℕ). record { bytes = drop place all; at = place }) (take-length bytes)
 
--- after the end nothing is left
+-- After the end of the section no bytes are ahead.
 beyond : (bytes : List ℕ) (place : ℕ) → length bytes < place → ahead_from place bytes ≡ record { bytes = []; at = place }
 beyond bytes place far = ap (λ (rest : List ℕ). record { bytes = rest; at = place }) (drop_of_length-le bytes (omega arith))
 

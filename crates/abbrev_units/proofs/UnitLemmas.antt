@@ -1,4 +1,4 @@
--- How far a unit goes, and the list of units as a loop makes it.
+-- How many bytes the reading of a unit passes, and the loop that reads the units.
 use Rattle.std.proofs.Common.{◌≡◌, ◌+◌, ℕ, Bool, true, false, nat_eq, nat_lt, cond, List, [], length, take, None, Some, Result, Ok, Err, refl, ap, ◌∙◌, arith}
 use Rattle.sym_edges.specs.Results.{◌>>=◌}
 use Rattle.sym_edges.specs.declared.part.Sect.{Sect}
@@ -21,7 +21,7 @@ use Rattle.abbrev_units.specs.InitialLength.{length_by, length_at, contents_at}
 use Rattle.abbrev_units.proofs.BehindLemmas.{Behind, begins}
 use Rattle.abbrev_units.specs.Units.{unit_in, header_at, unit_at, next_unit}
 
--- readings that differ in their fault alone go as far
+-- A reading passes the same bytes if only its fault is changed.
 start_passes : {A : Type 0} (kind : DwarfKind) (reading : Result (A × Ahead) CursorFault) (least : ℕ) (c : Ahead) → Passes least c reading → Passes least c (or_start kind reading)
 start_passes kind (Ok x) least c goes = goes
 start_passes kind (Err fault) least c goes = tt
@@ -48,7 +48,7 @@ contents_passes c =
     (passes_then (or_start is.Ends (part_at length.0.count length.1)) (λ part. Ok (record { wide = length.0.wide; ahead = part.0 }, part.1)) length.0.count 0 length.1
     (start_passes is.Ends (part_at length.0.count length.1) length.0.count length.1 (part_passes length.0.count length.1)) (λ part. (omega arith, refl))))
 
--- what is made of a reading that goes nowhere else
+-- A value that is made without reading passes no bytes.
 made_passes : {A E : Type 0} (made : Result A E) (d : Ahead) → Passes 0 d (made >>= λ x. Ok (x, d))
 made_passes (Ok x) d = (omega arith, refl)
 made_passes (Err fault) d = tt
@@ -59,7 +59,7 @@ unit_passes c =
     header_passes Info c.at (contents_at c >>= λ contents. unit_in c.at contents.0 >>= λ unit. Ok (unit, contents.1)) 4 c
     (passes_then (contents_at c) (λ contents. unit_in c.at contents.0 >>= λ unit. Ok (unit, contents.1)) 4 0 c (contents_passes c) (λ contents. made_passes (unit_in c.at contents.0) contents.1))
 
--- a reading is a member, where the list has not ended
+-- A reading that gives a member of the list goes on.
 member_goes : {A E : Type 0} (reading : Result (A × Ahead) E) (c : Ahead) → Passes 4 c reading → GoesOn c (reading >>= λ x. Ok (Some x.0, x.1))
 member_goes (Ok x) c passes = (omega (arith, passes.0), passes.1)
 member_goes (Err fault) c passes = tt
@@ -72,7 +72,7 @@ pub next_goes : (c : Ahead) → GoesOn c (next_unit c)
 unfolding next_unit
 next_goes c = next_by (nat_eq (length c.bytes) 0) c
 
--- the loop's steps
+-- The steps of the loop.
 pub units_begin : (info : List ℕ) (done : List Unit) (c : Ahead) → done ≡ [] → c ≡ record { bytes = take (length info) info; at = 0 } → Behind next_unit done c (list_at next_unit (record { bytes = info; at = 0 }))
 units_begin info done c none start =
     let same : c ≡ record { bytes = info; at = 0 } = start ∙ ap (λ (all : List ℕ). record { bytes = all; at = 0 }) (take-length info) in

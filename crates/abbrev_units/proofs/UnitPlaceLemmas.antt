@@ -1,4 +1,5 @@
--- Units stand one after the other, and their entries after their headers. Serves the law of their places.
+-- Units follow one another, and their entries come after their headers; for the law about the
+-- places of units.
 use Rattle.std.proofs.Common.{◌≡◌, ◌≤◌, ◌+◌, ℕ, zero, suc, Bool, true, false, nat_eq, nat_lt, cond, List, [], ◌∷◌, length, take, Option, None, Some, Result, Ok, Err, IfOk, refl, sym, ap, subst, ◌∙◌, arith, length-take-le}
 use Rattle.std.proofs.lemmas.Bool.{ltb-false}
 use Rattle.std.proofs.lemmas.Result.{IfOk-at_ok}
@@ -30,19 +31,19 @@ use Rattle.abbrev_units.specs.UnitPlaces.{BodyInside, Follow, IsInside, with_rea
 abbrev end_of : Ahead → ℕ
 end_of c = c.at + length c.bytes
 
--- what is ahead begins at a place or after it, and has this end
+-- What is ahead begins at `low` or later, and ends at `end`.
 abbrev Within : ℕ → ℕ → Ahead → Type 0
 Within low end c = (low ≤ c.at) × (end_of c ≡ end)
 
 abbrev LeftWithin : {A : Type 0} → ℕ → ℕ → A × Ahead → Type 0
 LeftWithin low end x = Within low end x.1
 
--- a field of a header
+-- Reading a field of a header.
 field_within : {A : Type 0} (low more end least : ℕ) (c : Ahead) (reading : Result (A × Ahead) CursorFault) → more ≤ low + least → Passes least c reading → Within low end c → IfOk (as_field reading) (LeftWithin more end)
 field_within low more end least c (Ok x) far goes within = (omega (arith, far, goes.0, goes.1, within.0), goes.1 ∙ within.1)
 field_within low more end least c (Err fault) far goes within = tt
 
--- a unit from a place to another, its entries after its header
+-- A unit from `start` to `end`, whose entries come after its header.
 abbrev Framed : ℕ → ℕ → Unit → Type 0
 Framed start end unit = (unit.start ≡ start) × (unit.end ≡ end) × BodyInside unit unit.part
 
@@ -89,7 +90,7 @@ unit_framed f c within =
     either_ok (Framed f.start f.end) (nat_eq f.version 4) (version_4_at f c) _ (version_4_framed f c within)
     (either_ok (Framed f.start f.end) (nat_eq f.version 5) (version_5_at f c) (Ok (other_unit part.Skipped f)) (version_5_framed f c within) (refl, refl, tt))
 
--- from what the length counts
+-- The header of a unit, read from the bytes that its length counts.
 abbrev frame_of : ℕ → Contents → ℕ → Frame
 frame_of start contents version = record { start = start; end = end_of contents.ahead; version = version; wide = contents.wide }
 
@@ -100,7 +101,7 @@ unit_in_framed start contents behind =
     (field_within contents.ahead.at (contents.ahead.at + 2) (end_of contents.ahead) 2 contents.ahead (fixed_at 2 contents.ahead) (omega arith) (fixed_passes 2 contents.ahead) (omega arith, refl))
     (λ version there. unit_framed (frame_of start contents version.0) version.1 (omega (arith, behind, there.0), there.1))
 
--- what the length counts ends where the next unit begins
+-- The bytes that the length counts end where the next unit begins.
 abbrev Contained : Ahead → Contents × Ahead → Type 0
 Contained c x = (c.at + 4 ≤ x.0.ahead.at) × (end_of x.0.ahead ≡ x.1.at)
 
@@ -127,7 +128,7 @@ contents_held c =
     (λ length behind. then_ok (Cut length.1) (Contained c) (or_start is.Ends (part_at length.0.count length.1)) _ (part_cut length.0.count length.1)
     (λ part cut. (omega (arith, behind, cut.0), cut.1)))
 
--- the unit ahead, from its start up to the next one
+-- The next unit goes from its start to the start of the unit after it.
 abbrev Stands : Ahead → Unit × Ahead → Type 0
 Stands c x = (x.0.start ≡ c.at) × (x.0.end ≡ x.1.at) × (c.at + 4 ≤ x.1.at) × BodyInside x.0 x.0.part
 
@@ -156,7 +157,7 @@ next_stands c =
     either_ok (MemberStands c) (nat_eq (length c.bytes) 0) (Ok (None, c)) _ tt
     (then_ok (Stands c) (MemberStands c) (unit_at c) _ (unit_stands c) (λ unit stands. stands))
 
--- all units ahead
+-- All units ahead.
 abbrev ListFollows : ℕ → ℕ → List Unit × Ahead → Type 0
 ListFollows low high x = Follow low high x.0
 
@@ -180,7 +181,7 @@ unfolding list_in
 units_follow_in zero c = tt
 units_follow_in (suc n) c = list_follows (next_unit c) (list_in next_unit n) c (next_goes c) (next_stands c) (λ d. units_follow_in n d)
 
--- the units of a section stand one after the other, up to its end
+-- The units of a section follow one another, up to the end of the section.
 pub units_follow : (info : List ℕ) (units : List Unit) → units_in info ≡ Ok units → Follow 0 (length info) units
 unfolding units_in list_at
 units_follow info units is =
@@ -190,7 +191,7 @@ units_follow info units is =
     (then_ok (ListFollows 0 (length info)) (Follow 0 (length info)) (list_at next_unit c) (λ x. Ok x.0)
     (subst (λ high. IfOk (list_at next_unit c) (ListFollows 0 high)) last (units_follow_in (suc (length info)) c)) (λ x follow. follow))
 
--- those that are read have their entries in the section
+-- The entries of the units that are read are in the section.
 inside_by : (unit : Unit) (which : UnitPart) (later : List Unit) (high : ℕ) → BodyInside unit which → unit.end ≤ high → AllByRecursion (IsInside high) later → AllByRecursion (IsInside high) (with_read unit which later)
 inside_by unit part.Read later high body end all = (record { ordered = body.1; inside = end }, all)
 inside_by unit part.Passed later high body end all = all

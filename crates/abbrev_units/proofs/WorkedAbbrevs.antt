@@ -1,4 +1,4 @@
--- Worked rows: the abbreviations of a unit (DWARF 5, 7.5.3).
+-- Worked examples: the abbreviations of a unit (DWARF 5, 7.5.3).
 use Rattle.std.proofs.Common.{◌≡◌, ℕ, Bool, true, false, pos, negsuc, List, [], ◌∷◌, Some, None, Result, Ok, Err, rules}
 use Prim.Native.String.{String}
 use Rattle.sym_edges.proofs.Hex.{hex}
@@ -15,7 +15,7 @@ use Rattle.abbrev_units.proofs.Computing.{abbrev_units_computes}
 unfoldable unit_at : ℕ → Bool → Unit
 unit_at place wide = record { start = 0x20; body = 0x2b; end = 0x30; version = 4; abbrev_at = place; part = part.Read; wide = wide }
 
--- the abbreviations at a place of a section, of a unit that starts at 20
+-- The abbreviations at a place of a section, for a unit that starts at 20.
 unfoldable abbrevs_in : String → ℕ → Bool → Result (List Abbrev) (Located DwarfKind)
 unfolding hex unit_at
 abbrevs_in text place wide =
@@ -25,21 +25,21 @@ abbrev sample : ℕ → ℕ → Abbrev
 sample code tag = record { code = code; tag = tag; children = false; specs = [] }
 
 record Tables : Type 0 where
-  -- one abbreviation: a subprogram without children, with one attribute of four bytes
+  -- One abbreviation: a subprogram without children, with one attribute of four bytes.
   a_table : abbrevs_in "01 2e 00 3b 06 00 00 00" 0 false ≡ Ok (record { code = 1; tag = 46; children = false; specs = record { attribute = 59; form = 6; implicit = pos 0; wide = false } ∷ [] } ∷ [])
   a_table_in_the_64_bit_format : abbrevs_in "01 2e 00 3b 06 00 00 00" 0 true ≡ Ok (record { code = 1; tag = 46; children = false; specs = record { attribute = 59; form = 6; implicit = pos 0; wide = true } ∷ [] } ∷ [])
-  -- code 0 first
+  -- Code 0 comes first.
   an_empty_table : abbrevs_in "00" 0 false ≡ Ok []
   the_last_byte : abbrevs_in "01 2e 00 3b 06 00 00 00" 7 false ≡ Ok []
-  -- a byte of children that is not 0 means yes
+  -- A byte for children that is not 0 means yes.
   children_by_any_byte : abbrevs_in "05 11 80 00 00 00" 0 false ≡ Ok (record { code = 5; tag = 17; children = true; specs = [] } ∷ [])
-  -- a code that stands twice
+  -- Two abbreviations have the same code.
   a_code_twice : abbrevs_in "01 11 01 00 00 01 2e 00 00 00 00" 0 false ≡ Ok (record { code = 1; tag = 17; children = true; specs = [] } ∷ record { code = 1; tag = 46; children = false; specs = [] } ∷ [])
-  -- DW_FORM_implicit_const has its constant here
+  -- DW_FORM_implicit_const has its constant in the abbreviation.
   an_implicit_constant : abbrevs_in "01 34 00 3b 21 7e 03 08 00 00 00" 0 false ≡ Ok (record { code = 1; tag = 52; children = false; specs = record { attribute = 59; form = 33; implicit = negsuc 1; wide = false } ∷ record { attribute = 3; form = 8; implicit = pos 0; wide = false } ∷ [] } ∷ [])
-  -- only 0 and 0 end the attributes
+  -- Only the pair 0 and 0 ends the attributes.
   attribute_0_with_a_form : abbrevs_in "01 34 00 00 06 03 00 00 00 00" 0 false ≡ Ok (record { code = 1; tag = 52; children = false; specs = record { attribute = 0; form = 6; implicit = pos 0; wide = false } ∷ record { attribute = 3; form = 0; implicit = pos 0; wide = false } ∷ [] } ∷ [])
-  -- an unknown form is no fault here
+  -- An unknown form is no fault in an abbreviation.
   an_unknown_form : abbrevs_in "01 34 00 03 02 00 00 00" 0 false ≡ Ok (record { code = 1; tag = 52; children = false; specs = record { attribute = 3; form = 2; implicit = pos 0; wide = false } ∷ [] } ∷ [])
 
 tables : Tables
@@ -47,7 +47,7 @@ unfolding abbrev_units_computes abbrevs_in unit_at
 tables = search rules
 
 record Faults : Type 0 where
-  -- the table cut at each byte
+  -- The table is cut off at each of its bytes.
   cut_at_0 : abbrevs_in "" 0 false ≡ Err (record { kind = is.Ends; section = section.Abbrev; at = 0 })
   cut_at_1 : abbrevs_in "01" 0 false ≡ Err (record { kind = is.Ends; section = section.Abbrev; at = 1 })
   cut_at_2 : abbrevs_in "012e" 0 false ≡ Err (record { kind = is.Ends; section = section.Abbrev; at = 2 })
@@ -58,7 +58,7 @@ record Faults : Type 0 where
   cut_at_7 : abbrevs_in "012e003b060000" 0 false ≡ Err (record { kind = is.Ends; section = section.Abbrev; at = 7 })
   a_cut_constant : abbrevs_in "01 34 00 3b 21" 0 false ≡ Err (record { kind = is.Ends; section = section.Abbrev; at = 5 })
   a_long_code : abbrevs_in "80808080 80808080 8080 00" 0 false ≡ Err (record { kind = is.LebLong; section = section.Abbrev; at = 0 })
-  -- a place after the end is a fault of the unit; the end itself is inside
+  -- A place after the end of the section is a fault of the unit; the end itself is not.
   behind_the_end : abbrevs_in "01 2e 00 3b 06 00 00 00" 9 false ≡ Err (record { kind = is.OffsetOutside; section = section.Info; at = 32 })
   at_the_end : abbrevs_in "01 2e 00 3b 06 00 00 00" 8 false ≡ Err (record { kind = is.Ends; section = section.Abbrev; at = 8 })
   a_missing_section : abbrevs_in "" 0 false ≡ Err (record { kind = is.Ends; section = section.Abbrev; at = 0 })
@@ -68,7 +68,7 @@ unfolding abbrev_units_computes abbrevs_in unit_at
 faults = search rules
 
 record Codes : Type 0 where
-  -- the first abbreviation of a code
+  -- The first abbreviation of a code.
   the_first_of_a_code : abbrev_of 1 (sample 1 0x11 ∷ sample 2 0x12 ∷ sample 1 0x13 ∷ []) ≡ Some (sample 1 0x11)
   no_such_code : abbrev_of 3 (sample 1 0x11 ∷ sample 2 0x12 ∷ []) ≡ None
 

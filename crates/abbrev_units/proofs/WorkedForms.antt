@@ -1,4 +1,5 @@
--- Worked rows: each form with its value, at its last byte and one byte short of it (DWARF 5, 7.5.5 and 7.5.6).
+-- Worked examples: the value of each form, with all of its bytes and with one byte missing (DWARF
+-- 5, 7.5.5 and 7.5.6).
 use Rattle.std.proofs.Common.{◌≡◌, ℕ, Bool, true, false, pos, negsuc, Result, Ok, Err, rules}
 use Prim.Native.String.{String}
 use Rattle.sym_edges.specs.Results.{◌>>=◌}
@@ -11,12 +12,13 @@ use Rattle.abbrev_units.specs.declared.value.Value.TheVariants as value
 use Rattle.abbrev_units.specs.FormValue.{form_at}
 use Rattle.abbrev_units.proofs.Computing.{abbrev_units_computes}
 
--- the value among bytes of which the first has place 1, and the place after it; the abbreviation has the constant 7
+-- The value that is read among bytes of which the first has place 1, and the place after it. The
+-- abbreviation has the constant 7.
 unfoldable reads : ℕ → Bool → String → Result (Value × ℕ) FormFault
 unfolding hex
 reads form wide text = form_at form (pos 7) wide (record { bytes = hex text; at = 1 }) >>= λ v. Ok (v.0, v.1.at)
 
--- each form
+-- Each form, in the 32-bit format.
 record Forms : Type 0 where
   addr : reads 0x01 false "f0debc9a 78563412" ≡ Ok (value.Addr 0x123456789abcdef0, 9)
   addr_cut : reads 0x01 false "f0debc9a785634" ≡ Err (Cursor (Ends 1))
@@ -109,7 +111,7 @@ forms : Forms
 unfolding abbrev_units_computes reads
 forms = search rules
 
--- in the 64-bit format
+-- The forms whose size differs in the 64-bit format.
 record WideForms : Type 0 where
   strp_wide : reads 0x0e true "f0debc9a 78563412" ≡ Ok (value.StrAt 0x123456789abcdef0, 9)
   strp_wide_cut : reads 0x0e true "f0debc9a785634" ≡ Err (Cursor (Ends 1))
@@ -131,7 +133,7 @@ wide_forms : WideForms
 unfolding abbrev_units_computes reads
 wide_forms = search rules
 
--- a flag, and numbers that are no form
+-- Flags, and numbers that are no forms.
 record OtherForms : Type 0 where
   a_flag_that_is_0 : reads 0x0c false "00" ≡ Ok (value.Flag false, 2)
   no_form_2 : reads 0x02 false "00" ≡ Err (Unknown 1)
@@ -143,7 +145,7 @@ other_forms : OtherForms
 unfolding abbrev_units_computes reads
 other_forms = search rules
 
--- the form stands in front of the value
+-- With DW_FORM_indirect, the form comes before the value.
 record IndirectForms : Type 0 where
   indirect_addr : reads 0x16 false "01 f0debc9a 78563412" ≡ Ok (value.Addr 0x123456789abcdef0, 10)
   indirect_block1 : reads 0x16 false "0a 01 61" ≡ Ok (value.Block 3 1, 4)

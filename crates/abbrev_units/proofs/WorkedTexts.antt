@@ -1,4 +1,4 @@
--- Worked rows: the texts of values (DWARF 5, 7.5.5 and 7.26).
+-- Worked examples: the texts of values (DWARF 5, 7.5.5 and 7.26).
 use Rattle.std.proofs.Common.{◌≡◌, ℕ, Bool, true, false, List, [], Option, Some, None, codes, rules}
 use Rattle.sym_edges.proofs.Hex.{hex}
 use Rattle.abbrev_units.specs.declared.value.Value.{Value}
@@ -6,8 +6,9 @@ use Rattle.abbrev_units.specs.declared.value.Value.TheVariants as value
 use Rattle.abbrev_units.specs.Texts.{text_of}
 use Rattle.abbrev_units.proofs.Computing.{abbrev_units_computes}
 
--- the text of a value of a section that has `.pq` and a zero byte, in a file whose `.debug_str_offsets` has a header of eight bytes and the numbers 3, 0, 1 and 0 of
--- four bytes each, of which two and two are a number of eight bytes; the third text of `.debug_str` is cut
+-- The text of a value in a section that has `.pq` and a zero byte. `.debug_str_offsets` of the file
+-- has a header of eight bytes and the numbers 3, 0, 1 and 0 of four bytes each; two of them
+-- together are one number of eight bytes. The third text of `.debug_str` has no zero byte.
 unfoldable text : Bool → Option ℕ → Value → Option (List ℕ)
 unfolding hex
 text wide base value =
@@ -26,19 +27,20 @@ text wide base value =
     }) (hex "2e7071 00") wide base value
 
 record Texts : Type 0 where
-  -- texts by their places
+  -- Texts given by their places.
   a_text : text false None (value.StrAt 0) ≡ Some (codes "ab")
   inside_a_text : text false None (value.StrAt 1) ≡ Some (codes "b")
   an_empty_text : text false None (value.StrAt 2) ≡ Some []
   the_next_text : text true None (value.StrAt 3) ≡ Some (codes "cd")
-  -- no zero byte follows
+  -- There is no zero byte after the text.
   without_a_zero : text false None (value.StrAt 6) ≡ None
   behind_the_section : text false None (value.StrAt 0xffffffff) ≡ None
   a_line_text : text false None (value.LineStrAt 1) ≡ Some (codes "y")
   no_line_text : text false None (value.LineStrAt 3) ≡ None
-  -- a text in place
+  -- A text inside the entry.
   in_place : text false None (value.InlineText 1) ≡ Some (codes "pq")
-  -- numbers count from the base, four bytes each, or eight in the 64-bit format
+  -- Texts given by index: the offsets begin at the base, and have four bytes each, or eight in the
+  -- 64-bit format.
   by_number : text false (Some 8) (value.StrIndex 0) ≡ Some (codes "cd")
   by_the_second_number : text false (Some 8) (value.StrIndex 1) ≡ Some (codes "ab")
   behind_the_last_number : text false (Some 8) (value.StrIndex 4) ≡ None

@@ -46,14 +46,15 @@ abbrev_by code c =
 unfoldable pub abbrev_at : Ahead → Result (Option AbbrevFields × Ahead) CursorFault
 abbrev_at c = uleb_at c >>= λ code. if code.0 == 0 then Ok (None, code.1) else abbrev_by code.0 code.1
 
--- an attribute and an abbreviation for a unit; `wide` says whether the unit has the 64-bit format
+-- an attribute and an abbreviation as a unit uses them; `wide` says whether the unit has the 64-bit
+-- format
 abbrev pub used_spec : Bool → AttributeSpec → SpecFields
 used_spec wide s = record { attribute = s.attribute; form = s.form; implicit = s.implicit; wide = wide }
 
 abbrev pub used_abbrev : Bool → AbbrevFields → Abbrev
 used_abbrev wide a = record { code = a.code; tag = a.tag; children = a.children; specs = map (used_spec wide) a.specs }
 
--- the abbreviations ahead, for a unit
+-- the abbreviations ahead, as a unit uses them
 unfoldable pub used_at : Bool → Ahead → Result (List Abbrev × Ahead) CursorFault
 used_at wide c = list_at abbrev_at c >>= λ abbrevs. Ok (map (used_abbrev wide) abbrevs.0, abbrevs.1)
 

@@ -13,7 +13,8 @@ use Rattle.abbrev_units.specs.declared.value.Given.{Given}
 unfoldable pub first_of : ℕ → List Given → Option Value
 first_of attribute values = option_map (λ given. given.value) (find (λ given. given.attribute == attribute) values)
 
--- low_pc, high_pc and ranges: a value whose class the attribute does not have counts as absent
+-- the value of low_pc, high_pc or ranges; none if the standard does not give the attribute a value
+-- of this class
 abbrev pub as_low : Value → Option Value
 as_low (value.Addr n) = Some (value.Addr n)
 as_low (value.AddrIndex n) = Some (value.AddrIndex n)
@@ -60,8 +61,8 @@ as_number _ = None
 abbrev pub picked : {A : Type 0} → (Value → Option A) → ℕ → List Given → Option A
 picked class attribute values = option_and_then class (first_of attribute values)
 
--- whether a text is in a supplementary file (DWARF 5, 7.3.6) that was not read. Its form is DW_FORM_strp_sup, or DW_FORM_GNU_strp_alt, which dwz
--- wrote before
+-- whether a text is in a supplementary file (DWARF 5, 7.3.6) that was not read. The form of such a
+-- text is DW_FORM_strp_sup, or the older DW_FORM_GNU_strp_alt of dwz
 abbrev pub is_elsewhere : DebugSections → Option Value → Bool
 is_elsewhere sections (Some (value.SupStrAt place)) = is_none sections.sup_strs
 is_elsewhere sections _ = false

@@ -16,7 +16,9 @@ pub record DebugSections : Type 0 where
   pub sup_strs : Option (List ℕ)
   pub is_sup : Bool
 
--- places in `.debug_info` are counted through both files. A file has at most 2^29 bytes, so the places of the supplementary file begin at 2^29
+-- the first place of `.debug_info` in a file or in its supplementary file. A file has at most 2^29
+-- bytes, so the places of the supplementary file begin at 2^29, and a place says in which of the
+-- two files it is
 abbrev pub first_place : Bool → ℕ
 first_place sup = if sup then 2 ^ 29 else 0
 

@@ -25,7 +25,8 @@ unfoldable pub header_fault : Sect → ℕ → HeaderFault → Located DwarfKind
 header_fault section start (header.Cursor fault) = in_section section fault
 header_fault section start (header.Start kind) = record { kind = kind; section = section; at = start }
 
--- a reading, whose fault becomes one in a section; in a header; in a header that starts at a place; in a value
+-- a reading whose fault becomes the fault of a section (`read_in`), of a field of a header
+-- (`as_field`), of a header that starts at a place (`as_header`), or of a value (`as_value`)
 abbrev pub read_in : {A : Type 0} → Sect → Result A CursorFault → Result A (Located DwarfKind)
 read_in section (Ok x) = Ok x
 read_in section (Err fault) = Err (in_section section fault)
@@ -42,23 +43,24 @@ abbrev pub as_value : {A : Type 0} → Result A CursorFault → Result A FormFau
 as_value (Ok x) = Ok x
 as_value (Err fault) = Err (form.Cursor fault)
 
--- a reading whose fault becomes one at the start of a header
+-- a reading whose fault becomes the fault `kind` at the start of a header
 abbrev pub or_start : {A : Type 0} → DwarfKind → Result A CursorFault → Result A HeaderFault
 or_start kind (Ok x) = Ok x
 or_start kind (Err fault) = Err (header.Start kind)
 
--- what is left ahead after a call that returns no value
+-- what is left ahead after a call that returns no value, or the fault of the call
 abbrev pub left_by : {U E : Type 0} → Result U E → Ahead → Result Ahead E
 left_by (Ok x) c = Ok c
 left_by (Err fault) c = Err fault
 
--- a result is what a definition gives: its value or its fault; out of memory promises nothing
+-- a result is the value or the fault that a definition gives; if memory ran out, nothing is
+-- promised
 abbrev pub Gives : {A F : Type 0} → Result A (Stop F) → Result A F → Type 0
 Gives (Ok x) given = given ≡ Ok x
 Gives (Err (Fault fault)) given = given ≡ Err fault
 Gives (Err NoMemory) given = Unit {0}
 
--- the same for a reading, with what it leaves ahead
+-- the same as `Gives`, for a reading and what it leaves ahead
 abbrev pub GivesAt : {A F : Type 0} → Result A (Stop F) → Ahead → Result (A × Ahead) F → Type 0
 GivesAt (Ok x) c given = given ≡ Ok (x, c)
 GivesAt (Err (Fault fault)) c given = given ≡ Err fault

@@ -55,7 +55,8 @@ first_values values = record {
   rnglists_base = first_of 0x74 values;  -- rnglists_base
 }
 
--- a constant; a reference; a flag; a place in a section
+-- the value, if it is a constant (`as_count`), a reference (`as_link`), a flag (`as_said`) or a
+-- place in a section (`as_offset`)
 abbrev pub as_count : Value → Option Value
 as_count (value.Num n) = Some (value.Num n)
 as_count (value.Signed n) = Some (value.Signed n)
@@ -76,7 +77,7 @@ as_offset (value.SecOffset n) = Some (value.SecOffset n)
 as_offset (value.Num n) = Some (value.Num n)
 as_offset _ = None
 
--- a text
+-- the value, if it is a text
 abbrev pub as_text : Value → Option Value
 as_text (value.InlineText n) = Some (value.InlineText n)
 as_text (value.StrAt n) = Some (value.StrAt n)
@@ -85,7 +86,7 @@ as_text (value.SupStrAt n) = Some (value.SupStrAt n)
 as_text (value.StrIndex n) = Some (value.StrIndex n)
 as_text _ = None
 
--- the first values whose classes fit their attributes
+-- the first values, without those whose class the standard does not give to their attribute
 abbrev pub kept_of : PickFields → PickFields
 kept_of first = record {
   low = option_and_then as_low first.low;
@@ -196,7 +197,7 @@ put_in slot.AddrBase value picks = record picks { addr_base = value }
 put_in slot.RnglistsBase value picks = record picks { rnglists_base = value }
 put_in slot.Passed value picks = picks
 
--- what a slot keeps of a value: nothing, if the class does not fit
+-- what a slot keeps of a value: nothing, if the attribute does not have values of this class
 abbrev pub kept_by : Slot → Value → Option Value
 kept_by slot.Low value = as_low value
 kept_by slot.High value = as_high value
@@ -216,7 +217,8 @@ kept_by slot.AddrBase value = as_offset value
 kept_by slot.RnglistsBase value = as_offset value
 kept_by slot.Passed value = None
 
--- the needed attributes (DWARF 5, table 7.5, and one of the GNU tools)
+-- whether an attribute is needed (DWARF 5, table 7.5, and DW_AT_MIPS_linkage_name of older
+-- compilers)
 abbrev pub is_asked : ℕ → Bool
 is_asked attribute = attribute == 0x11 || (attribute == 0x12 || (attribute == 0x55 || (attribute == 0x31 || (attribute == 0x47 || (attribute == 0x03 || (attribute == 0x6e || (attribute == 0x2007 || (attribute == 0x3c || (attribute == 0x58 || (attribute == 0x59 || (attribute == 0x10 || (attribute == 0x1b || (attribute == 0x72 || (attribute == 0x73 || (attribute == 0x74)))))))))))))))
 

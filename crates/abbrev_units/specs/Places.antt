@@ -1,4 +1,4 @@
--- How the code finds the abbreviation of a code. No public clause cites this module.
+-- How an abbreviation is found by its code. No public clause cites this module.
 use Rattle.std.specs.Prelude.{◌≡◌, ◌⊎◌, ℕ, zero, suc, ◌+◌, ◌==◌, if◌then◌else◌, List, [], ◌∷◌, length, drop, unwrap_or}
 use Rattle.std.specs.Ordering.{nat_cmp}
 use Rattle.std.specs.BTreeMap.{BTreeMap, get}
@@ -19,7 +19,8 @@ Follow before (suc n) (first ∷ later) = (first.code ≡ before + 1) × Follow 
 abbrev pub IsDense : ℕ → List Abbrev → Type 0
 IsDense count abbrevs = Follow 0 count abbrevs
 
--- the map has the index of the first abbreviation of each code among those from the index `from` on, and no other codes
+-- for each code, the map gives the index of the first abbreviation with this code from the index
+-- `from` on. For a code without such an abbreviation it gives nothing, or the length of the list
 abbrev pub HasPlaces : BTreeMap ℕ ℕ → ℕ → List Abbrev → Type 0
 HasPlaces places from abbrevs = (code : ℕ) → unwrap_or (get nat_cmp places code) (length abbrevs) ≡ from + first_place code (drop from abbrevs)
 

@@ -10,7 +10,8 @@ BodyInside unit Read = (unit.start < unit.body) × (unit.body ≤ unit.end)
 BodyInside unit Passed = Prim.Unit {0}
 BodyInside unit Skipped = Prim.Unit {0}
 
--- units that follow one another without overlap, from `low` on and up to `high` at most
+-- units that follow one another without overlap; the first begins at `low` or later, and the last
+-- ends at `high` or earlier
 abbrev pub Follow : ℕ → ℕ → List Unit → Type 0
 Follow low high [] = Prim.Unit {0}
 Follow low high (unit ∷ units) =

@@ -19,7 +19,7 @@ use Rattle.abbrev_units.specs.Faults.{as_field, as_header}
 use Rattle.abbrev_units.specs.InitialLength.{contents_at}
 use Rattle.abbrev_units.specs.Texts.{place_width}
 
--- a unit whose further fields are not read
+-- a unit whose entries are not read
 abbrev pub other_unit : UnitPart → Frame → Unit
 other_unit which f = record { start = f.start; body = 0; end = f.end; version = f.version; abbrev_at = 0; part = which; wide = f.wide }
 
@@ -84,7 +84,7 @@ unit_in start contents =
 unfoldable pub header_at : Ahead → Result (Unit × Ahead) HeaderFault
 header_at c = contents_at c >>= λ contents. unit_in c.at contents.0 >>= λ unit. Ok (unit, contents.1)
 
--- the same, with the section and place of the fault
+-- the next unit, or the fault of its header with the section and the place
 unfoldable pub unit_at : Ahead → Result (Unit × Ahead) (Located DwarfKind)
 unit_at c = as_header Info c.at (header_at c)
 

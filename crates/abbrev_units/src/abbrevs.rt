@@ -180,7 +180,7 @@ fn find_places(alloc: Global, list: &AbbrevList) -> Result<BTreeMap<u64, usize>,
     Ok(places)
 }
 
-/// The same map, if not all codes are dense.
+/// The map of `find_places`; an empty map if all codes are dense.
 fn places_of(
     alloc: Global,
     list: &AbbrevList,

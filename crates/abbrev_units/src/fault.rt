@@ -99,7 +99,8 @@ impl From<CursorFault> for FormFault {
     }
 }
 
-/// Why a header is refused: at the field that is cut off or, for a value that is refused, at the start of the header.
+/// Why a header is refused. If a field is cut off, the fault is at the field. If a value is
+/// refused, it is at the start of the header.
 #[derive(Clone, Copy, PartialEq, Eq, Debug)]
 pub enum HeaderFault {
     Cursor(CursorFault),

@@ -61,7 +61,7 @@ impl FormTable {
         }
     }
 
-    /// Looks up the rows for units of this format, unless they are there.
+    /// Looks up the rows for units of this format, unless they are there already.
     pub fn set(&mut self, alloc: Global, wide: bool) -> Result<(), OutOfMemory>
         ensures { IfOk result (λ u. self.new ≡ wide) }
     {

@@ -13,7 +13,8 @@ ghost use Rattle.abbrev_units.specs.UnitPlaces.{Follow, IsInside, read_units};
 ghost use Rattle.abbrev_units.specs.declared.unit.Unit.{Unit};
 ghost use Rattle.abbrev_units.specs.Abbreviations.{spec_at, abbrev_at};
 
-/// The units ahead are the first one and then the units after it, and so for attributes and abbreviations; they do not depend on a count of readings.
+/// The units ahead are the first one and then the units after it; the same holds for attributes and
+/// for abbreviations. So these lists do not depend on how many readings are allowed.
 #[tactic(auto, using(crate::proofs::UnitLemmas::units_follow, crate::proofs::AbbrevLemmas::specs_follow, crate::proofs::AbbrevLemmas::abbrevs_follow))]
 pub fn lists_follow()
     ensures units { (c : Ahead) → list_at next_unit c ≡ list_cases next_unit c }

@@ -12,7 +12,7 @@ use code_table::{
 use std::alloc::Global;
 use sym_edges::OutOfMemory;
 
-/// The lists.
+/// The attributes of all abbreviations of a table, and their takes.
 #[derive(Drop)]
 pub struct Lists {
     pub specs: Vec<Spec>,
@@ -40,7 +40,7 @@ pub struct Head {
     pub kept: bool,
 }
 
-/// The members from one index to another; both indices have to be below 2^32.
+/// The run from one index to another, or `OutOfMemory` if `to` is 2^32 or more.
 fn run_of(from: usize, to: usize) -> Result<Run, OutOfMemory>
     requires { from ≤ to }
     ensures { IfOk result (λ run. (run.from ≡ from) × (run.to ≡ to)) }

@@ -35,7 +35,8 @@ pub enum Slot {
     Passed,
 }
 
-/// The class of a number; `Missing` if no value of a class that the attribute can have is there.
+/// The class of the number of a pick. It is `Missing` if the attribute is not there, or has a value
+/// of a class that the standard does not give it.
 #[derive(Clone, Copy, Debug)]
 pub enum Class {
     Missing,
@@ -114,7 +115,7 @@ pub fn kept_class(slot: Slot, class: Class) -> Class
     }
 }
 
-/// A value as a number of its class.
+/// A value as a number with its class.
 fn plain(value: Value) -> Pick
     ensures { value_in result.class result.number ≡ plain_of value }
 {
@@ -139,7 +140,7 @@ fn plain(value: Value) -> Pick
     Pick { class, number }
 }
 
-/// What a slot keeps of a value.
+/// What a slot keeps of a value, as a pick.
 #[tactic(auto, using(crate::proofs::KeepLemmas::keeps_plain))]
 pub fn keep(slot: Slot, value: Value) -> Pick
     ensures { value_in result.class result.number ≡ kept_by slot value }
@@ -152,7 +153,7 @@ pub fn keep(slot: Slot, value: Value) -> Pick
 }
 
 impl Pick {
-    /// The value.
+    /// The value that the pick stands for; none if its class is `Missing`.
     #[inline]
     pub fn value(self) -> Option<Value>
         ensures { result ≡ value_in self.class self.number }

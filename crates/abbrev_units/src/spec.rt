@@ -13,7 +13,7 @@ use code_table::{DW_FORM_indirect, FormClass, FormRow, Kind, find_form};
 use leb_cursor::Cursor;
 use std::marker::Model;
 
-/// What the row of a form has besides its code.
+/// The layout and the class of a form.
 #[derive(Clone, Copy)]
 pub struct Known {
     pub layout: Kind,

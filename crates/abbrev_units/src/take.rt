@@ -48,7 +48,8 @@ fn is_number(layout: Kind) -> bool
     )
 }
 
-/// The class of the numbers of a form.
+/// The class of a pick whose number is the operand of a form, if that operand is an unsigned
+/// number.
 #[tactic(auto, unfolding(crate::specs::FormValue::value_of))]
 fn number_class(form: FormClass) -> Option<Class>
     ensures { IfSome result (λ class. MakesNumbers form class) }
@@ -71,7 +72,8 @@ fn number_class(form: FormClass) -> Option<Class>
     }
 }
 
-/// The class of the operands of a form, if the form has this layout in the table of forms.
+/// The class of a pick that is made from the operand of a form with this layout, if the short way
+/// reads such forms.
 fn class_of(form: FormClass, layout: Kind) -> Option<Class>
     ensures { IfSome result (λ class. HasClass form layout class) }
 {
@@ -91,7 +93,8 @@ fn class_of(form: FormClass, layout: Kind) -> Option<Class>
     }
 }
 
-/// The constant for an operand without bytes.
+/// The number that stands for a value without bytes: 1 for a flag, or else the constant in the
+/// abbreviation.
 fn constant_of(form: FormClass, implicit: i64) -> u64
     ensures { HasConstant form implicit result }
 {
@@ -127,8 +130,9 @@ fn joined(bytes: u32, slot: Slot, layout: Kind) -> Option<u32>
     bytes.checked_add(u32::from(size_of(layout)?))
 }
 
-/// Appends the takes of attributes to a list, and returns the number of bytes after the last take; none if the form of an attribute is not known. If
-/// entries are kept, the first value of each attribute goes to its slot; all other values are passed.
+/// Appends the takes of attributes to a list, and returns the number of bytes after the last take.
+/// If an attribute has a form that the short way does not read, returns none. If entries are kept,
+/// the first value of each attribute goes to its slot; all other values are passed.
 pub fn make_takes(
     takes: &mut Vec<Take>,
     specs: &[Spec],

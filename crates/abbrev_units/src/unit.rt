@@ -48,7 +48,7 @@ pub struct Frame {
     pub wide: bool,
 }
 
-/// A unit whose further fields are not read.
+/// A unit whose entries are not read.
 fn other_unit(part: UnitPart, frame: Frame) -> Unit
     ensures { result ≡ other_unit part frame }
 {

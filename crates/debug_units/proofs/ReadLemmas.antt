@@ -1,4 +1,4 @@
--- The tables of the units of a file, and of its supplementary file, are units that can be put together.
+-- The tables of the units of a file, and of its supplementary file, are units that `Units` accepts.
 use Rattle.std.proofs.Common.{◌≡◌, ◌<◌, ◌≤◌, ◌+◌, ◌^◌, ℕ, true, false, List, [], ◌∷◌, ◌++◌, map, length, length-append, Ok, refl, sym, ap, subst, ◌∙◌, arith}
 use Rattle.std.proofs.lemmas.List.{append_assoc}
 use Rattle.abbrev_units.specs.declared.unit.Unit.{Unit}
@@ -29,7 +29,7 @@ rises_count : (low high : ℕ) (xs : List ℕ) → low ≤ high + 1 → RisesTo 
 rises_count low high [] below rise = omega arith
 rises_count low high (x ∷ xs) below rise = omega (arith, rise.0, rise.1, rises_count (x + 1) high xs (omega (arith, rise.1)) rise.2)
 
--- the entries of all units, after a place
+-- The entries of all units are after a place, and ascend.
 unit_rises : (s : ℕ) (sections : DebugSections) (unit : Unit) (which : UnitPart) (later : List Unit) (parts : List UnitRead) (low high : ℕ) → s ≡ first_place sections.is_sup → low ≤ unit.start → unit.end ≤ high → high ≤ length sections.info → BodyInside unit which → AreTables sections (with_read unit which later) parts → ((rest : List UnitRead) → AreTables sections later rest → RisesTo (s + unit.end + 1) (s + high) (places rest)) → unit.start < unit.end → RisesTo (s + low + 1) (s + high) (places parts)
 unit_rises s sections unit Read later [] low high is start last small body tables rise some = absurd tables
 unit_rises s sections unit Read later (part ∷ parts) low high is start last small body tables rise some =
@@ -45,7 +45,7 @@ parts_rise s sections [] (part ∷ parts) low high is small follow tables = absu
 parts_rise s sections (unit ∷ units) parts low high is small follow tables =
     unit_rises s sections unit unit.part (read_units units) parts low high is follow.0 follow.2 small follow.3 tables (λ rest later. parts_rise s sections units rest unit.end high is small follow.4 later) follow.1
 
--- no more units than bytes
+-- There are no more units than bytes.
 unit_few : (sections : DebugSections) (unit : Unit) (which : UnitPart) (later : List Unit) (parts : List UnitRead) (low high : ℕ) → low ≤ unit.start → unit.start < unit.end → AreTables sections (with_read unit which later) parts → ((rest : List UnitRead) → AreTables sections later rest → length rest + unit.end ≤ high) → length parts + low ≤ high
 unit_few sections unit Read later [] low high start some tables few = absurd tables
 unit_few sections unit Read later (part ∷ parts) low high start some tables few =
@@ -59,7 +59,8 @@ parts_few sections [] (part ∷ parts) low high inside follow tables = absurd ta
 parts_few sections (unit ∷ units) parts low high inside follow tables =
     unit_few sections unit unit.part (read_units units) parts low high follow.0 follow.1 tables (λ rest later. parts_few sections units rest unit.end high follow.2 follow.4 later)
 
--- the units of one file: its entries stand between these places, and there are no more of them and of the units than bytes
+-- The units of one file. The places of their entries ascend between these limits, and there are no
+-- more units and entries than bytes.
 record RiseIn (low high : ℕ) (parts : List UnitRead) : Type 0 where
   few : length parts ≤ high
   rise : RisesTo (low + 1) (low + high) (places parts)
@@ -82,7 +83,8 @@ both_places (part ∷ parts) more =
     ap (λ (later : List ℕ). map (λ (d : DieFields). d.at) part.die.dies ++ later) (both_places parts more)
     ∙ sym (append_assoc (map (λ (d : DieFields). d.at) part.die.dies) (places parts) (places more))
 
--- the units of a file and those of its supplementary file behind them, by how many bytes each may have
+-- The units of a file, followed by those of its supplementary file, given how many bytes each file
+-- may have.
 both_rise : (most own other : ℕ) (parts more : List UnitRead) → own ≤ most → other ≤ most → RiseIn 0 own parts → RiseIn most other more → RisesTo 1 (most + other) (places (parts ++ more))
 both_rise most own other parts more small others first second =
     subst (RisesTo 1 (most + other)) (sym (both_places parts more))

@@ -1,4 +1,4 @@
--- For `SpanSets`: sets by their numbers, each listed in the one way.
+-- Sets that are stored by their numbers; for `SpanSets`.
 use Rattle.std.proofs.Common.{◌≡◌, ◌<◌, ℕ, zero, suc, List, [], ◌∷◌, ◌++◌, length, Some, None, refl, arith, sym, ap, subst, ◌∙◌}
 use Rattle.std.specs.List.{All, slice_get}
 use Rattle.std.proofs.lemmas.List.{get_or_append_left, length_push}
@@ -9,7 +9,7 @@ use Rattle.sym_edges.specs.Addresses.{Range}
 use Rattle.range_set.specs.Canonical.{IsCanonical}
 use Rattle.debug_units.specs.internal.NumberedSets.{set_of, sets_of, AreNumbered}
 
--- no entry yet: the empty set alone
+-- Without entries, there is only the empty set.
 pub none_numbered : (sets before : List (List Range)) (numbers : List ℕ) → before ≡ [] → sets ≡ before ++ [] ∷ [] → numbers ≡ [] → AreNumbered sets numbers
 none_numbered sets before numbers none is empty =
     rw (empty, is, none) (record { there = All-nil (λ number. number < 1); canonical = All-push IsCanonical [] [] (All-nil IsCanonical) tt; some = omega arith; empty = refl })
@@ -17,7 +17,7 @@ none_numbered sets before numbers none is empty =
 pub numbered_kept : (sets more : List (List Range)) (numbers later : List ℕ) → AreNumbered sets numbers → more ≡ sets → later ≡ numbers → AreNumbered more later
 numbered_kept sets more numbers later are same kept = rw (same, kept) are
 
--- a number more, of a set that there is
+-- One entry more, with a set that is already there.
 pub number_added : (sets : List (List Range)) (numbers more : List ℕ) (number : ℕ) → AreNumbered sets numbers → number < length sets → more ≡ numbers ++ number ∷ [] → AreNumbered sets more
 number_added sets numbers more number are there is =
     rw is (record { there = All-push (λ n. n < length sets) numbers number are.there there; canonical = are.canonical; some = are.some; empty = are.empty })
@@ -29,7 +29,7 @@ sets_and sets (n ∷ numbers) number = ap (λ later. set_of sets n ∷ later) (s
 pub empty_added : (sets : List (List Range)) (numbers more : List ℕ) → AreNumbered sets numbers → more ≡ numbers ++ 0 ∷ [] → sets_of sets more ≡ sets_of sets numbers ++ [] ∷ []
 empty_added sets numbers more are is = ap (sets_of sets) is ∙ sets_and sets numbers 0 ∙ ap (λ s. sets_of sets numbers ++ s ∷ []) are.empty
 
--- a set more, with its number
+-- One entry more, with a new set.
 same_sets : (sets : List (List Range)) (set : List Range) (numbers : List ℕ) → All (λ n. n < length sets) numbers → sets_of (sets ++ set ∷ []) numbers ≡ sets_of sets numbers
 same_sets sets set [] there = refl
 same_sets sets set (n ∷ numbers) there =
@@ -51,7 +51,7 @@ pub set_added : (sets more : List (List Range)) (numbers later : List ℕ) (set 
 set_added sets more numbers later set number are at is grown =
     rw (is, grown, sets_and (sets ++ set ∷ []) numbers number, same_sets sets set numbers are.there, at, get_or-append_seam sets set [] []) refl
 
--- the set of an entry's number
+-- The set that an entry's number gives.
 pub set_there : (sets : List (List Range)) (numbers : List ℕ) (entry number : ℕ) → Some number ≡ slice_get numbers entry → slice_get (sets_of sets numbers) entry ≡ Some (set_of sets number)
 set_there sets [] entry number is = absurd (cc)
 set_there sets (n ∷ numbers) zero number is = grind (arith, is)
@@ -78,7 +78,7 @@ pub canonical_there : (sets : List (List Range)) (numbers : List ℕ) (k : ℕ) 
 canonical_there sets numbers k set are there =
     subst IsCanonical (get_or_from_slice_get sets k set [] (sym there)) (All-get_or IsCanonical sets k [] (slice_get_within sets k set (sym there)) are.canonical)
 
--- an entry more with the set of an earlier one
+-- One entry more, with the set of an earlier entry.
 pub never_past : (sets : List (List Range)) (numbers : List ℕ) (entry : ℕ) → entry < length (sets_of sets numbers) → None ≡ slice_get numbers entry → ⊥
 never_past sets [] entry there none = omega arith
 never_past sets (n ∷ numbers) zero there none = cc
@@ -89,7 +89,7 @@ again_added sets numbers more entry number set is grown there =
     let same = same_Some (set_of sets number) set (sym (set_there sets numbers entry number is) ∙ there) in
     ap (sets_of sets) grown ∙ sets_and sets numbers number ∙ ap (λ s. sets_of sets numbers ++ s ∷ []) same
 
--- entries with one number
+-- Two entries with the same number have the same set.
 pub same_there : (sets : List (List Range)) (numbers : List ℕ) (one other first second : ℕ) → Some first ≡ slice_get numbers one → Some second ≡ slice_get numbers other → first ≡ second → slice_get (sets_of sets numbers) one ≡ slice_get (sets_of sets numbers) other
 same_there sets numbers one other first second at there same =
     set_there sets numbers one first at ∙ ap (λ n. Some (set_of sets n)) same ∙ sym (set_there sets numbers other second there)

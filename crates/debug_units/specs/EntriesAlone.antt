@@ -1,4 +1,4 @@
--- Units with their entries only, without addresses and lines: names are made from these.
+-- Units with only their entries, without addresses and lines; the names of entries need no more.
 use Rattle.std.specs.Prelude.{[]}
 use Rattle.line_program.specs.LineMaps.{no_lines}
 use Rattle.die_walk.specs.EntryTable.{EntryTable}

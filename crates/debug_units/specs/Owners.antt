@@ -28,8 +28,8 @@ covering_from unit (part ∷ parts) = unit_covering unit 0 part.die.dies part.sp
 unfoldable pub owner : List UnitRead → ℕ → Option Covering
 owner units a = find (λ c. is_function c.die && holds_any c.spans a) (covering_from 0 units)
 
--- the number of the nearest function or inlined copy around an entry whose parent is `parent`, among the first `number` entries: an entry comes after
--- its parent
+-- the number of the nearest subprogram or inlined copy around an entry whose parent is `parent`. An
+-- entry comes after its parent, so only the first `number` entries are searched
 unfoldable pub inside_of : List DieFields → ℕ → Option ℕ → Option ℕ
 inside_of dies zero parent = None
 inside_of dies (suc number) parent =
@@ -37,8 +37,8 @@ inside_of dies (suc number) parent =
     then option_map_or (λ die. if die.tag == 0x2e || is_inlined die then Some number else inside_of dies number die.parent) (slice_get dies number) None
     else inside_of dies number parent
 
--- the inlined copies at an address inside the entry `entry`, level by level: the first copy at the address directly in `entry`, then the first later
--- copy directly in that copy, and so on
+-- the inlined copies in the entry `entry` that have the address `a`, level by level: the first such
+-- copy directly in `entry`, then the first later one directly in that copy, and so on
 abbrev pub chain_from : List DieFields → ℕ → ℕ → List Covering → List Covering
 chain_from dies a entry [] = []
 chain_from dies a entry (c ∷ later) =
@@ -50,7 +50,7 @@ abbrev pub chain_by : ℕ → ℕ → ℕ → Option UnitRead → List Covering
 chain_by unit entry a None = []
 chain_by unit entry a (Some part) = chain_from part.die.dies a entry (unit_covering unit 0 part.die.dies part.spans)
 
--- the inlined copies at an address inside the entry `entry` of unit `unit`
+-- the inlined copies in the entry `entry` of unit `unit` that have the address `a`
 unfoldable pub entry_chain : List UnitRead → ℕ → ℕ → ℕ → List Covering
 entry_chain units unit entry a = chain_by unit entry a (slice_get units unit)
 
@@ -61,7 +61,7 @@ chain_under units a (Some c) = entry_chain units c.unit c.entry a
 unfoldable pub chain : List UnitRead → ℕ → List Covering
 chain units a = chain_under units a (owner units a)
 
--- path and line of an address, from the line table of its owner's unit
+-- the path and the line of an address, from the line table of its owner's unit
 abbrev pub line_in : ℕ → Option UnitRead → Option (List ℕ × ℕ)
 line_in a None = None
 line_in a (Some part) = named_line part.lines.paths (numbered_line part.lines a)

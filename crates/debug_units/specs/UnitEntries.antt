@@ -20,7 +20,7 @@ abbrev pub unit_entries : ℕ → ℕ → List DieFields → List Placed
 unit_entries unit entry [] = []
 unit_entries unit entry (die ∷ dies) = record { unit = unit; entry = entry; die = die } ∷ unit_entries unit (entry + 1) dies
 
--- the entries of units that are numbered from `unit`
+-- the entries of units whose numbers begin with `unit`
 abbrev pub entries_from : ℕ → List UnitRead → List Placed
 entries_from unit [] = []
 entries_from unit (part ∷ parts) = unit_entries unit 0 part.die.dies ++ entries_from (unit + 1) parts
@@ -37,7 +37,7 @@ entry_in unit entry (Some part) = option_map (λ die. record { unit = unit; entr
 unfoldable pub entry_of : List UnitRead → ℕ → ℕ → Option Placed
 entry_of units unit entry = entry_in unit entry (slice_get units unit)
 
--- the same entry without the numbers
+-- the entry that an `EntryRef` names, without its numbers
 abbrev pub die_from : ℕ → Option UnitRead → Option DieFields
 die_from entry None = None
 die_from entry (Some part) = slice_get part.die.dies entry
@@ -60,7 +60,7 @@ abbrev pub places : List UnitRead → List ℕ
 places [] = []
 places (part ∷ parts) = map (λ die. die.at) part.die.dies ++ places parts
 
--- what holds for the units that were read of a file
+-- what holds for the units of a file after they were read
 pub record AreRead (units : List UnitRead) : Type 0 where
   pub few : length units < 2 ^ 32
   pub few_entries : length (places units) < 2 ^ 32

@@ -11,7 +11,7 @@ pub record IsTable (sections : DebugSections) (unit : Unit) (made : EntryTable) 
   pub abbrevs : List Abbrev
   pub table : entry_table sections unit abbrevs ≡ Ok made
 
--- each part has the entry table of the unit at its position
+-- each part has the entry table of the unit at the same position
 abbrev pub AreTables : DebugSections → List Unit → List UnitRead → Type 0
 AreTables sections [] [] = Prim.Unit {0}
 AreTables sections (unit ∷ units) (part ∷ parts) = IsTable sections unit part.die × AreTables sections units parts

@@ -8,9 +8,11 @@ ghost use Rattle.debug_units.specs.declared.unit_read.UnitRead.{UnitRead};
 ghost use Rattle.debug_units.specs.UnitEntries.{ArePairs, AreRead};
 ghost use Rattle.debug_units.specs.UnitTables.{AreTables};
 
-/// The tables of a file's units, in their order, followed by those of its supplementary file, are units that [`crate::Units`] accepts if each entry
-/// has a set: there are few enough units and entries, and the places of the entries, counted through both files, rise through all units. A file
-/// without a supplementary file counts as one whose supplementary file has no units.
+/// The tables of a file's units, in their order, followed by those of its supplementary file, are
+/// units that [`crate::Units`] accepts, if each entry has a set. There are few enough units and
+/// entries, and the places of the entries rise through all units. The places are counted through
+/// the file and its supplementary file. A file without a supplementary file counts as one whose
+/// supplementary file has no units.
 pub fn tables_are_units()
     ensures { (own sup : DebugSections) (units others : List Unit) (parts more : List UnitRead) → own.is_sup ≡ false → sup.is_sup ≡ true → length own.info ≤ 2 ^ 29 → length sup.info ≤ 2 ^ 29 → units_in own.info ≡ Ok units → units_in sup.info ≡ Ok others
         → AreTables own (read_units units) parts → AreTables sup (read_units others) more → ArePairs (parts ++ more) → AreRead (parts ++ more) }

@@ -1,4 +1,4 @@
-//! The units of a file together, as they were read.
+//! The units of a file, as they were read.
 //!
 //! [`Units`] has what was read of each unit, in the order of their places: its entries, the addresses of each entry ([`SpanSets`]), and its line
 //! table. Units that name the same line table share it ([`SharedLines`]).
@@ -6,7 +6,8 @@
 //! `specs/Owners.antt` defines, for the crates above, which function owns an address, which inlined copies are on the chain of the address, and which
 //! line it has.
 //!
-//! To read: `specs/UnitEntries.antt` and `Owners.antt`; then `unit_read`, `span_sets` and `shared_lines`.
+//! Best read in this order: `specs/UnitEntries.antt`, `specs/Owners.antt`, `unit_read`,
+//! `span_sets`, `shared_lines`.
 #![tactic(auto)]
 
 pub mod laws;

@@ -46,7 +46,7 @@ fn number_of(numbers: &[u32], entry: usize) -> Option<u32>
 }
 
 impl SpanSets {
-    /// No entry yet, and room for `count`.
+    /// The addresses of no entry yet, with room for those of `count` entries.
     #[tactic(auto, using(crate::proofs::SetLemmas::none_numbered))]
     pub fn with_room(alloc: Global, count: usize) -> Result<SpanSets, OutOfMemory>
         ensures { IfOk result (λ sets. sets ≡ []) }
@@ -111,7 +111,7 @@ impl SpanSets {
         self.sets.shrink();
     }
 
-    /// The addresses of the entry of a number.
+    /// The addresses of the entry with a number.
     #[inline]
     #[tactic(auto, using(crate::proofs::SetLemmas::none_there, crate::proofs::SetLemmas::empty_there, crate::proofs::SetLemmas::by_number, crate::proofs::SetLemmas::canonical_there))]
     pub fn get(&self, entry: usize) -> Option<&[Span]>

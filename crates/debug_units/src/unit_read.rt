@@ -27,7 +27,7 @@ pub struct UnitRead<'a> {
 }
 
 impl<'a> UnitRead<'a> {
-    /// The entry of a number.
+    /// The entry with a number.
     #[inline]
     pub fn entry(&self, entry: usize) -> Option<Die<'_, 'a>>
         ensures { result ≡ slice_get self.now.die.dies entry }
@@ -35,7 +35,7 @@ impl<'a> UnitRead<'a> {
         self.die.dies().get(entry)
     }
 
-    /// The addresses of the entry of a number.
+    /// The addresses of the entry with a number.
     #[inline]
     pub fn ranges(&self, entry: usize) -> Option<&[Span]>
         ensures set { option_copied result ≡ slice_get self.now.spans entry }
@@ -80,7 +80,7 @@ impl<'a> Units<'a> {
         self.parts.as_slice()
     }
 
-    /// An entry.
+    /// The entry that an `EntryRef` names.
     pub fn entry(&self, at: EntryRef) -> Option<Die<'_, 'a>>
         ensures { result ≡ die_in self.now at }
     {
@@ -88,7 +88,7 @@ impl<'a> Units<'a> {
         part.entry(at.entry as usize)
     }
 
-    /// The unit of a number.
+    /// The unit with a number.
     #[inline]
     pub fn unit(&self, unit: u32) -> Option<&UnitRead<'a>>
         ensures { option_copied result ≡ slice_get self.now unit }

@@ -1,4 +1,4 @@
--- Names are those of the units by their entries alone.
+-- The names of entries depend only on the entries of the units.
 use Rattle.std.proofs.Common.{◌≡◌, ℕ, zero, suc, ◌+◌, ◌==◌, map, List, [], ◌∷◌, ◌++◌, codes, Option, None, Some, unwrap_or, option_and_then, refl, sym, ap, ◌∙◌}
 use Rattle.std.specs.List.{find}
 use Rattle.std.specs.Option.{option_map}
@@ -15,7 +15,7 @@ use Rattle.debug_units.specs.EntriesAlone.{entries_alone}
 abbrev pub alone : List UnitRead → List UnitRead
 alone us = map entries_alone us
 
--- entries by their numbers and places
+-- Entries by their numbers, and by their places.
 in_alone : (unit entry : ℕ) (o : Option UnitRead) → entry_in unit entry o ≡ entry_in unit entry (option_map entries_alone o)
 in_alone unit entry None = refl
 in_alone unit entry (Some part) = refl

@@ -1,4 +1,4 @@
--- A search among units, by halves.
+-- A binary search for an entry among units.
 use Rattle.std.proofs.Common.{◌≡◌, ◌<◌, ◌≤◌, ◌+◌, ◌++◌, ℕ, zero, suc, false, eqb, List, [], ◌∷◌, take, drop, length, Option, None, Some, IfSome, get_or, refl, sym, ap, subst, ◌∙◌, arith}
 use Rattle.std.specs.List.{find, slice_get}
 use Rattle.std.specs.Option.{option_or, option_map}
@@ -21,7 +21,7 @@ among place first units = find (is_at place) (entries_from first units)
 abbrev pub in_unit : ℕ → ℕ → List DieFields → Option Placed
 in_unit place unit dies = find (is_at place) (unit_entries unit 0 dies)
 
--- the two halves of a list, the second by its first member
+-- A list of units as a first half, the unit in the middle, and the rest.
 pub record Halves (units left : List UnitRead) (part : UnitRead) (rest : List UnitRead) (half : ℕ) : Type 0 where
   pub whole : units ≡ left ++ (part ∷ rest)
   pub long : half ≡ length left
@@ -49,7 +49,7 @@ split place first left part rest =
     ∙ find-append (is_at place) (entries_from first left) (entries_from (first + length left) (part ∷ rest))
     ∙ ap (λ o. option_or (among place first left) o) (find-append (is_at place) (unit_entries (first + length left) 0 part.die.dies) (entries_from (first + length left + 1) rest))
 
--- no number of a list is this one
+-- None of the numbers of a list is this one.
 abbrev pub Avoids : ℕ → List ℕ → Type 0
 Avoids place [] = Prim.Unit {0}
 Avoids place (x ∷ xs) = (eqb x place ≡ false) × Avoids place xs
@@ -108,7 +108,7 @@ get_right k (x ∷ xs) ys =
     let moved_on : length (x ∷ xs) + k ≡ suc (length xs + k) = omega arith in
     ap (λ n. slice_get (x ∷ (xs ++ ys)) n) moved_on ∙ get_right k xs ys
 
--- an entry of the first half, of the middle, and of the second
+-- An entry of the first half, of the unit in the middle, and of the rest.
 left_found : (first : ℕ) (left right : List UnitRead) (r : Option Standing) → IfSome r (λ s. IsInside left s) → found_from first (left ++ right) r ≡ found_from first left r
 left_found first left right None inside = refl
 left_found first left right (Some s) inside = ap (λ u. entry_in (first + s.unit) s.entry u) (get_left s.unit left right inside.unit)
@@ -154,7 +154,7 @@ at_left place first units left part rest half d r h rises is less inside found =
 pub inside_left : (units left : List UnitRead) (part : UnitRead) (rest : List UnitRead) (half : ℕ) (r : Option Standing) → Halves units left part rest half → IfSome r (λ s. IsInside left s) → IfSome r (λ s. IsInside units s)
 inside_left units left part rest half r h inside = subst (λ us. IfSome r (λ s. IsInside us s)) (sym h.whole) (left_inside left (part ∷ rest) r inside)
 
--- the unit in the middle
+-- The unit in the middle.
 middle_get : (left : List UnitRead) (part : UnitRead) (rest : List UnitRead) → slice_get (left ++ (part ∷ rest)) (length left) ≡ Some part
 middle_get left part rest = ap (λ n. slice_get (left ++ (part ∷ rest)) n) (omega arith) ∙ get_right 0 left (part ∷ rest)
 
@@ -184,7 +184,7 @@ inside_middle units left part rest half entry h within = record {
   entry = rw (h.whole, h.long, middle_get left part rest) within;
 }
 
--- the second half
+-- The rest, after the unit in the middle.
 right_get : (left : List UnitRead) (part : UnitRead) (rest : List UnitRead) (k : ℕ) → slice_get (left ++ (part ∷ rest)) (length left + 1 + k) ≡ slice_get rest k
 right_get left part rest k = ap (λ n. slice_get (left ++ (part ∷ rest)) n) (omega arith) ∙ get_right (suc k) left (part ∷ rest)
 
@@ -213,7 +213,7 @@ pub behind_middle : (place first : ℕ) (units left : List UnitRead) (part : Uni
 behind_middle place first units left part rest half d r q h is rises head le middle found =
     at_right place first units left part rest half r q h is (earlier_none place first left part rest d (subst (λ us. RisesFrom 0 (places us)) h.whole rises) head le) middle found
 
--- a unit without entries
+-- A unit without entries.
 empty_none : (place unit : ℕ) (dies : List DieFields) → slice_get dies 0 ≡ None → None ≡ in_unit place unit dies
 empty_none place unit [] is = refl
 empty_none place unit (d ∷ dies) is = absurd (none-some d (sym is))
@@ -259,7 +259,7 @@ pub inside_right : (units left : List UnitRead) (part : UnitRead) (rest : List U
 inside_right units left part rest half r q h is inside =
     rw (is, h.whole, h.long) (right_inside left part rest r inside)
 
--- what the halves ask for
+-- What the searches in the halves require.
 pub rises_in_left : (units left : List UnitRead) (part : UnitRead) (rest : List UnitRead) (half : ℕ) → Halves units left part rest half → RisesFrom 0 (places units) → RisesFrom 0 (places left)
 rises_in_left units left part rest half h rises =
     rises_left 0 (places left) (dies_places part.die.dies ++ places rest) (parted left part rest (subst (λ us. RisesFrom 0 (places us)) h.whole rises))
@@ -274,7 +274,7 @@ rises_in_part units left part rest half h rises = rises_left 0 (dies_places part
 pub rises_in_rest : (units left : List UnitRead) (part : UnitRead) (rest : List UnitRead) (half : ℕ) → Halves units left part rest half → RisesFrom 0 (places units) → RisesFrom 0 (places rest)
 rises_in_rest units left part rest half h rises = rises_right 0 (dies_places part.die.dies) (places rest) (rises_behind units left part rest half h rises)
 
--- what was found, by its numbers alone
+-- The entry that was found, by its numbers.
 pub found_none : (place : ℕ) (units : List UnitRead) (r : Option Standing) → r ≡ None → found_from 0 units r ≡ among place 0 units → None ≡ entry_at units place
 unfolding entry_at
 found_none place units r none is = sym (ap (found_from 0 units) none) ∙ is

@@ -1,4 +1,4 @@
--- What a proof unfolds to compute the definitions of die_names where the input is written out.
+-- The definitions of die_names that a proof unfolds to compute a worked example.
 use Rattle.std.specs.Prelude.{⊤}
 use Rattle.clean_names.proofs.Computing.{clean_names_computes}
 use Rattle.die_walk.specs.EntryKinds.{is_function, is_inlined, counts, is_scope}

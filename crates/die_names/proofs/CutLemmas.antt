@@ -1,4 +1,4 @@
--- What a name that is cut no longer keeps.
+-- The bytes after the limit of a name do not change the cleaned name.
 use Rattle.std.proofs.Common.{◌≡◌, ◌≢◌, ◌<◌, ◌≤◌, ◌+◌, ◌==◌, ◌++◌, ℕ, zero, suc, true, List, [], ◌∷◌, length, map, take, get_or, sym, ap, ◌∙◌, arith, append-nil}
 use Rattle.std.proofs.lemmas.Bool.Decides.{nat_tests}
 use Rattle.std.proofs.lemmas.List.{append_assoc, map-append, length-map, take-append-le}
@@ -8,7 +8,7 @@ use Rattle.clean_names.specs.Cleaning.{shown_byte, or_omitted, cleaned, cleaned_
 shown_space : (x : ℕ) → (shown_byte x == 32) ≡ true → x ≡ 32
 shown_space x is = grind (arith, nat_tests)
 
--- what a name shows, without the spaces in front
+-- The printed bytes of a name, without the spaces at the start.
 abbrev shown : List ℕ → List ℕ
 shown bytes = skip is_space (map shown_byte bytes)
 

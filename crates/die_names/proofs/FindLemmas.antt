@@ -1,4 +1,4 @@
--- A search among entries whose places rise.
+-- A search among entries whose places ascend.
 use Rattle.std.proofs.Common.{◌≡◌, ◌<◌, ◌≤◌, ◌+◌, ℕ, zero, suc, true, false, eqb, List, [], ◌∷◌, map, length, get_or, None, Some, refl, sym, ap, ◌∙◌, arith}
 use Rattle.std.specs.List.{find, slice_get}
 use Rattle.std.specs.Option.{option_map}
@@ -14,7 +14,7 @@ use Rattle.die_names.specs.internal.Finding.{is_at, found_in}
 abbrev pub dies_places : List DieFields → List ℕ
 dies_places dies = map (λ (d : DieFields). d.at) dies
 
--- the first entry of a unit at a place, and none where none is there
+-- The first entry of a unit at a place, or none if there is no entry at it.
 numbered : (unit from place : ℕ) (dies : List DieFields) (k : ℕ) (d : DieFields) → k < length dies
     → ((j : ℕ) → j < k → eqb (get_or dies j d).at place ≡ false) → eqb (get_or dies k d).at place ≡ true
     → option_map {U = Placed} (λ die. record { unit = unit; entry = from + k; die = die }) (slice_get dies k) ≡ find (is_at place) (unit_entries unit from dies)
@@ -38,7 +38,7 @@ die_other place count unit dies d rises h there other = nowhere unit 0 place die
 pub die_none : (place count unit : ℕ) (dies : List DieFields) → StandBelow (λ (c : DieFields). c.at) place count dies → count ≡ length dies → None ≡ find (is_at place) (unit_entries unit 0 dies)
 die_none place count unit dies h whole = nowhere unit 0 place dies (differ_all (λ (c : DieFields). c.at) place count dies h whole)
 
--- the same by what stands at a number
+-- The same, given the entry with a number.
 not_there : (dies : List DieFields) (k : ℕ) → None ≡ slice_get dies k → length dies ≤ k
 not_there dies k is = grind (arith, gets, is)
 
@@ -56,7 +56,7 @@ die_wrong place count unit dies d rises h is other =
 pub die_inside : (dies : List DieFields) (count : ℕ) (d : DieFields) → Some d ≡ slice_get dies count → count < length dies
 die_inside dies count d is = slice_get_within dies count d (sym is)
 
--- an entry of a unit whose places rise, where it begins at the place
+-- An entry that begins at a place, in a unit whose places ascend.
 rises_at : (low : ℕ) (dies : List DieFields) (k : ℕ) (d : DieFields) → RisesFrom low (dies_places dies) → slice_get dies k ≡ Some d → low ≤ d.at
 rises_at low [] k d rises is = absurd (cc)
 rises_at low (x ∷ dies) zero d rises is = grind (arith, rises.0, is)

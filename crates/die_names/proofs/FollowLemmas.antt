@@ -1,4 +1,4 @@
--- The way of an entry, entry by entry.
+-- The way of an entry is followed entry by entry.
 use Rattle.std.proofs.Common.{◌≡◌, ◌<◌, ◌≤◌, ◌-◌, ◌^◌, ℕ, zero, suc, true, false, List, [], ◌∷◌, map, length, Option, None, Some, refl, sym, ap, ◌∙◌, arith}
 use Rattle.std.specs.List.{slice_get}
 use Rattle.std.specs.Option.{option_map}
@@ -17,7 +17,7 @@ use Rattle.die_names.specs.NameRefs.{name_at, has_linkage}
 use Rattle.die_names.specs.internal.Finding.{found, die_count, IsInside}
 use Rattle.die_names.specs.internal.Following.{noted, noted_at, followed}
 
--- the entry of these numbers with them
+-- An entry together with its numbers.
 abbrev pub placed : EntryRef → DieFields → Placed
 placed s die = record { unit = s.unit; entry = s.entry; die = die }
 
@@ -68,7 +68,7 @@ next_is units links best s die to made some is has noting linking =
     ∙ next_first units links best (placed s die) some has
     ∙ ap (λ p. followed best (way units links p)) (sym (found_at units s (Some die) is))
 
--- numbers of entries are small
+-- The numbers of entries fit into four bytes.
 within_places : (units : List UnitRead) (k : ℕ) (part : UnitRead) → slice_get units k ≡ Some part → length part.die.dies ≤ length (places units)
 within_places [] k part is = absurd (none-some _ is)
 within_places (u ∷ units) zero part is = grind (arith, is, length-append (map (λ (d : DieFields). d.at) u.die.dies) (places units), length-map u.die.dies (λ (d : DieFields). d.at))

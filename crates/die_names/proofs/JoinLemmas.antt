@@ -1,4 +1,4 @@
--- The scopes around an entry, and what they put in front of a name.
+-- The scopes around an entry, and the prefix that they give to its name.
 use Rattle.std.proofs.Common.{◌≡◌, ◌<◌, ◌++◌, ◌==◌, if◌then◌else◌, ℕ, zero, suc, Bool, false, List, [], ◌∷◌, Option, None, Some, option_and_then, refl, sym, ap, ◌∙◌, arith, append-nil}
 use Rattle.std.specs.List.{slice_get, filter}
 use Rattle.std.specs.Option.{option_map_or}
@@ -11,11 +11,11 @@ use Rattle.die_walk.specs.Scopes.{scope_around, scope_of}
 use Rattle.die_names.specs.Names.{around, scope_front, front_at, fronts, front_in}
 use Rattle.die_names.specs.internal.Gathering.{is_scope_at, scopes_of}
 
--- the scopes among the entries around one
+-- The scopes among the entries around an entry.
 abbrev pub scopes_in : List DieFields → ℕ → Option ℕ → List ℕ
 scopes_in dies limit parent = filter (is_scope_at dies) (around dies limit parent)
 
--- a scope and the scopes around it
+-- A scope, followed by the scopes around it.
 abbrev pub hopped : List DieFields → Option ℕ → List ℕ
 hopped dies None = []
 hopped dies (Some number) = number ∷ scopes_of dies number
@@ -59,7 +59,7 @@ gathered_more dies done added limit number whole to rest adding =
     ∙ ap (λ (o : Option ℕ). done ++ hopped dies o) to
     ∙ ap (λ (l : List ℕ). done ++ l) (sym (scopes_hop dies limit)) ∙ rest
 
--- a scope stands before what it is around
+-- A scope comes before the entries that it encloses.
 before_entry : (dies : List DieFields) (number found : ℕ) (o : Option DieFields)
     → ((parent : Option ℕ) → scope_around dies number parent ≡ Some found → found < number)
     → option_and_then (from_here dies number) o ≡ Some found → found < suc number
@@ -78,7 +78,7 @@ before_of dies entry found (Some d) is = around_before dies entry found d.parent
 pub scope_before : (dies : List DieFields) (entry found : ℕ) → Some found ≡ scope_of dies entry → found < entry
 scope_before dies entry found is = before_of dies entry found (slice_get dies entry) (sym is)
 
--- entries that are no scopes put nothing in front of a name
+-- Entries that are no scopes give no prefix.
 bare_by : (die : Option DieFields) → option_map_or is_scope die false ≡ false → option_map_or scope_front die [] ≡ []
 unfolding scope_front
 bare_by None bare = refl

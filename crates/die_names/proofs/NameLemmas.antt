@@ -1,4 +1,4 @@
--- The entry that gives a name, and what it is.
+-- Which entry gives a name, and which name it gives.
 use Rattle.std.proofs.Common.{◌≡◌, ◌+◌, ◌++◌, ℕ, zero, suc, Bool, true, false, true≢false, List, [], ◌∷◌, length, codes, Option, None, Some, unwrap_or, option_and_then, refl, sym, ap, subst, ◌∙◌, arith}
 use Rattle.std.specs.List.{find, slice_get}
 use Rattle.std.specs.Option.{option_map, is_some}
@@ -16,12 +16,12 @@ use Rattle.die_names.specs.NameRefs.{name_at, has_linkage, has_name, joined_or, 
 use Rattle.die_names.specs.internal.Finding.{is_at}
 use Rattle.die_names.specs.internal.Following.{is_omitted, followed}
 
--- once an entry with a name has come
+-- After an entry with a name.
 followed_named : (best : NameRef) (entries : List Placed) → is_omitted best.how ≡ false → followed best entries ≡ linkage_or best (find has_linkage entries)
 followed_named best [] not = refl
 followed_named best (p ∷ rest) not = grind (arith, nat_tests, not, followed_named best rest not)
 
--- before that
+-- Before any entry with a name.
 followed_first : (best : NameRef) (entries : List Placed) → is_omitted best.how ≡ true → followed best entries ≡ linkage_or (joined_or best (find has_name entries)) (find has_linkage entries)
 followed_first best [] begun = refl
 followed_first best (p ∷ rest) begun = grind (arith, nat_tests, begun, followed_named (name_at p Joined) rest refl, followed_first best rest begun)
@@ -30,7 +30,7 @@ pub reference_is : (units : List UnitRead) (unit entry : ℕ) → followed (reco
 unfolding name_ref
 reference_is units unit entry = followed_first (record { unit = unit; entry = entry; how = Omitted }) (way units 16 (entry_of units unit entry)) refl
 
--- what is true of all entries of a list
+-- What holds for all entries of a list.
 abbrev pub AllOf : (Placed → Type 0) → List Placed → Type 0
 AllOf P [] = Prim.Unit {0}
 AllOf P (p ∷ rest) = P p × AllOf P rest
@@ -39,7 +39,7 @@ all_append : (P : Placed → Type 0) (xs ys : List Placed) → AllOf P xs → Al
 all_append P [] ys left right = right
 all_append P (x ∷ xs) ys left right = (left.0, all_append P xs ys left.1 right)
 
--- an entry stands where its numbers say
+-- The entry of a unit that has these numbers.
 abbrev pub IsThere : List UnitRead → Placed → Type 0
 IsThere units p = entry_in p.unit p.entry (slice_get units p.unit) ≡ Some p
 
@@ -64,7 +64,7 @@ all_there done (u ∷ units) =
     (subst (λ us. AllOf (IsThere us) (entries_from (length done + 1) units)) (append_assoc done (u ∷ []) units)
     (subst (λ n. AllOf (IsThere ((done ++ (u ∷ [])) ++ units)) (entries_from n units)) (length-append done (u ∷ [])) (all_there (done ++ (u ∷ [])) units)))
 
--- what is found is one of them, and passes
+-- What holds for an entry, if there is one.
 abbrev pub IfThere : (Placed → Type 0) → Option Placed → Type 0
 IfThere P None = Prim.Unit {0}
 IfThere P (Some p) = P p
@@ -104,7 +104,8 @@ of_there : (units : List UnitRead) (unit entry : ℕ) → IfThere (IsThere units
 unfolding entry_of
 of_there units unit entry = in_there units unit entry (slice_get units unit) refl
 
--- the first of each kind, and what it gives
+-- The first entry with a linkage name and the first entry with a name, and the names that they
+-- give.
 linkage_by : (p : Placed) (rest : List Placed) (text : Option (List ℕ)) → p.die.linkage ≡ text → first_linkage rest ≡ option_and_then (λ q. q.die.linkage) (find has_linkage rest)
     → first_linkage (p ∷ rest) ≡ option_and_then (λ q. q.die.linkage) (find has_linkage (p ∷ rest))
 linkage_by p rest None is later = grind (arith, nat_tests, is, later)

@@ -19,7 +19,7 @@ use Rattle.die_names.proofs.JoinLemmas.{hopped, scopes_next, fronts_of}
 abbrev omitted_text : List ℕ
 omitted_text = codes "<name omitted>"
 
--- whether a list has members
+-- Whether a list has members.
 abbrev is_full : List ℕ → Bool
 is_full [] = false
 is_full (x ∷ xs) = true
@@ -39,7 +39,7 @@ fronts_full : (dies : List DieFields) (numbers : List ℕ) → is_full (fronts d
 fronts_full dies [] = refl
 fronts_full dies (n ∷ numbers) = grind (arith, nat_tests, full_append (fronts dies numbers) (front_at dies n), at_full (slice_get dies n), fronts_full dies numbers)
 
--- a name has a front where there is a scope around its entry
+-- A name has a prefix if there is a scope around its entry.
 any_kept : (test : ℕ → Bool) (xs : List ℕ) → list_any test xs ≡ is_full (filter test xs)
 any_kept test [] = refl
 any_kept test (x ∷ xs) = grind (arith, nat_tests, any_kept test xs)
@@ -65,7 +65,7 @@ unless_full : (front : List ℕ) (name : Option (List ℕ)) → is_full front �
 unless_full [] name full = absurd (true≢false (sym full))
 unless_full (b ∷ front) name full = refl
 
--- the entry that a name names
+-- The entry that a name refers to.
 abbrev pub placed : NameRef → DieFields → Placed
 placed name die = record { unit = name.unit; entry = name.entry; die = die }
 
@@ -85,7 +85,7 @@ front_is : (units : List UnitRead) (name : NameRef) (part : UnitRead) (die : Die
 unfolding front_of
 front_is units name part die is = ap (λ u. front_in (dies_of u) name.entry die.parent) (sym is)
 
--- where it stands as it is
+-- The bytes of a name, if the file has them as they are.
 pub slice_no_part : (units : List UnitRead) (name : NameRef) → None ≡ slice_get units name.unit → None ≡ name_slice units name
 unfolding name_slice
 slice_no_part units name is = ap (option_and_then (slice_by units name.how)) (sym (no_part units name is))
@@ -120,7 +120,7 @@ slice_scoped units name part die scope by is got scoped =
     ∙ ap (λ f. unless_front f die.name) (sym (front_is units name part die is))
     ∙ sym (slice_is units name part die Joined by is got)
 
--- where a name stands in the file as it is, these are its bytes
+-- If the file has a name as it is, its bytes are those of the name.
 bare_by : (front : List ℕ) (name : Option (List ℕ)) (bytes : List ℕ) → unless_front front name ≡ Some bytes → option_map (λ n. front ++ n) name ≡ Some bytes
 bare_by [] (Some name) bytes is = is
 bare_by [] None bytes is = absurd (cc)

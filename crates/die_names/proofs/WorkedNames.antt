@@ -1,4 +1,4 @@
--- Worked rows: the names of entries.
+-- Worked examples: the names of entries.
 use Rattle.std.proofs.Common.{◌≡◌, ℕ, List, [], ◌∷◌, map, Option, Some, None, codes, suc, zero, ◌+◌, true, rules}
 use Rattle.die_walk.specs.EntryTable.{DieFields}
 use Rattle.debug_units.specs.declared.unit_read.UnitRead.{UnitRead}
@@ -6,18 +6,18 @@ use Rattle.die_names.specs.Names.{entry_name}
 use Rattle.die_names.proofs.Computing.{die_names_computes}
 use Rattle.debug_units.proofs.MadeUnits.{bare_entry, bare_unit}
 
--- an entry by its place, tag and parent, what it is linked to, and its names
+-- An entry, given its place, its tag, its parent, its links and its names.
 unfoldable die : ℕ → ℕ → Option ℕ → Option ℕ → Option ℕ → Option (List ℕ) → Option (List ℕ) → DieFields
 die at tag parent origin spec name linkage = record (bare_entry tag) { at = at; parent = parent; origin = origin; spec = spec; name = name; linkage = linkage }
 
 unfoldable unit : List DieFields → UnitRead
 unit dies = bare_unit dies (map (λ (d : DieFields). []) dies)
 
--- a unit's root, without a name
+-- The root of a unit, without a name.
 unfoldable root : ℕ → DieFields
 root at = die at 0x11 None None None None None
 
--- a method whose specification lies in a structure in a namespace
+-- A method, whose specification is in a structure in a namespace.
 unfoldable method : List UnitRead
 method = unit (
     root 11
@@ -27,37 +27,39 @@ method = unit (
     ∷ die 50 0x2e (Some 0) None (Some 40) None None
     ∷ []) ∷ []
 
--- two entries without names, of which each is the other's origin
+-- Two entries without names, each of which is the origin of the other.
 unfoldable ring : List UnitRead
 ring = unit (root 11 ∷ die 20 0x2e (Some 0) (Some 30) None None None ∷ die 30 0x2e (Some 0) (Some 20) None None None ∷ []) ∷ []
 
--- a chain of entries at 100, 101 and so on, each with the next as its origin; the last one has a name
+-- A chain of entries at the places 100, 101 and so on. The origin of each is the next one; only the
+-- last one has a name.
 unfoldable links : ℕ → ℕ → List DieFields
 links at zero = die at 0x2e (Some 0) None None (Some (codes "last")) None ∷ []
 links at (suc more) = die at 0x2e (Some 0) (Some (at + 1)) None None None ∷ links (at + 1) more
 
--- the same chain by specifications
+-- The same chain with specifications instead of origins.
 unfoldable specified : ℕ → ℕ → List DieFields
 specified at zero = die at 0x2e (Some 0) None None (Some (codes "last")) None ∷ []
 specified at (suc more) = die at 0x2e (Some 0) None (Some (at + 1)) None None ∷ specified (at + 1) more
 
--- entries that lead into another unit, to no entry, one byte beside one
+-- Entries with a link into another unit, to no entry, and to the byte after the start of an entry.
 unfoldable leading : ℕ → List UnitRead
 leading place = unit (root 11 ∷ die 20 0x2e (Some 0) (Some place) None None None ∷ []) ∷ unit (root 111 ∷ die 120 0x39 (Some 0) None None (Some (codes "m")) None ∷ die 130 0x2e (Some 1) None None (Some (codes "g")) None ∷ []) ∷ []
 
--- an origin that leads to no entry ends the way: the specification does not count
+-- If the origin leads to no entry, the way ends, and the specification is not followed.
 unfoldable both : ℕ → List UnitRead
 both origin = unit (root 11 ∷ die 20 0x2e (Some 0) (Some origin) (Some 40) None None ∷ die 30 0x2e (Some 0) None None (Some (codes "o")) None ∷ die 40 0x2e (Some 0) None None (Some (codes "s")) None ∷ []) ∷ []
 
--- a linkage name further on comes before a name; an empty one is one
+-- A linkage name later on the way comes before a name, even if it is empty.
 unfoldable linkage_behind : List ℕ → List UnitRead
 linkage_behind linkage = unit (root 11 ∷ die 20 0x2e (Some 0) (Some 30) None (Some (codes "near")) None ∷ die 30 0x2e (Some 0) None None (Some (codes "far")) (Some linkage) ∷ []) ∷ []
 
--- scopes without a name and with an empty one; functions and other entries around are no part of a name
+-- Scopes without a name and with an empty name. Functions and other entries around an entry give no
+-- prefix.
 unfoldable scoped : Option (List ℕ) → ℕ → List UnitRead
 scoped name tag = unit (root 11 ∷ die 20 0x02 (Some 0) None None (Some (codes "C")) None ∷ die 30 tag (Some 1) None None name None ∷ die 40 0x2e (Some 2) None None (Some (codes "f")) None ∷ []) ∷ []
 
--- a scope whose name stands in the supplementary file
+-- A scope whose name is in a supplementary file that was not read.
 unfoldable elsewhere : ℕ → List UnitRead
 elsewhere tag = unit (root 11 ∷ record (die 20 tag (Some 0) None None None None) { name_elsewhere = true } ∷ die 30 0x2e (Some 1) None None (Some (codes "f")) None ∷ []) ∷ []
 
@@ -67,9 +69,9 @@ scoped_elsewhere tag = unit (root 11 ∷ die 20 0x02 (Some 0) None None (Some (c
 record Named : Type 0 where
   of_a_method : entry_name method 0 4 ≡ codes "n::S::f"
   of_a_ring : entry_name ring 0 1 ≡ codes "<name omitted>"
-  -- sixteen links are followed
+  -- Sixteen links are followed.
   of_sixteen_links : entry_name (unit (root 11 ∷ links 100 16) ∷ []) 0 1 ≡ codes "last"
-  -- seventeen are not
+  -- A seventeenth link is not followed.
   of_seventeen_links : entry_name (unit (root 11 ∷ links 100 17) ∷ []) 0 1 ≡ codes "<name omitted>"
   of_sixteen_specifications : entry_name (unit (root 11 ∷ specified 100 16) ∷ []) 0 1 ≡ codes "last"
   of_seventeen_specifications : entry_name (unit (root 11 ∷ specified 100 17) ∷ []) 0 1 ≡ codes "<name omitted>"
@@ -86,11 +88,11 @@ record Named : Type 0 where
   a_function_elsewhere : entry_name (scoped_elsewhere 0x2e) 0 2 ≡ codes "<name omitted>"
   empty_scope : entry_name (scoped (Some []) 0x39) 0 3 ≡ codes "C::::f"
   inside_a_function : entry_name (scoped (Some (codes "outer")) 0x2e) 0 3 ≡ codes "C::f"
-  -- names are cleaned
+  -- Names are cleaned.
   unclean : entry_name (scoped (Some (9 ∷ 32 ∷ [])) 0x13) 0 2 ≡ codes "C::? "
   control_bytes : entry_name (scoped (Some (31 ∷ 65 ∷ 127 ∷ [])) 0x13) 0 2 ≡ codes "C::?A?"
   leading_spaces : entry_name (linkage_behind (codes "  f g")) 0 1 ≡ codes "f g"
-  -- the entry that was asked for is none
+  -- There is no entry with these numbers.
   no_such_entry : entry_name method 0 9 ≡ codes "<name omitted>"
 
 named : Named

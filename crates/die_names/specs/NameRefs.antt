@@ -42,7 +42,8 @@ bytes_by units Omitted p = None
 unfoldable pub name_bytes : List UnitRead → NameRef → List ℕ
 name_bytes units name = unwrap_or (option_and_then (bytes_by units name.how) (entry_of units name.unit name.entry)) (codes "<name omitted>")
 
--- the bytes of a name before it is cleaned, if the file has them as they are: all names but those that have scopes
+-- the bytes of a name before it is cleaned, if no names of scopes come before them, so that the
+-- file has them as they are
 abbrev pub unless_front : List ℕ → Option (List ℕ) → Option (List ℕ)
 unless_front [] name = name
 unless_front (b ∷ front) name = None

@@ -22,8 +22,8 @@ way units links None = []
 way units zero (Some p) = p ∷ []
 way units (suc links) (Some p) = p ∷ way units links (linked_from units p.die)
 
--- the numbers of the entries around an entry whose parent is `parent`, the innermost first, among the first `number` entries: an entry comes after
--- its parent
+-- the numbers of the entries around an entry whose parent is `parent`, beginning with the
+-- innermost. An entry comes after its parent, so only the first `number` entries are searched
 unfoldable pub around : List DieFields → ℕ → Option ℕ → List ℕ
 around dies zero parent = []
 around dies (suc number) parent =

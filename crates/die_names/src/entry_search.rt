@@ -34,7 +34,7 @@ fn find_in_unit(dies: &DieList<'_>, place: u64) -> Option<usize>
     Some(count)
 }
 
-/// The same entry in a list with `count` more units in front.
+/// The numbers of an entry, after `count` units were added in front of the list.
 fn behind(count: usize, standing: Option<Standing>) -> Option<Standing>
     requires { IfSome standing (λ s. count + s.unit < 2 ^ 63) }
     ensures { result ≡ moved count standing }
@@ -75,7 +75,7 @@ fn find_among(units: &[UnitRead<'_>], place: u64) -> Option<Standing>
     }
 }
 
-/// The guessed number, if the entry of that number begins at the place.
+/// The guessed number, if the entry with that number begins at the place.
 #[tactic(auto, using(crate::proofs::FindLemmas::guess_here, crate::proofs::FindLemmas::die_inside))]
 fn guess_in_unit(dies: &DieList<'_>, guess: usize, place: u64) -> Option<usize>
     requires { RisesFrom 0 (map (λ (d : DieFields). d.at) dies.now) }
@@ -171,8 +171,9 @@ fn find_from_guess(
     }
 }
 
-/// The entry that begins at a place of `.debug_info`. Most places that an entry names are in its own unit, which is `near`. Many entries name the
-/// same places, and `guesses` keeps where those were found.
+/// The entry that begins at a place of `.debug_info`. Most links of an entry lead into its own
+/// unit, which is `near`. Many links lead to the same entries, and `guesses` keeps where those were
+/// found.
 #[tactic(auto, using(crate::proofs::AmongLemmas::found_none, crate::proofs::AmongLemmas::found_some, crate::proofs::FollowLemmas::small_unit, crate::proofs::FollowLemmas::small_entry))]
 pub(crate) fn find_entry(
     units: &[UnitRead<'_>],

@@ -3,10 +3,10 @@ use debug_units::EntryRef;
 use std::alloc::Global;
 use sym_edges::OutOfMemory;
 
-/// The number of slots.
+/// The number of entries that are kept as guesses.
 const SLOTS: usize = 16384;
 
-/// Entries that links led to, each in the slot of its place.
+/// Entries to which links led, each at an index that its place gives.
 #[derive(Drop)]
 pub struct LinkGuesses {
     slots: Vec<EntryRef>,
@@ -21,7 +21,7 @@ impl LinkGuesses {
         })
     }
 
-    /// The slots.
+    /// The guesses, by index.
     pub(crate) fn slots(&mut self) -> &mut [EntryRef] {
         self.slots.as_mut_slice()
     }

@@ -16,7 +16,7 @@ use die_walk::{Die, DieList};
 use std::alloc::Global;
 use sym_edges::{ByteRun, OutOfMemory};
 
-/// The entry of a number.
+/// The entry with a number.
 fn entry_in<'u, 'a>(dies: &'u DieList<'a>, entry: usize) -> Option<Die<'u, 'a>>
     ensures { result ≡ slice_get dies.now entry }
 {
@@ -47,7 +47,7 @@ fn add_front(text: &mut Vec<u8>, die: &Die<'_, '_>) -> Result<(), OutOfMemory>
     Ok(())
 }
 
-/// The numbers of the scopes around the entry `entry`, the innermost first.
+/// The numbers of the scopes around the entry `entry`, beginning with the innermost.
 fn scopes_around(alloc: Global, dies: &DieList<'_>, entry: usize) -> Result<Vec<u32>, OutOfMemory>
     ensures { IfOk result (λ v. v.items ≡ scopes_of dies.now entry) }
 {
@@ -62,7 +62,7 @@ fn scopes_around(alloc: Global, dies: &DieList<'_>, entry: usize) -> Result<Vec<
     }
 }
 
-/// The first place, from `from` on, at which there is no space, or the end.
+/// The first index, from `from` on, at which the text has no space, or the end of the text.
 fn past_spaces(text: &[u8], from: usize) -> usize
     ensures { from ≤ result }
 {
@@ -73,7 +73,8 @@ fn past_spaces(text: &[u8], from: usize) -> usize
     place
 }
 
-/// Whether cleaning drops everything after these bytes: `place` has no space, and so many bytes begin there that the name is cut.
+/// Whether it is certain that cleaning drops all bytes after these. This is so if there is no space
+/// at `place`, and at least `NAME_LIMIT` bytes from there on.
 #[tactic(auto, using(crate::proofs::CutLemmas::cleaned_cut))]
 fn is_full(text: &[u8], place: usize) -> bool
     ensures { result ≡ true → (more : List ℕ) → cleaned (text.now ++ more) ≡ cleaned text.now }
@@ -163,8 +164,8 @@ fn made_text(alloc: Global, units: &Units<'_>, name: NameRef) -> Result<ByteRun,
     }
 }
 
-/// The text of a name, cleaned for records: `name_text` of what `name_of` returned is the name of the entry. Allocates no memory if the file has the
-/// name as it is and the name is clean.
+/// The text of a name, cleaned for records. If `name_of` gave the name for an entry, this is the
+/// name of that entry. Allocates no memory if the file has the name as it is and the name is clean.
 pub fn name_text<'a>(
     alloc: Global,
     units: &Units<'a>,

@@ -33,7 +33,7 @@ impl<'a> Model for EntryNameText<'a> {
 }
 
 impl<'a> EntryNameText<'a> {
-    /// A name that was made.
+    /// A name whose bytes are in new memory.
     pub(crate) fn of(text: ByteRun) -> EntryNameText<'a>
         ensures { result ≡ text }
     {
@@ -61,7 +61,7 @@ impl<'a> EntryNameText<'a> {
     }
 }
 
-/// The bytes of a name, if the file has them as a record may carry them. Allocates no memory.
+/// The bytes of a name, if the file has them as they are and they are clean. Allocates no memory.
 pub fn clean_slice<'a>(units: &Units<'a>, name: NameRef) -> Option<&'a [u8]>
     ensures name { IfSome result (λ bytes. bytes.now ≡ cleaned (name_bytes units.now name)) }
     ensures clean { IfSome result (λ bytes. cleaned bytes.now ≡ bytes.now) }
@@ -73,7 +73,7 @@ pub fn clean_slice<'a>(units: &Units<'a>, name: NameRef) -> Option<&'a [u8]>
     None
 }
 
-/// A name, if the file has its bytes as a record may carry them.
+/// A name, if the file has its bytes as they are and they are clean.
 pub(crate) fn whole_name<'a>(units: &Units<'a>, name: NameRef) -> Option<EntryNameText<'a>>
     ensures { IfSome result (λ text. text ≡ cleaned (name_bytes units.now name)) }
 {

@@ -7,7 +7,8 @@
 //! [`name_slice`] gives the bytes of the file if it has the name as it is. The target of a link is found by binary search, in the entry's own unit
 //! first, then among all units.
 //!
-//! To read: `specs/Names.antt` and `NameRefs.antt`; then `guesses`, `entry_search`, `name_source`, `joined_name`, `kept` and `parts`.
+//! Best read in this order: `specs/Names.antt`, `specs/NameRefs.antt`, `guesses`, `entry_search`,
+//! `name_source`, `joined_name`, `kept`, `parts`.
 #![tactic(auto)]
 
 mod entry_search;

@@ -61,7 +61,7 @@ fn refer(at: EntryRef, how: How) -> NameRef
     }
 }
 
-/// What the name is if no linkage name follows: that of the first entry that has a name.
+/// Which entry gives the name if no linkage name follows: the first entry that has a name.
 fn note(die: &Die<'_, '_>, at: EntryRef, best: NameRef) -> NameRef
     ensures { result ≡ noted_at best at die.now }
 {
@@ -71,7 +71,9 @@ fn note(die: &Die<'_, '_>, at: EntryRef, best: NameRef) -> NameRef
     }
 }
 
-/// The name from an entry on. It is `best` if no later entry has a linkage name or, while `best` is omitted, a name.
+/// Which entry gives the name, given `best` for the entries before `here`. It is the first entry
+/// from `here` on with a linkage name. If there is none, it is `best` or, if `best` is omitted, the
+/// first entry from `here` on with a name. If there is no such entry either, it is `best`.
 #[tactic(auto, using(crate::proofs::FollowLemmas::way_none, crate::proofs::FollowLemmas::way_lost, crate::proofs::FollowLemmas::linkage_is, crate::proofs::FollowLemmas::last_is, crate::proofs::FollowLemmas::next_is))]
 fn follow(
     units: &Units<'_>,
@@ -113,8 +115,10 @@ fn name_among(units: &Units<'_>, unit: u32, entry: u32, guesses: &mut [EntryRef]
     follow(units, Some(EntryRef { unit, entry }), LINKS, asked, guesses)
 }
 
-/// The entry that gives the name of an entry: the first one with a linkage name, or else the first one with a name, among the entry and those that at
-/// most 16 links reach. A link goes by `DW_AT_abstract_origin`, or else by `DW_AT_specification`, to a kept entry of any unit. Allocates no memory.
+/// The entry that gives the name of an entry. It is among the entry itself and those that at most
+/// 16 links reach: the first one with a linkage name, or else the first one with a name. A link
+/// goes by `DW_AT_abstract_origin`, or else by `DW_AT_specification`, to a kept entry of any unit.
+/// Allocates no memory.
 pub fn name_of(units: &Units<'_>, unit: u32, entry: u32) -> NameRef
     ensures reference { result ≡ name_ref units.now unit entry }
     ensures name { cleaned (name_bytes units.now result) ≡ entry_name units.now unit entry }
@@ -122,7 +126,8 @@ pub fn name_of(units: &Units<'_>, unit: u32, entry: u32) -> NameRef
     name_among(units, unit, entry, &mut [])
 }
 
-/// The same for one of many entries whose links often lead to the same entries: `guesses` keeps where they led. Allocates no memory.
+/// The same as [`name_of`], for one of many entries whose links often lead to the same entries:
+/// `guesses` keeps where they led. Allocates no memory.
 pub fn name_by(units: &Units<'_>, unit: u32, entry: u32, guesses: &mut LinkGuesses) -> NameRef
     ensures reference { result ≡ name_ref units.now unit entry }
     ensures name { cleaned (name_bytes units.now result) ≡ entry_name units.now unit entry }

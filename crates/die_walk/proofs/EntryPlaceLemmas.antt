@@ -1,4 +1,4 @@
--- Entries stand in their units in rising order. Serves the laws.
+-- The entries of a unit are in the order of their places; for the laws.
 use Rattle.std.proofs.Common.{◌≡◌, ◌≤◌, ◌+◌, ◌-◌, ℕ, zero, suc, Bool, true, false, nat_eq, cond, List, [], ◌∷◌, ◌++◌, map, length, take, Option, None, Some, Result, Ok, Err, IfOk, refl, ap, subst, ◌∙◌, arith, length-drop, length-take-le}
 use Rattle.std.proofs.lemmas.Result.{IfOk-at_ok}
 use Rattle.sym_edges.specs.Results.{◌>>=◌}
@@ -20,7 +20,7 @@ use Rattle.abbrev_units.proofs.OkLemmas.{then_ok, then_any, either_ok}
 use Rattle.die_walk.proofs.WalkLemmas.{next_goes}
 use Rattle.die_walk.specs.EntryPlaces.{RisesTo, table_places}
 
--- what stands in a unit from a place on, entries in rising order
+-- Marks whose entries have ascending places, from `low` to `high`.
 abbrev MarksRise : ℕ → ℕ → List Mark → Type 0
 MarksRise low high [] = Prim.Unit {0}
 MarksRise low high (Close ∷ marks) = MarksRise low high marks
@@ -33,7 +33,7 @@ marks_lower low other high (Entry at tag children values ∷ marks) below rise =
     let first : other ≤ at = rise.0 in
     (omega arith, rise.1, rise.2)
 
--- a mark of an entry has the entry's place
+-- The mark of an entry has the entry's place.
 abbrev IsMarkAt : ℕ → Mark → Type 0
 IsMarkAt place Close = Prim.Unit {0}
 IsMarkAt place (Entry at tag children values) = at ≡ place
@@ -61,7 +61,7 @@ next_place abbrevs c =
     either_ok (MemberAt c.at) (nat_eq (length c.bytes) 0) (Ok (None, c)) _ tt
     (then_ok (MarkedAt c.at) (MemberAt c.at) (mark_at abbrevs c) _ (mark_place abbrevs c) (λ mark marked. marked))
 
--- all that stands ahead
+-- The place after the last byte ahead.
 abbrev end_of : Ahead → ℕ
 end_of c = c.at + length c.bytes
 
@@ -87,7 +87,7 @@ marks_rise_in abbrevs zero c = tt
 marks_rise_in abbrevs (suc n) c =
     list_rises (next_mark abbrevs c) (list_in (next_mark abbrevs) n) c (next_goes abbrevs c) (next_place abbrevs c) (λ d. marks_rise_in abbrevs n d)
 
--- the entries among them
+-- Entries with ascending places, from `low` to `high`.
 abbrev ItemsRise : ℕ → ℕ → List Item → Type 0
 ItemsRise low high [] = Prim.Unit {0}
 ItemsRise low high (item ∷ items) = (low ≤ item.at) × (item.at ≤ high) × ItemsRise (item.at + 1) high items
@@ -103,7 +103,7 @@ rooted_rise : (body high : ℕ) (items : List Item) → body ≤ high → ItemsR
 rooted_rise body high [] inside rise = (omega arith, inside, tt)
 rooted_rise body high (item ∷ items) inside rise = rise
 
--- the kept ones among these
+-- The kept ones among these entries.
 pub rises_lower : (low other high : ℕ) (xs : List ℕ) → low ≤ other → RisesTo other high xs → RisesTo low high xs
 rises_lower low other high [] below rise = tt
 rises_lower low other high (x ∷ xs) below rise =
@@ -131,7 +131,7 @@ by_rises : (sections : DebugSections) (unit : Unit) (items : List Item) (low hig
 by_rises sections unit [] low high rise = tt
 by_rises sections unit (first ∷ items) low high rise = kept_rise sections unit (base_of first.values) [] (first ∷ items) low high rise
 
--- the kept entries of a unit rise from its body on, up to its end
+-- The places of a unit's kept entries ascend from the end of its header up to its end.
 table_rises : (sections : DebugSections) (unit : Unit) (high : ℕ) (marks : List Mark) → unit.body ≤ high → MarksRise unit.body high marks → RisesTo (first_place sections.is_sup + unit.body) (first_place sections.is_sup + high) (table_places (table_of sections unit marks))
 unfolding table_of
 table_rises sections unit high marks inside rise =
@@ -150,6 +150,6 @@ places_rise sections unit abbrevs table ordered inside is =
     (subst (λ high. IfOk (list_at (next_mark abbrevs) c) (ListRises unit.body high)) last (marks_rise_in abbrevs (suc (length c.bytes)) c)) (λ marks rise. rise))
     (λ marks rise. table_rises sections unit unit.end marks ordered rise))
 
--- what stands ahead is the first and what stands after it
+-- The marks ahead are the first one and then the marks after it.
 pub marks_follow : (abbrevs : List Abbrev) (c : Ahead) → list_at (next_mark abbrevs) c ≡ list_cases (next_mark abbrevs) c
 marks_follow abbrevs c = list_follows (next_mark abbrevs) (next_goes abbrevs) c

@@ -1,4 +1,4 @@
--- For `flags_of` and `Head::with_rest`: each part of a head's flags is found again.
+-- Each part of a head's flags can be read back; for `flags_of` and `Head::with_rest`.
 use Rattle.std.proofs.Common.{◌≡◌, ◌<◌, ◌+◌, ◌*◌, ◌/◌, ◌%◌, ℕ, Bool, true, false, nat_eq, cond, refl, ap, ◌∙◌, arith}
 
 bit_is : (so : Bool) → nat_eq (cond so 1 0) 1 ≡ so

@@ -1,4 +1,5 @@
--- For `EntryList`: an entry more changes no other; and for `Walker::add`: a head says what the picks give.
+-- Adding an entry does not change the others, for `EntryList`; and the entry of a head is that of
+-- the picks, for `Walker::add`.
 use Rattle.std.proofs.Common.{◌≡◌, ◌+◌, ◌*◌, ◌/◌, ◌%◌, ◌<◌, ◌≤◌, ℕ, zero, suc, Bool, true, List, [], ◌∷◌, ◌++◌, length, map, drop, Option, None, Some, Result, Ok, Err, OnOk, IfOk, refl, sym, ap, ◌∙◌, arith, length-append, get_or}
 use Rattle.std.specs.List.{slice_get}
 use Rattle.std.proofs.Math.ListN.{drop_of_length-le}
@@ -18,7 +19,7 @@ use Rattle.sym_edges.specs.Rising.{StandBelow}
 pub drop_past : (place : ℕ) (bytes : List ℕ) → length bytes < place → [] ≡ drop place bytes
 drop_past place bytes past = sym (drop_of_length-le bytes (omega (arith, past)))
 
--- what stands in a list stays where more is added
+-- A member of a list stays at its index when members are added at the end.
 pub get_before : {X : Type 0} (xs ys : List X) (n : ℕ) → n < length xs → slice_get (xs ++ ys) n ≡ slice_get xs n
 get_before [] ys n there = absurd (omega arith)
 get_before (x ∷ xs) ys zero there = refl
@@ -28,7 +29,7 @@ pub get_last : {X : Type 0} (xs : List X) (x : X) → slice_get (xs ++ x ∷ [])
 get_last [] x = refl
 get_last (y ∷ xs) x = get_last xs x
 
--- what a head leads to stays where more is added
+-- The rest of a head stays the same when sites or wide entries are added.
 found_kept : {X : Type 0} (rest : ℕ) (head : Head) (xs more : List X) → (rest_of head ≡ rest → head.number < length xs) → found_in rest head (xs ++ more) ≡ found_in rest head xs
 found_kept rest head xs more there = grind (arith, nat_tests, get_before xs more head.number, there)
 
@@ -44,7 +45,7 @@ wides_kept homes sites wides more (head ∷ heads) there =
     ap (λ (wide : Option WideFields). held_by homes head (found_in 1 head sites) wide ∷ map (held_in homes sites (wides ++ more)) heads) (found_kept 2 head wides more there.0.1)
     ∙ ap (λ (later : List DieFields). held_in homes sites wides head ∷ later) (wides_kept homes sites wides more heads there.1)
 
--- a head with a rest says the same
+-- A head gives the same entry after its rest was added.
 slim_rest : (homes : Homes) (head : Head) (site : SiteFields) (rest number : ℕ) → slim homes (with_rest head rest number) site ≡ slim homes head site
 slim_rest homes head site rest number =
     let parent : (head.flags + 16 * rest) % 2 ≡ head.flags % 2 = omega arith in
@@ -58,7 +59,7 @@ found_here rest head xs is = grind (arith, nat_tests, is)
 found_none : {X : Type 0} (rest other : ℕ) (head : Head) (xs : List X) → rest_of head ≡ other → (other ≡ rest → ⊥) → found_in rest head xs ≡ None
 found_none rest other head xs is apart = grind (arith, nat_tests, is, apart)
 
--- an entry more
+-- One entry more.
 pub pushed_alone : (homes : Homes) (sites : List SiteFields) (wides : List WideFields) (heads : List Head) (head : Head) → head.flags < 16 → map (held_in homes sites wides) (heads ++ head ∷ []) ≡ map (held_in homes sites wides) heads ++ slim homes head no_site ∷ []
 pushed_alone homes sites wides heads head small =
     let none : rest_of head ≡ 0 = omega (arith, small) in
@@ -89,7 +90,7 @@ pushed_wide homes sites wides more heads longer head last wide number there smal
     (found_here 2 last (wides ++ wide ∷ []) rest ∙ ap (slice_get (wides ++ wide ∷ [])) place ∙ get_last wides wide)
     ∙ ap (λ (die : DieFields). map (held_in homes sites wides) heads ++ record die { tag = wide.tag; origin = wide.origin; spec = wide.spec } ∷ []) (ap (λ (h : Head). slim homes h wide.site) made ∙ slim_rest homes head wide.site 2 number)
 
--- what heads lead to is there
+-- The rest of each head is still in its list when the lists grow.
 wider : (sites more wides longer : ℕ) (head : Head) → IsThere sites wides head → sites ≤ more → wides ≤ longer → IsThere more longer head
 wider sites more wides longer head there up on = ((λ e. omega (arith, there.0 e, up)), (λ e. omega (arith, there.1 e, on)))
 
@@ -126,7 +127,7 @@ there_wide sites wides more heads longer head last wide number there small is ma
     rw (added, long) (there_more sites (length (wides ++ wide ∷ [])) heads last (more_wides sites wides heads wide there)
     ((λ e. absurd (omega (arith, e, rest))), (λ e. rw length-append (omega (arith, place)))))
 
--- places of entries are those of their heads
+-- The places of entries are those of their heads.
 abbrev held : Homes → List SiteFields → List WideFields → List Head → List DieFields
 held homes sites wides heads = map (held_in homes sites wides) heads
 
@@ -166,7 +167,7 @@ stand_held homes sites wides [] bound count stand = record {
 }
 stand_held homes sites wides (head ∷ heads) bound count stand = stand_some homes sites wides (head ∷ heads) head bound count stand
 
--- where a head says so, its entry is that of the picks
+-- A head that has the values of the picks gives the entry of the picks.
 slim_die : (sections : DebugSections) (unit : Unit) (base : Option ℕ) (tag : ℕ) (picks : PickFields) (head : Head) (parts : Parts)
     → IsWhole head parts tag → Says sections unit base picks parts → slim (homes_of sections) head (site_by picks) ≡ die_by sections unit base parts.frame.at parts.frame.parent tag picks
 unfolding die_by
@@ -198,7 +199,7 @@ broad_added before after tag picks head parts wide head_says made is sections un
     ∙ ap (λ (h : Homes). before.dies ++ broad h head (record { tag = tag; origin = parts.links.origin; spec = parts.links.spec; site = site_by picks }) ∷ []) homes
     ∙ ap (λ (die : DieFields). before.dies ++ die ∷ []) (broad_die sections unit base tag picks head parts head_says says)
 
--- a call that succeeded
+-- What holds after a call that succeeded.
 pub on_ok : {E : Type 0} {P Q : Type 0} (answer : Result (Prim.Unit {0}) E) → OnOk answer P → (P → Q) → OnOk answer Q
 on_ok (Ok done) is more = more is
 on_ok (Err fault) is more = tt

@@ -1,4 +1,5 @@
--- For `place_in` and `text_from`: a text whose end is not looked for yet.
+-- A text is stored by its place, and its end is found when it is read; for `place_in` and
+-- `text_from`.
 use Rattle.std.proofs.Common.{◌≡◌, ◌<◌, ◌≤◌, ◌+◌, ◌-◌, ℕ, nat_eq, nat_lt, Bool, true, false, cond, List, length, drop, get_or, Option, None, Some, unwrap_or, is_some, refl, sym, ap, ◌∙◌, arith, position, not, take, length-drop}
 use Rattle.std.specs.Option.{option_map}
 use Rattle.std.proofs.Math.ListN.{drop_of_length-le}
@@ -13,7 +14,7 @@ use Rattle.leb_cursor.specs.Readings.{text_at, text_by}
 use Rattle.abbrev_units.specs.Texts.{ahead_from, read_or_none, text_in}
 use Rattle.die_walk.specs.internal.Heads.{IsClosed, text_from}
 
--- the text at a place is the one in front of what stands there
+-- The text at a place is the text at the start of the bytes from there on.
 read_by : (c : Ahead) (text : Option (List ℕ)) → read_or_none (text_by c text) ≡ text
 read_by c (Some text) = refl
 read_by c None = refl
@@ -25,7 +26,7 @@ text_is bytes place = read_by (ahead_from place bytes) (front_text (drop place b
 pub front_of : (bytes : List ℕ) → text_in bytes 0 ≡ front_text bytes
 front_of bytes = text_is bytes 0
 
--- a zero byte ends a text
+-- In a section that ends with a zero byte each text is terminated.
 said : {A : Type 0} (x : Option A) (other : A) → is_some x ≡ true → x ≡ Some (unwrap_or x other)
 said (Some y) other there = refl
 said None other there = absurd (grind (arith, there))
@@ -62,7 +63,7 @@ pub open_text : (bytes : List ℕ) (place : ℕ) (said_so : Bool) → IsClosed s
 open_text bytes place said_so last is there =
     text_is bytes place ∙ said (front_text (drop place bytes)) (drop place bytes) (open_by bytes place said_so last is there)
 
--- a text that is there, and a place without one
+-- A place with a text, and a place without one.
 pub here_text : (bytes : List ℕ) (place : ℕ) (found : Bool) → found ≡ is_some (text_in bytes place) → found ≡ true → text_in bytes place ≡ text_from bytes place
 here_text bytes place found is so =
     text_is bytes place ∙ said (front_text (drop place bytes)) (drop place bytes) (ap is_some (sym (text_is bytes place)) ∙ sym is ∙ so)

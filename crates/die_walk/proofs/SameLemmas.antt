@@ -1,4 +1,4 @@
--- What is picked says what the list of values gives.
+-- The picks of an entry give the same attributes as the list of its values.
 use Rattle.std.proofs.Common.{◌≡◌, ◌+◌, ℕ, List, Option, None, Some, option_and_then, refl}
 use Rattle.abbrev_units.specs.declared.unit.Unit.{Unit}
 use Rattle.abbrev_units.specs.declared.value.Value.{Value}
@@ -12,7 +12,7 @@ use Rattle.die_walk.specs.EntryTable.{base_of, die_of, root_of}
 use Rattle.die_walk.specs.Picking.{text_by, base_by, die_by, root_by}
 use Rattle.die_walk.specs.Steps.{kept_at, root_at}
 
--- a value says the same through what a slot keeps of it
+-- A value gives the same attributes after a slot has kept it.
 record Same (sections : DebugSections) (unit : Unit) (base : Option ℕ) (x : Option Value) : Type 0 where
   said : option_and_then as_flag (option_and_then as_said x) ≡ option_and_then as_flag x
   link : option_and_then (as_reference sections unit) (option_and_then as_link x) ≡ option_and_then (as_reference sections unit) x

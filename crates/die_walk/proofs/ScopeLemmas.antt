@@ -1,4 +1,4 @@
--- The nearest scope around an entry, parent by parent.
+-- The nearest scope around an entry is found by going from parent to parent.
 use Rattle.std.proofs.Common.{◌≡◌, if◌then◌else◌, ◌<◌, ◌≤◌, ◌++◌, ℕ, zero, suc, true, false, List, [], ◌∷◌, length, Option, None, Some, option_and_then, refl, sym, ap, ◌∙◌, arith, ⊎_elim, length-append}
 use Rattle.std.specs.List.{slice_get}
 use Rattle.std.proofs.lemmas.Bool.{cond-true, cond-false, ne_eqb, cases_lt}
@@ -54,7 +54,7 @@ ends_known dies near limit number d next whole known are there to below is says 
     ∙ ap (option_and_then (λ (die : DieFields). scope_around dies number die.parent)) (sym is)
     ∙ goes_on dies limit number d next d.parent whole to below is says rest refl
 
--- the entry of a number
+-- The nearest scope around the entry at an index.
 pub of_entry : (dies : List DieFields) (entry : ℕ) (d : DieFields) (found parent : Option ℕ) → Some d ≡ slice_get dies entry → parent ≡ d.parent → found ≡ scope_around dies entry parent → found ≡ scope_of dies entry
 of_entry dies entry d found parent is from same =
     same ∙ ap (scope_around dies entry) from ∙ ap (option_and_then (λ (die : DieFields). scope_around dies entry die.parent)) is
@@ -62,7 +62,7 @@ of_entry dies entry d found parent is from same =
 pub of_none : (dies : List DieFields) (entry : ℕ) → None ≡ slice_get dies entry → None ≡ scope_of dies entry
 of_none dies entry is = ap (option_and_then (λ (die : DieFields). scope_around dies entry die.parent)) is
 
--- a list that says the scopes of the first entries
+-- A list of the nearest scopes around the first entries: the empty list, and one more member.
 pub near_none : (dies : List DieFields) → AreNear dies []
 near_none dies entry said got = absurd (omega (arith, slice_get_within [] entry said got))
 

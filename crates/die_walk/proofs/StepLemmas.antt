@@ -1,4 +1,4 @@
--- Steps of the walk.
+-- The steps of the walk.
 use Rattle.std.proofs.Common.{◌≡◌, ◌+◌, ◌-◌, ◌<◌, ◌≤◌, ◌^◌, Some, ℕ, Option, Bool, true, false, ◌||◌, nat_eq, cond, List, [], ◌∷◌, ◌++◌, length, length-append, Result, Ok, Err, OnOk, refl, sym, ap, ◌∙◌, arith}
 use Rattle.std.proofs.lemmas.Bool.{cond-true, cond-false}
 use Rattle.std.proofs.lemmas.Bool.Decides.{nat_tests}
@@ -24,12 +24,12 @@ use Rattle.abbrev_units.proofs.OkLemmas.{value_or, ahead_or}
 use Rattle.die_walk.proofs.SameLemmas.{base_same, die_same, root_same}
 use Rattle.die_walk.specs.Steps.{Walked, innermost, kept_at, keeps, begun, begun_by, added, added_by, entered, entered_by, opened, own_number, moved, entering, entered_at, moving, moved_at, Moves}
 
--- a member after none
+-- A member that is added to an empty list.
 pub first_alone : {X : Type 0} (xs : List X) (x : X) → length xs ≡ 0 → xs ++ x ∷ [] ≡ x ∷ []
 first_alone [] x none = refl
 first_alone (y ∷ xs) x none = absurd (grind (arith, none))
 
--- an entry that is not kept leaves all as it is, whatever its values
+-- An entry that is not kept does not change the state.
 unkept : (sections : DebugSections) (unit : Unit) (w : Walked) (at tag : ℕ) (values : List Given) (first kept : Bool) → nat_eq (length w.dies) 0 ≡ first → is_kept_tag tag ≡ kept → (first || kept) ≡ false → entered sections unit w at tag values ≡ w
 unfolding entered
 unkept sections unit w at tag values first kept one two none = grind (arith, nat_tests, one, two, none)
@@ -57,7 +57,7 @@ pub passed_by : (sections : DebugSections) (unit : Unit) (w : Walked) (at : ℕ)
 passed_by sections unit w at found c d later unkept_tag is =
     passed_over sections unit w at found c d (ap (λ b. b || is_kept_tag found.tag) later ∙ unkept_tag) (sym is)
 
--- what is picked is what the list of values gives
+-- The state that the picks give is the state that the list of values gives.
 entered_same : (sections : DebugSections) (unit : Unit) (w : Walked) (at tag : ℕ) (values : List Given) → entered_by sections unit w at tag (picks_of values) ≡ entered sections unit w at tag values
 unfolding entered_by entered
 entered_same sections unit w at tag values =
@@ -67,7 +67,7 @@ entered_same sections unit w at tag values =
     let later = die_same sections unit w.root.str_offsets_base at (innermost w.open_levels) tag values in
     cc
 
--- the first entry, once the root is known
+-- The first entry, after the root was made.
 pub begun_is : {E : Type 0} (answer : Result (Prim.Unit {0}) E) (sections : DebugSections) (unit : Unit) (w v : Walked) (root : RootFields) (at tag : ℕ) (picks : PickFields) → length w.dies ≡ 0 → root ≡ root_by sections unit at picks → OnOk answer (v ≡ added_by sections unit (record w { root = root }) at tag picks) → OnOk answer (v ≡ begun_by sections unit w at tag picks)
 unfolding root_by
 begun_is (Err fault) sections unit w v root at tag picks none is added = tt
@@ -101,7 +101,7 @@ unfolding entered_at read_values_at picks_at
 taken_refused sections unit w at found c fault read =
     taken_refused_by sections unit w at found (values_at found.specs c) fault (sym read)
 
--- with the list of its children
+-- An entry, after the list of its children was opened.
 moved_by : (sections : DebugSections) (unit : Unit) (w v x : Walked) (at : ℕ) (found : Abbrev) (own : Option ℕ) (reading : Result (List Given × Ahead) (Located DwarfKind)) (d : Ahead) → (reading >>= entering sections unit w at found.tag) ≡ Ok (v, d) → own ≡ own_number w found.tag → x ≡ opened v found.children own → (reading >>= moving sections unit w at found) ≡ Ok (x, d)
 unfolding moved
 moved_by sections unit w v x at found own (Ok values) d is number after =
@@ -130,7 +130,7 @@ unfolding entered_at moved_at
 moved_refused sections unit w v at found (Fault fault) c d is = moved_refused_by sections unit w at found (read_values_at found.specs c) fault is
 moved_refused sections unit w v at found NoMemory c d is = tt
 
--- what an entry adds
+-- How many kept entries an entry adds.
 pub record Grows (w v : Walked) (tag : ℕ) : Type 0 where
   pub dies : length v.dies ≡ length w.dies + cond (keeps w tag) 1 0
   pub levels : v.open_levels ≡ w.open_levels

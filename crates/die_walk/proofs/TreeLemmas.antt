@@ -1,4 +1,4 @@
--- The table as it grows is the table of the tree.
+-- The table that the walk makes is the table that the tree defines.
 use Rattle.std.proofs.Common.{◌≡◌, ◌<◌, ◌≤◌, ◌+◌, ◌-◌, ℕ, zero, suc, Bool, true, false, nat_eq, cond, List, [], ◌∷◌, ◌++◌, length, take, map, get_or, Option, None, Some, refl, sym, ap, subst, ◌∙◌, arith, append_assoc, append-nil, get_or-take, length-take-le, length-append}
 use Rattle.std.proofs.lemmas.List.{get_or_append_left}
 use Rattle.std.proofs.Math.Seq.{get_or-append_seam}
@@ -13,13 +13,14 @@ use Rattle.die_walk.specs.EntryTree.{Item, items_from, kept_count, ancestor, kep
 use Rattle.die_walk.specs.EntryTable.{DieFields, RootFields, EntryTable, base_of, die_of, root_of, table_by, table_of}
 use Rattle.die_walk.specs.Steps.{Owned, Walked, kept_at, innermost, begun, added, entered, opened, own_number, moved, all_moved, rounded, table_in}
 
--- a state holds the kept ones among earlier entries, and around what comes next so many lists are open
+-- A state has the kept ones among the earlier entries, and as many open lists as the depth of the
+-- next entry.
 pub record Holds (w : Walked) (earlier : List Item) (depth : ℕ) : Type 0 where
   pub count : length w.dies ≡ kept_count earlier
   pub levels : length w.open_levels ≡ depth
   pub each : (k : ℕ) → k < depth → get_or w.open_levels k None ≡ ancestor (k + 1) earlier
 
--- no entry is around the outermost ones
+-- An entry at the outermost level has no ancestor.
 ancestor_none : (earlier : List Item) → ancestor 0 earlier ≡ None
 unfolding ancestor
 ancestor_none [] = refl
@@ -31,13 +32,13 @@ inner_by [] (suc d) earlier same each = absurd (omega (arith, same))
 inner_by (x ∷ levels) zero earlier same each = absurd (omega (arith, same))
 inner_by (x ∷ levels) (suc d) earlier same each = grind (arith, same, each d (omega arith))
 
--- the first entry is always kept
+-- The first entry is always kept.
 kept_some : (item : Item) (earlier : List Item) → 1 ≤ kept_count (item ∷ earlier)
 unfolding kept_count
 kept_some item [] = omega arith
 kept_some item (before ∷ earlier) = omega (arith, kept_some before earlier)
 
--- a list of children is closed
+-- The end of a list of children.
 close_holds : (w x : Walked) (earlier : List Item) (depth : ℕ) → Holds w earlier depth → x ≡ record w { open_levels = take (length w.open_levels - 1) w.open_levels } → Holds x earlier (depth - 1)
 close_holds w x earlier depth holds is =
     subst (λ (y : Walked). Holds y earlier (depth - 1)) (sym is) (record {
@@ -46,7 +47,7 @@ close_holds w x earlier depth holds is =
       each = λ k below. get_or-take (length w.open_levels - 1) w.open_levels k None (omega (arith, below, holds.levels)) ∙ holds.each k (omega (arith, below));
     })
 
--- an entry is taken in, kept or not, with children or without
+-- An entry that is added, kept or not, with children or without.
 levels_kept : (w : Walked) (item : Item) (earlier : List Item) (depth : ℕ) → Holds w earlier depth → item.depth ≡ depth → (k : ℕ) → k < depth → get_or w.open_levels k None ≡ ancestor (k + 1) (item ∷ earlier)
 unfolding ancestor
 levels_kept w item earlier depth holds same k below = grind (arith, nat_tests, same, holds.each k below)
@@ -56,12 +57,12 @@ unfolding ancestor
 own_is w item before earlier depth kept holds same is =
     grind (arith, nat_tests, holds.count, same, is, inner_by w.open_levels depth (before ∷ earlier) holds.levels holds.each)
 
--- the lists of children that are open, with one more
+-- The open lists of children, after one more was opened.
 opened_each : (w v : Walked) (item before : Item) (earlier : List Item) (depth : ℕ) (own : Option ℕ) → Holds w (before ∷ earlier) depth → item.depth ≡ depth → v.open_levels ≡ w.open_levels → own ≡ ancestor (depth + 1) (item ∷ before ∷ earlier) → (k : ℕ) → k ≤ depth → (last : Bool) → nat_eq k depth ≡ last → get_or (v.open_levels ++ own ∷ []) k None ≡ ancestor (k + 1) (item ∷ before ∷ earlier)
 opened_each w v item before earlier depth own holds same levels number k below last is =
     grind (arith, nat_tests, is, below, levels, ap length levels, holds.levels, number, get_or-append_seam v.open_levels own [] None, get_or_append_left v.open_levels (own ∷ []) None k, levels_kept w item (before ∷ earlier) depth holds same k)
 
--- the same kept entries, and one list of children more
+-- The state after one more list of children was opened.
 opened_holds : (w v : Walked) (item before : Item) (earlier : List Item) (depth : ℕ) (own : Option ℕ) → Holds w (before ∷ earlier) depth → item.depth ≡ depth → v.open_levels ≡ w.open_levels → length v.dies ≡ kept_count (item ∷ before ∷ earlier) → own ≡ ancestor (depth + 1) (item ∷ before ∷ earlier) → Holds (record v { open_levels = v.open_levels ++ own ∷ [] }) (item ∷ before ∷ earlier) (depth + 1)
 opened_holds w v item before earlier depth own holds same levels count number =
     let long : length v.open_levels ≡ depth = ap length levels ∙ holds.levels in
@@ -82,12 +83,12 @@ either_holds : (w v : Walked) (item before : Item) (earlier : List Item) (depth 
 either_holds w v item before earlier depth own true holds same levels count number = opened_holds w v item before earlier depth own holds same levels count number
 either_holds w v item before earlier depth own false holds same levels count number = plain_holds w v item before earlier depth holds same levels count
 
--- a kept entry by its parent, which is the innermost kept one around it
+-- A kept entry, whose parent is the innermost kept entry around it.
 die_is : (sections : DebugSections) (unit : Unit) (base : Option ℕ) (at depth tag : ℕ) (values : List Given) (inner around : Option ℕ) → inner ≡ around → die_of sections unit base (kept_at at inner tag values) ≡ die_of sections unit base (record { item = record { at = at; depth = depth; tag = tag; values = values }; parent = around })
 unfolding die_of
 die_is sections unit base at depth tag values inner around same = ap (λ p. die_of sections unit base (kept_at at p tag values)) same
 
--- after the first entry, one more
+-- One entry more, after the first.
 entered_is : (sections : DebugSections) (unit : Unit) (w : Walked) (at tag : ℕ) (values : List Given) (kept : Bool) → 1 ≤ length w.dies → is_kept_tag tag ≡ kept → entered sections unit w at tag values ≡ cond kept (added sections unit w at tag values) w
 unfolding entered
 entered_is sections unit w at tag values kept some is = grind (arith, nat_tests, some, is)
@@ -95,14 +96,14 @@ entered_is sections unit w at tag values kept some is = grind (arith, nat_tests,
 number_is : (w : Walked) (tag : ℕ) (kept : Bool) → 1 ≤ length w.dies → is_kept_tag tag ≡ kept → own_number w tag ≡ cond kept (Some (length w.dies)) (innermost w.open_levels)
 number_is w tag kept some is = grind (arith, nat_tests, is, some)
 
--- the table after a state: what it has, and the kept ones of the entries to come
+-- The table that a state gives, with the kept ones among the entries that follow.
 abbrev pub behind_state : DebugSections → Unit → Walked → List Item → List Item → EntryTable
 behind_state sections unit w earlier items = record {
   root = w.root;
   dies = w.dies ++ map (die_of sections unit w.root.str_offsets_base) (kept_from earlier items);
 }
 
--- one entry more in a state, against one entry in the tree
+-- One entry more in a state is one entry more in the tree.
 taken_is : (sections : DebugSections) (unit : Unit) (w : Walked) (item before : Item) (earlier items : List Item) (kept : Bool) → is_kept_tag item.tag ≡ kept → innermost w.open_levels ≡ ancestor item.depth (before ∷ earlier) → behind_state sections unit (cond kept (added sections unit w item.at item.tag item.values) w) (item ∷ before ∷ earlier) items ≡ behind_state sections unit w (before ∷ earlier) (item ∷ items)
 unfolding kept_from die_of
 taken_is sections unit w item before earlier items true is inner =
@@ -130,7 +131,7 @@ opened_table : (sections : DebugSections) (unit : Unit) (v : Walked) (children :
 opened_table sections unit v true own earlier items = refl
 opened_table sections unit v false own earlier items = refl
 
--- the whole walk after the first entry
+-- The whole walk after the first entry.
 pub run_is : (sections : DebugSections) (unit : Unit) (marks : List Mark) (w : Walked) (before : Item) (earlier : List Item) (depth : ℕ) → Holds w (before ∷ earlier) depth → table_in (all_moved sections unit w marks) ≡ behind_state sections unit w (before ∷ earlier) (items_from depth marks)
 unfolding all_moved moved items_from kept_from
 run_is sections unit [] w before earlier depth holds = ap (λ (dies : List DieFields). record { root = w.root; dies = dies }) (sym (append-nil w.dies))
@@ -148,7 +149,7 @@ run_is sections unit (Entry at tag children values ∷ marks) w before earlier d
     ∙ opened_table sections unit v children (own_number w tag) (item ∷ before ∷ earlier) (items_from (cond children (depth + 1) depth) marks)
     ∙ taken_is sections unit w item before earlier (items_from (cond children (depth + 1) depth) marks) (is_kept_tag tag) refl inner
 
--- a walk begins with nothing
+-- The state in which a walk begins.
 abbrev pub started : RootFields → Owned → Walked
 started root own = record { dies = []; root = root; open_levels = []; own = own }
 
@@ -175,7 +176,7 @@ unfolding kept_from ancestor die_of root_of
 first_table sections unit root own at tag values true items = refl
 first_table sections unit root own at tag values false items = refl
 
--- the whole walk
+-- The whole walk.
 pub start_is : (sections : DebugSections) (unit : Unit) (marks : List Mark) (root : RootFields) (own : Owned) → table_in (rounded sections unit (all_moved sections unit (started root own) marks)) ≡ table_of sections unit marks
 unfolding all_moved moved entered rounded items_from kept_from ancestor die_of root_of table_of
 start_is sections unit [] root own = refl
@@ -191,7 +192,7 @@ start_is sections unit (Entry at tag children values ∷ marks) root own =
     ∙ whole
     ∙ first_table sections unit root own at tag values children items
 
--- a mark adds one kept entry at most
+-- A mark adds at most one kept entry.
 pub moved_few : (sections : DebugSections) (unit : Unit) (w : Walked) (mark : Mark) → length (moved sections unit w mark).dies ≤ length w.dies + 1
 unfolding moved entered
 moved_few sections unit w Close = omega arith

@@ -33,7 +33,7 @@ use Rattle.abbrev_units.proofs.OkLemmas.{ahead_or}
 use Rattle.die_walk.proofs.TreeLemmas.{start_is, moved_few}
 use Rattle.die_walk.specs.Steps.{Walked, entered, moved, all_moved, rounded, table_in, walked_from, moving, moved_at, step_at, Steps, Moves, IsShort, TableOf}
 
--- how far a mark goes
+-- How many bytes a mark passes.
 entry_passes : {A : Type 0} (reading : Result (A × Ahead) FormFault) (least : ℕ) (c : Ahead) → Passes least c reading → Passes least c (in_entry reading)
 entry_passes (Ok x) least c goes = goes
 entry_passes (Err fault) least c goes = tt
@@ -67,7 +67,7 @@ pub next_goes : (abbrevs : List Abbrev) (c : Ahead) → GoesOn c (next_mark abbr
 unfolding next_mark
 next_goes abbrevs c = next_by abbrevs (nat_eq (length c.bytes) 0) c
 
--- a step of the walk from the next mark
+-- A step of the walk, given the next mark.
 abbrev pub stepping : DebugSections → Unit → Walked → Option Mark × Ahead → Result (Option Walked × Ahead) (Located DwarfKind)
 stepping sections unit w next = Ok (option_map (moved sections unit w) next.0, next.1)
 
@@ -108,7 +108,7 @@ step_unknown sections unit abbrevs w code c d left read some none =
     made_step sections unit abbrevs w c (Err (record { kind = is.NoAbbrev; section = Info; at = c.at }))
     (next_is abbrevs c (Err (record { kind = is.NoAbbrev; section = Info; at = c.at })) left (entry_mark abbrevs code c d None read some none))
 
--- the parts of an entry's step
+-- The parts of the step that reads an entry.
 abbrev as_entry : ℕ → Abbrev → List Given × Ahead → Result (Mark × Ahead) (Located DwarfKind)
 as_entry at found values = Ok (Entry at found.tag found.children values.0, values.1)
 
@@ -139,13 +139,13 @@ step_stopped sections unit abbrevs w v x code at found (Fault fault) c d e f lef
     ∙ ap (λ r. r >>= as_walked) (ap (λ n. moved_at sections unit w n found d) (sym here) ∙ moves)
 step_stopped sections unit abbrevs w v x code at found NoMemory c d e f left read some is here moves = tt
 
--- what a step answers
+-- The state and the place that a step gives.
 abbrev step_walked : Walked → Result (Option Walked × Ahead) (Located DwarfKind) → Walked
 step_walked other (Ok (Some x, c)) = x
 step_walked other (Ok (None, c)) = other
 step_walked other (Err fault) = other
 
--- the walk from a state: after a step, at the end of the unit, and where a step is refused
+-- The result of the walk from a state: after a step, at the end of the unit, and after a fault.
 abbrev finishing : DebugSections → Unit → Walked → List Mark × Ahead → Result EntryTable (Located DwarfKind)
 finishing sections unit w marks = Ok (table_in (rounded sections unit (all_moved sections unit w marks.0)))
 
@@ -210,7 +210,7 @@ walked_stopped sections unit abbrevs w x c d (Fault fault) want so_far steps =
     sym so_far ∙ refused_by sections unit abbrevs w c fault (next_mark abbrevs c) refl steps
 walked_stopped sections unit abbrevs w x c d NoMemory want so_far steps = tt
 
--- no step changes what is walked over
+-- No step changes the sections and the unit.
 moved_own : (sections : DebugSections) (unit : Unit) (w : Walked) (mark : Mark) → (moved sections unit w mark).own ≡ w.own
 unfolding moved entered
 moved_own sections unit w Close = refl
@@ -227,7 +227,7 @@ pub step_own : (sections : DebugSections) (unit : Unit) (abbrevs : List Abbrev) 
 unfolding step_at
 step_own sections unit abbrevs w x c d steps = own_by sections unit w x d (next_mark abbrevs c) steps
 
--- places stay small, and fewer bytes are left after a step
+-- Places stay below the limit, and fewer bytes are left after a step.
 short_by : (sections : DebugSections) (unit : Unit) (w x : Walked) (c d : Ahead) (next : Result (Option Mark × Ahead) (Located DwarfKind)) → GoesOn c next → (next >>= stepping sections unit w) ≡ Ok (Some x, d) → IsShort (length w.dies) c → IsShort (length x.dies) d × (length d.bytes < length c.bytes)
 short_by sections unit w x c d (Ok (Some mark, e)) goes steps short =
     let there : e ≡ d = ap (ahead_or d) steps in
@@ -254,7 +254,7 @@ start_by sections unit w (Ok marks) dies levels =
     ∙ start_is sections unit marks w.root w.own)
 start_by sections unit w (Err fault) dies levels = refl
 
--- the walk begins where the entries of the unit begin
+-- The walk begins where the entries of the unit begin.
 pub walked_start : (sections : DebugSections) (unit : Unit) (abbrevs : List Abbrev) (w : Walked) (c : Ahead) → w.dies ≡ [] → w.open_levels ≡ [] → c ≡ entries_ahead sections unit → walked_from sections unit abbrevs w c ≡ entry_table sections unit abbrevs
 unfolding walked_from entry_table
 walked_start sections unit abbrevs w c dies levels start =

@@ -1,4 +1,5 @@
--- Worked rows: the attributes of entries by their classes (DWARF 5, 7.5.4 and table 7.5).
+-- Worked examples: the attributes of entries, by the classes of their values (DWARF 5, 7.5.4 and
+-- table 7.5).
 use Rattle.std.proofs.Common.{◌≡◌, ℕ, true, false, pos, negsuc, List, [], ◌∷◌, Some, None, codes, rules}
 use Rattle.sym_edges.proofs.Hex.{hex}
 use Rattle.abbrev_units.specs.declared.unit.Unit.{Unit}
@@ -32,14 +33,15 @@ unit = record { start = 0x20; body = 0x2b; end = 0x40; version = 4; abbrev_at = 
 abbrev given : ℕ → Value → Given
 given attribute value = record { attribute = attribute; value = value }
 
--- an entry with these values, in a unit whose texts are numbered from 4 on, and a root
+-- An entry with these values, in a unit whose str_offsets_base is 4; and a root.
 unfoldable die : List Given → DieFields
 die values = die_of sections unit (Some 4) (record { item = record { at = 0x2b; depth = 0; tag = 0x2e; values = values }; parent = None })
 
 unfoldable root : List Given → RootFields
 root values = root_of sections unit (record { at = 0x2b; depth = 0; tag = 0x11; values = values })
 
--- the same in a file whose supplementary file has the texts `xy` and `z`, of which the last is cut, and in a supplementary file
+-- The same in a file whose supplementary file has the texts `xy` and `z`, of which the last is cut
+-- off; and in a supplementary file.
 unfoldable with_sup : DebugSections
 unfolding hex sections
 with_sup = record sections { sup_strs = Some (hex "7879 00 7a") }
@@ -50,7 +52,8 @@ die_with_sup values = die_of with_sup unit (Some 4) (record { item = record { at
 unfoldable die_in_sup : List Given → DieFields
 die_in_sup values = die_of (record sections { is_sup = true }) unit (Some 4) (record { item = record { at = 0x2b; depth = 0; tag = 0x2e; values = values }; parent = None })
 
--- each attribute in each of its classes, in another, and twice: the first counts
+-- Each attribute with a value of each of its classes, with a value of another class, and twice,
+-- when the first value counts.
 record Attributes : Type 0 where
   low : (die (given 0x11 (value.Addr 0x1000) ∷ [])).low ≡ Some (value.Addr 0x1000)
   low_by_number : (die (given 0x11 (value.AddrIndex 3) ∷ [])).low ≡ Some (value.AddrIndex 3)
@@ -66,11 +69,11 @@ record Attributes : Type 0 where
   ranges_num : (die (given 0x55 (value.Num 3) ∷ [])).ranges ≡ Some (value.Num 3)
   ranges_listindex : (die (given 0x55 (value.ListIndex 3) ∷ [])).ranges ≡ Some (value.ListIndex 3)
   ranges_of_another_class : (die (given 0x55 (value.Signed (pos 3)) ∷ [])).ranges ≡ None
-  -- references count from the start of the unit, which is 20, or from that of the section
+  -- References count from the start of the unit, which is 20, or from the start of the section.
   origin : (die (given 0x31 (value.UnitRef 0xb) ∷ [])).origin ≡ Some 0x2b
   origin_in_the_section : (die (given 0x31 (value.InfoRef 0xb) ∷ [])).origin ≡ Some 0xb
   origin_beyond_u64 : (die (given 0x31 (value.UnitRef 0xffffffffffffffe0) ∷ [])).origin ≡ None
-  -- a file has 2^29 bytes at most: what leads past them leads to no entry
+  -- A file has at most 2^29 bytes, so a reference beyond that leads to no entry.
   past_the_file : (die (given 0x31 (value.UnitRef 0xffffffffffffffdf) ∷ [])).origin ≡ Some 0x80000000
   the_last_place : (die (given 0x31 (value.InfoRef 0x1fffffff) ∷ [])).origin ≡ Some 0x1fffffff
   behind_the_last_place : (die (given 0x31 (value.InfoRef 0x20000000) ∷ [])).origin ≡ Some 0x80000000
@@ -90,7 +93,7 @@ record Attributes : Type 0 where
   no_text_elsewhere : (die (given 0x03 (value.SupStrAt 0) ∷ [])).name ≡ None
   name_here : (die (given 0x03 (value.StrAt 0) ∷ given 0x03 (value.SupStrAt 0) ∷ [])).name_elsewhere ≡ false
   no_name_at_all : (die (given 0x6e (value.SupStrAt 0) ∷ [])).name_elsewhere ≡ false
-  -- a linkage name, or else the older one
+  -- The linkage name, or else the older attribute.
   linkage : (die (given 0x6e (value.StrAt 0) ∷ [])).linkage ≡ Some (codes "ab")
   linkage_by_the_older_name : (die (given 0x2007 (value.StrAt 3) ∷ [])).linkage ≡ Some (codes "cd")
   linkage_by_both : (die (given 0x2007 (value.StrAt 3) ∷ given 0x6e (value.StrAt 0) ∷ [])).linkage ≡ Some (codes "ab")
@@ -108,7 +111,7 @@ attributes : Attributes
 unfolding die_walk_computes die unit sections
 attributes = search rules
 
--- what the root says
+-- The attributes of the root.
 record Roots : Type 0 where
   root_low : (root (given 0x11 (value.Addr 0x1000) ∷ [])).low ≡ Some (value.Addr 0x1000)
   line_table : (root (given 0x10 (value.SecOffset 5) ∷ [])).stmt_list ≡ Some 5
@@ -124,7 +127,8 @@ roots : Roots
 unfolding die_walk_computes root unit sections
 roots = search rules
 
--- references into a supplementary file: one that was not read, one that was, and what is not in it; the supplementary file has none itself
+-- References into a supplementary file that was not read, and into one that was read; a
+-- supplementary file has none itself.
 record Supplements : Type 0 where
   sup_reference_alone : (die (given 0x31 (value.SupRefAt 0x10) ∷ [])).origin ≡ None
   sup_reference : (die_with_sup (given 0x31 (value.SupRefAt 0x10) ∷ [])).origin ≡ Some 0x20000010
@@ -134,10 +138,10 @@ record Supplements : Type 0 where
   own_reference_with_sup : (die_with_sup (given 0x31 (value.UnitRef 0x10) ∷ [])).origin ≡ Some 0x30
   sup_reference_in_sup : (die_in_sup (given 0x31 (value.SupRefAt 0x10) ∷ [])).origin ≡ None
   own_reference_in_sup : (die_in_sup (given 0x31 (value.UnitRef 0x10) ∷ [])).origin ≡ Some 0x20000030
-  -- places are counted through both files
+  -- Places are counted through the file and its supplementary file.
   place_in_sup : (die_in_sup []).at ≡ 0x2000002b
   place_with_sup : (die_with_sup []).at ≡ 0x2b
-  -- names in a supplementary file that was read
+  -- Names in a supplementary file that was read.
   sup_name : (die_with_sup (given 0x03 (value.SupStrAt 1) ∷ [])).name ≡ Some (codes "y")
   sup_name_is_here : (die_with_sup (given 0x03 (value.SupStrAt 1) ∷ [])).name_elsewhere ≡ false
   sup_name_cut : (die_with_sup (given 0x03 (value.SupStrAt 3) ∷ [])).name ≡ None

@@ -2,7 +2,7 @@
 use Rattle.std.specs.Prelude.{◌==◌, ◌&&◌, ◌||◌, not, Bool}
 use Rattle.die_walk.specs.EntryTable.{DieFields}
 
--- a function that is not only declared (DWARF 5, 3.3): DW_TAG_subprogram
+-- a function: an entry with DW_TAG_subprogram that is not a declaration (DWARF 5, 3.3)
 unfoldable pub is_function : DieFields → Bool
 is_function die = die.tag == 0x2e && not die.declaration
 
@@ -10,7 +10,7 @@ is_function die = die.tag == 0x2e && not die.declaration
 unfoldable pub is_inlined : DieFields → Bool
 is_inlined die = die.tag == 0x1d
 
--- whether the addresses of the entry count
+-- whether the addresses of the entry count: it is a function or an inlined copy
 unfoldable pub counts : DieFields → Bool
 counts die = is_function die || is_inlined die
 

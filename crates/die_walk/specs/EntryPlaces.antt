@@ -1,4 +1,4 @@
--- Where entries are in their unit (DWARF 5, 7.5.2): one after another.
+-- The places of the entries of a unit, which ascend (DWARF 5, 7.5.2).
 use Rattle.std.specs.Prelude.{ℕ, ◌+◌, ◌≤◌, List, [], ◌∷◌, map}
 use Rattle.die_walk.specs.EntryTable.{DieFields, EntryTable}
 

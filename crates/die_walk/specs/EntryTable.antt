@@ -13,8 +13,9 @@ use Rattle.die_walk.specs.Marks.{Mark, marks_at}
 use Rattle.die_walk.specs.EntryTree.{Item, Kept, items_from, kept_from, rooted}
 use Rattle.abbrev_units.specs.Attributes.{first_of, picked, as_low, as_high, as_ranges, as_place, as_reference, as_flag, as_number, is_elsewhere, is_yes, line_of, or_else, text_in_entry}
 
--- a kept entry. `at` is its place, counted through both files; `parent` is the index of its nearest kept ancestor; `name_elsewhere` says that its
--- name is in a supplementary file that was not read
+-- a kept entry. `at` is its place, counted through the file and its supplementary file; `parent` is
+-- the index of its nearest kept ancestor; `name_elsewhere` says that its name is in a supplementary
+-- file that was not read
 pub record DieFields : Type 0 where
   pub at : ℕ
   pub tag : ℕ

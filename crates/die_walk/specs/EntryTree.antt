@@ -12,16 +12,18 @@ pub record Item : Type 0 where
   pub tag : ℕ
   pub values : List Given
 
--- the entries that marks give, with their depths, from the depth `depth` on. The children of an entry are one level deeper than the entry, up to the
--- end of their list. At the outermost level such an end changes nothing
+-- the entries that marks give, with their depths, from the depth `depth` on. The children of an
+-- entry are one level deeper than the entry, up to the end of their list. At the outermost level
+-- the end of a list changes nothing
 unfoldable pub items_from : ℕ → List Mark → List Item
 items_from depth [] = []
 items_from depth (Close ∷ marks) = items_from (depth - 1) marks
 items_from depth (Entry at tag children values ∷ marks) =
     record { at = at; depth = depth; tag = tag; values = values } ∷ items_from (if children then depth + 1 else depth) marks
 
--- whether an entry is kept: the root, which is the first of its unit, always; any other by its tag. `earlier` are the entries before it, the last one
--- first
+-- whether an entry is kept. The root, which is the first entry of its unit, is always kept; any
+-- other entry is kept by its tag. `earlier` are the entries before it, from the last one back to
+-- the first
 abbrev pub is_kept : Item → List Item → Bool
 is_kept item [] = true
 is_kept item (before ∷ earlier) = is_kept_tag item.tag

@@ -45,7 +45,7 @@ entry_by (Some found) at c =
 unfoldable pub mark_by : List Abbrev → ℕ → ℕ → Ahead → Result (Mark × Ahead) (Located DwarfKind)
 mark_by abbrevs at code c = if code == 0 then Ok (Close, c) else entry_by (abbrev_of code abbrevs) at c
 
--- the next mark: its code comes first
+-- the next mark, which begins with its code
 unfoldable pub mark_at : List Abbrev → Ahead → Result (Mark × Ahead) (Located DwarfKind)
 mark_at abbrevs c = read_in Info (uleb_at c) >>= λ code. mark_by abbrevs c.at code.0 code.1
 

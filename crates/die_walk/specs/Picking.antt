@@ -1,4 +1,4 @@
--- Kept entries and roots, from picks. No public clause cites this module.
+-- Kept entries and roots, made from picks. No public clause cites this module.
 use Rattle.std.specs.Prelude.{ℕ, if◌then◌else◌, List, Option, None, option_and_then}
 use Rattle.abbrev_units.specs.declared.value.Value.{Value}
 use Rattle.abbrev_units.specs.declared.unit.Unit.{Unit}

@@ -5,7 +5,8 @@ use Rattle.std.specs.Option.{option_map_or}
 use Rattle.die_walk.specs.EntryTable.{DieFields}
 use Rattle.die_walk.specs.EntryKinds.{is_scope}
 
--- the nearest scope around an entry with this parent. Scopes come before the entries in them, so only the first `number` entries are searched
+-- the nearest scope around an entry whose parent has the index `parent`. Scopes come before the
+-- entries in them, so only the first `number` entries are searched
 unfoldable pub scope_around : List DieFields → ℕ → Option ℕ → Option ℕ
 scope_around dies zero parent = None
 scope_around dies (suc number) parent =

@@ -1,4 +1,5 @@
--- The table as it grows, mark by mark. No public clause cites this module.
+-- The table of a unit's entries, as a walk makes it mark by mark. No public clause cites this
+-- module.
 use Rattle.std.specs.Prelude.{◌≡◌, ℕ, ◌+◌, ◌-◌, ◌≤◌, ◌==◌, ◌||◌, ◌^◌, Bool, if◌then◌else◌, List, [], ◌∷◌, ◌++◌, length, take, get_or, Option, None, Some, Result, Ok, Err}
 use Rattle.std.specs.Option.{option_map}
 use Rattle.sym_edges.specs.Results.{◌>>=◌}
@@ -19,7 +20,7 @@ use Rattle.abbrev_units.specs.Picks.{PickFields}
 use Rattle.die_walk.specs.Picking.{base_by, die_by, root_by}
 use Rattle.die_walk.specs.EntryTable.{DieFields, RootFields, EntryTable, base_of, die_of, root_of}
 
--- a kept entry and a root; their depth is not used
+-- a kept entry and a root, with the depth 0, which is not used
 abbrev pub kept_at : ℕ → Option ℕ → ℕ → List Given → Kept
 kept_at at parent tag values = record { item = record { at = at; depth = 0; tag = tag; values = values }; parent = parent }
 
@@ -31,8 +32,8 @@ pub record Owned : Type 0 where
   pub sections : DebugSections
   pub unit : Unit
 
--- a walk's state: the kept entries so far; the root's attributes; for each open list of children the nearest kept entry around it; and what the walk
--- reads
+-- a walk's state: the kept entries so far, the root's attributes, for each open list of children
+-- the nearest kept entry around it, and what the walk reads
 pub record Walked : Type 0 where
   pub dies : List DieFields
   pub root : RootFields
@@ -43,7 +44,7 @@ pub record Walked : Type 0 where
 abbrev pub innermost : List (Option ℕ) → Option ℕ
 innermost levels = get_or levels (length levels - 1) None
 
--- whether an entry is kept: the first one, or by its tag
+-- whether an entry is kept: because it is the first one, or by its tag
 abbrev pub keeps : Walked → ℕ → Bool
 keeps w tag = length w.dies == 0 || is_kept_tag tag
 
@@ -59,13 +60,13 @@ added sections unit w at tag values = record w {
   dies = w.dies ++ die_of sections unit w.root.str_offsets_base (kept_at at (innermost w.open_levels) tag values) ∷ [];
 }
 
--- the state after an entry, without its children
+-- the state after an entry was read, before the list of its children is opened
 unfoldable pub entered : DebugSections → Unit → Walked → ℕ → ℕ → List Given → Walked
 entered sections unit w at tag values =
     if length w.dies == 0 then begun sections unit w at tag values else
     if is_kept_tag tag then added sections unit w at tag values else w
 
--- the same from the picks
+-- the same as `begun`, `added` and `entered`, but made from the picks of an entry
 abbrev pub begun_by : DebugSections → Unit → Walked → ℕ → ℕ → PickFields → Walked
 begun_by sections unit w at tag picks = record w {
   dies = die_by sections unit (base_by picks) (first_place sections.is_sup + at) (innermost w.open_levels) tag picks ∷ [];
@@ -82,7 +83,8 @@ entered_by sections unit w at tag picks =
     if length w.dies == 0 then begun_by sections unit w at tag picks else
     if is_kept_tag tag then added_by sections unit w at tag picks else w
 
--- the list of an entry's children opens; then the state after a mark, and after all marks
+-- the state after the list of an entry's children was opened; the state after a mark; and the state
+-- after all marks
 abbrev pub opened : Walked → Bool → Option ℕ → Walked
 opened w children own = if children then record w { open_levels = w.open_levels ++ own ∷ [] } else w
 
@@ -109,11 +111,12 @@ unfoldable pub walked_from : DebugSections → Unit → List Abbrev → Walked �
 walked_from sections unit abbrevs w c =
     marks_at abbrevs c >>= λ marks. Ok (table_in (rounded sections unit (all_moved sections unit w marks)))
 
--- one step
+-- the state after the next mark; none at the end of the unit
 unfoldable pub step_at : DebugSections → Unit → List Abbrev → Walked → Ahead → Result (Option Walked × Ahead) (Located DwarfKind)
 step_at sections unit abbrevs w c = next_mark abbrevs c >>= λ next. Ok (option_map (moved sections unit w) next.0, next.1)
 
--- an entry, given its abbreviation: without its children and with them
+-- the state after an entry with a given abbreviation was read: before the list of its children is
+-- opened, and after that
 abbrev pub entering : DebugSections → Unit → Walked → ℕ → ℕ → List Given × Ahead → Result (Walked × Ahead) (Located DwarfKind)
 entering sections unit w at tag values = Ok (entered sections unit w at tag values.0, values.1)
 
@@ -126,24 +129,25 @@ moving sections unit w at found values = Ok (moved sections unit w (Entry at fou
 unfoldable pub moved_at : DebugSections → Unit → Walked → ℕ → Abbrev → Ahead → Result (Walked × Ahead) (Located DwarfKind)
 moved_at sections unit w at found c = read_values_at found.specs c >>= moving sections unit w at found
 
--- what a step returns: whether there was a mark
+-- a step returns true and leaves the defined state, or returns false at the end of the unit, or
+-- returns the defined fault
 abbrev pub Steps : Result Bool (Stop (Located DwarfKind)) → Walked → Ahead → Result (Option Walked × Ahead) (Located DwarfKind) → Type 0
 Steps (Ok went) w c given = given ≡ Ok (if went then Some w else None, c)
 Steps (Err (Fault fault)) w c given = given ≡ Err fault
 Steps (Err NoMemory) w c given = Prim.Unit {0}
 
--- what a part of a step returns
+-- a part of a step leaves the defined state, or returns the defined fault
 abbrev pub Moves : {U : Type 0} → Result U (Stop (Located DwarfKind)) → Walked → Ahead → Result (Walked × Ahead) (Located DwarfKind) → Type 0
 Moves (Ok x) w c given = given ≡ Ok (w, c)
 Moves (Err (Fault fault)) w c given = given ≡ Err fault
 Moves (Err NoMemory) w c given = Prim.Unit {0}
 
--- there are no more kept entries than bytes passed, and no place is above 2^29
+-- there are no more kept entries than bytes before the cursor, and no place is above 2^29
 pub record IsShort (count : ℕ) (c : Ahead) : Type 0 where
   pub few : count ≤ c.at
   pub small : c.at + length c.bytes ≤ 2 ^ 29
 
--- the result of the whole walk: the table of its state
+-- the whole walk leaves a state with the defined table, or returns the defined fault
 abbrev pub TableOf : {U : Type 0} → Result U (Stop (Located DwarfKind)) → Walked → Result EntryTable (Located DwarfKind) → Type 0
 TableOf (Ok x) w given = given ≡ Ok (table_in w)
 TableOf (Err (Fault fault)) w given = given ≡ Err fault

@@ -75,7 +75,7 @@ fn is_text_home(home: Home) -> bool
     !matches!(home, Home::Missing | Home::Elsewhere)
 }
 
-/// The target of a head, if it is of this kind.
+/// The target of a head, if it is of the kind `link`.
 #[inline(always)]
 fn target_of(head: &Head, link: u8) -> Option<u32>
     ensures { result ≡ where_said (link_of head.now == link) head.now.target }
@@ -99,7 +99,8 @@ impl<'t, 'a> Die<'t, 'a> {
         Die { parts, head }
     }
 
-    /// The place of the entry in `.debug_info`, counted through both files: places of the supplementary file (DWARF 5, 7.3.6) begin at 2^29.
+    /// The place of the entry in `.debug_info`, counted through the file and its supplementary file
+    /// (DWARF 5, 7.3.6). The places of the supplementary file begin at 2^29.
     #[inline]
     pub fn at(&self) -> u32
         ensures { result ≡ self.now.at }
@@ -118,7 +119,7 @@ impl<'t, 'a> Die<'t, 'a> {
         }
     }
 
-    /// Whether it is a function that is not only declared.
+    /// Whether the entry is a function and not a declaration.
     #[inline]
     #[tactic(auto, unfolding(crate::specs::EntryKinds::is_function))]
     pub fn is_function(&self) -> bool
@@ -127,7 +128,7 @@ impl<'t, 'a> Die<'t, 'a> {
         self.tag() == DW_TAG_subprogram && !self.declaration()
     }
 
-    /// Whether it is an inlined copy of a function.
+    /// Whether the entry is an inlined copy of a function.
     #[inline]
     #[tactic(auto, unfolding(crate::specs::EntryKinds::is_inlined))]
     pub fn is_inlined(&self) -> bool
@@ -136,7 +137,8 @@ impl<'t, 'a> Die<'t, 'a> {
         self.tag() == DW_TAG_inlined_subroutine
     }
 
-    /// Whether it is a class, a structure, a union or a namespace, whose name is a prefix of the names in it.
+    /// Whether the entry is a class, a structure, a union or a namespace, whose name is a prefix of
+    /// the names in it.
     #[inline]
     #[tactic(auto, unfolding(crate::specs::EntryKinds::is_scope))]
     pub fn is_scope(&self) -> bool
@@ -196,7 +198,8 @@ impl<'t, 'a> Die<'t, 'a> {
         value_of(site.ranges_class, u64::from(site.more))
     }
 
-    /// The place of the abstract entry in `.debug_info`, counted through both files; 2^31 if the reference leaves its file.
+    /// The place of the abstract entry in `.debug_info`, counted through the file and its
+    /// supplementary file; 2^31 if the reference leaves its file.
     #[inline]
     pub fn origin(&self) -> Option<u32>
         ensures { result ≡ self.now.origin }
@@ -207,7 +210,8 @@ impl<'t, 'a> Die<'t, 'a> {
         }
     }
 
-    /// The place of the declaration, counted in the same way.
+    /// The place of the declaration in `.debug_info`, counted through the file and its
+    /// supplementary file; 2^31 if the reference leaves its file.
     #[inline]
     pub fn spec(&self) -> Option<u32>
         ensures { result ≡ self.now.spec }

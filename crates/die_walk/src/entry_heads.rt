@@ -32,14 +32,15 @@ pub struct Names {
     pub linkage: Named,
 }
 
-/// The places to which an entry refers, counted through both files.
+/// The places to which an entry refers, counted through the file and its supplementary file.
 #[derive(Clone, Copy)]
 pub struct Links {
     pub origin: Option<u32>,
     pub spec: Option<u32>,
 }
 
-/// The one of these links that fits into a head: its kind, which is 0 for none, `ORIGIN` or `SPECIFICATION`, and its place.
+/// The link of an entry that fits into its head: the kind of the link, which is 0 for none,
+/// `ORIGIN` or `SPECIFICATION`, and the place.
 #[derive(Clone, Copy)]
 pub struct Target {
     pub link: u8,
@@ -59,7 +60,8 @@ fn is_closed(bytes: &[u8]) -> bool
     }
 }
 
-/// Whether there is a terminated text at a place of a section. This is a function of its own, since nearly all sections end with a zero byte.
+/// Whether there is a terminated text at a place of a section. This is seldom called, since nearly
+/// all sections end with a zero byte, so it is not inlined.
 #[inline(never)]
 fn is_text(bytes: &[u8], place: u64) -> bool
     ensures { result ≡ is_some (text_in bytes.now place) }
@@ -83,7 +85,8 @@ fn place_in(bytes: &[u8], place: u64) -> Option<u32>
     None
 }
 
-/// The same for a text given by its index in `.debug_str_offsets`.
+/// The place of a text in `.debug_str`, given its index in `.debug_str_offsets`; none if there is
+/// no terminated text.
 #[inline(never)]
 fn place_by_index(
     sections: &Sections<'_>,
@@ -148,7 +151,7 @@ fn text_home(sections: &Sections<'_>, unit: &Unit, base: Option<u64>, pick: Pick
     }
 }
 
-/// One name or, if there is none, another.
+/// The first name or, if it is missing, the second.
 #[inline(always)]
 fn either(first: Named, second: Named) -> Named
     ensures { (texts : Homes) → text_at_home texts result.home result.place ≡ or_else (text_at_home texts first.home first.place) (text_at_home texts second.home second.place) }
@@ -159,7 +162,7 @@ fn either(first: Named, second: Named) -> Named
     }
 }
 
-/// Where the names of an entry are. The linkage name may also be given by the attribute that was used before the standard had one.
+/// Where the names of an entry are. The linkage name may also be given by DW_AT_MIPS_linkage_name.
 #[inline(always)]
 fn names_of(sections: &Sections<'_>, unit: &Unit, base: Option<u64>, picks: &Picks) -> Names
     requires { AreSmall (homes_of sections.now) }
@@ -176,10 +179,10 @@ fn names_of(sections: &Sections<'_>, unit: &Unit, base: Option<u64>, picks: &Pic
     }
 }
 
-/// The places of the supplementary file come after those of a file.
+/// The first place of the supplementary file: its places come after those of a file.
 pub const FIRST_OF_SUP: u32 = FILE_LIMIT as u32;
 
-/// The first place of `.debug_info`, counted through both files.
+/// The first place of `.debug_info`, counted through the file and its supplementary file.
 #[inline(always)]
 pub fn first_place(is_sup: bool) -> u32
     ensures { result ≡ first_place is_sup }
@@ -187,7 +190,8 @@ pub fn first_place(is_sup: bool) -> u32
     if is_sup { FIRST_OF_SUP } else { 0 }
 }
 
-/// A place of `.debug_info`, counted through both files; a place outside of its file becomes that of no entry.
+/// A place of `.debug_info`, counted through the file and its supplementary file. If the place is
+/// outside of its file, it is 2^31, at which there is no entry.
 #[inline(always)]
 #[tactic(auto, unfolding(abbrev_units::specs::DebugSections::place_in))]
 fn count_place(is_sup: bool, place: u64) -> u32
@@ -227,7 +231,7 @@ fn links_of(sections: &Sections<'_>, unit: &Unit, picks: &Picks) -> Links
     }
 }
 
-/// The target of an entry, if it has at most one.
+/// The target of an entry, if the entry does not have two links.
 #[inline(always)]
 fn fit_links(links: Links) -> Option<Target>
     ensures target { IfSome result (λ target. IsTarget target.link target.place links) }
@@ -354,7 +358,7 @@ fn fit_site(picks: &Picks) -> Option<Site>
     })
 }
 
-/// The wide entry of any entry.
+/// A wide entry, which can hold all values of any entry.
 fn make_wide(tag: u64, links: Links, picks: &Picks) -> Wide
     ensures { result ≡ record { tag = tag; origin = links.origin; spec = links.spec; site = site_by picks.now } }
 {
@@ -370,7 +374,8 @@ fn make_wide(tag: u64, links: Links, picks: &Picks) -> Wide
     }
 }
 
-/// The place of an entry, counted through both files, and the index of the nearest kept entry around it.
+/// The place of an entry, counted through the file and its supplementary file, and the index of the
+/// nearest kept entry around it.
 #[derive(Clone, Copy)]
 pub struct Frame {
     pub at: u32,

@@ -100,7 +100,7 @@ impl Head {
         self.flags / 16
     }
 
-    /// The head with a rest, whose index is given.
+    /// The head, with the kind and the index of its rest.
     #[inline(always)]
     fn with_rest(self, rest: u8, number: u32) -> Head
         requires flags { self.flags < 16 }
@@ -211,7 +211,7 @@ pub struct DieParts<'a> {
     pub wides: Vec<Wide>,
 }
 
-/// The site of a head.
+/// The site of a head, if it has one.
 #[inline(always)]
 pub fn site_of<'t>(parts: &'t DieParts<'_>, head: &Head) -> Option<&'t Site>
     ensures { option_copied result ≡ found_in 1 head.now parts.now.sites.items }
@@ -253,7 +253,8 @@ impl<'a> Model for EntryList<'a> {
 }
 
 impl<'a> EntryList<'a> {
-    /// No entries yet, with room for `room` entries and for some sites. The texts are in these sections.
+    /// An empty list, with room for `room` entries and for some sites. The texts of the entries are
+    /// in `sections`.
     pub fn with_room(
         alloc: Global,
         sections: &Sections<'a>,

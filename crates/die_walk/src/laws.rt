@@ -9,14 +9,16 @@ ghost use Rattle.die_walk.specs.Marks.{next_mark};
 ghost use Rattle.die_walk.specs.EntryTable.{EntryTable, entry_table};
 ghost use Rattle.die_walk.specs.EntryPlaces.{RisesTo, table_places};
 
-/// The marks ahead in a unit are the first one and then the marks after it; they do not depend on a count of readings.
+/// The marks ahead in a unit are the first one and then the marks after it. So they do not depend
+/// on how many readings are allowed.
 #[tactic(auto, using(crate::proofs::EntryPlaceLemmas::marks_follow))]
 pub fn marks_follow()
     ensures { (abbrevs : List Abbrev) (c : Ahead) → list_at (next_mark abbrevs) c ≡ list_cases (next_mark abbrevs) c }
 {}
 
-/// The places of a unit's kept entries, counted through both files, are strictly ascending, from the end of the unit's header up to the end of the
-/// unit.
+/// The places of a unit's kept entries, counted through the file and its supplementary file, are
+/// strictly ascending. They are not before the end of the unit's header, and not after the end of
+/// the unit.
 #[tactic(auto, using(crate::proofs::EntryPlaceLemmas::places_rise))]
 pub fn entries_rise()
     ensures { (sections : DebugSections) (unit : Unit) (abbrevs : List Abbrev) (table : EntryTable) → unit.body ≤ unit.end → unit.end ≤ length sections.info → entry_table sections unit abbrevs ≡ Ok table → RisesTo (first_place sections.is_sup + unit.body) (first_place sections.is_sup + unit.end) (table_places table) }

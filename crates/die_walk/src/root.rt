@@ -8,9 +8,9 @@ ghost use Rattle.die_walk.specs.Picking.{root_by, text_by};
 use abbrev_units::{Class, Pick, Picks, Sections, Slot, Unit, Value, read_text, text_in};
 use std::marker::Model;
 
-/// The attributes of a unit's root that hold for the whole unit: the place of the root, its low address, from which the offsets in lists count, the
-/// place of the line table, if that is to be read, the compilation directory, and the bases in `.debug_str_offsets`, `.debug_addr` and
-/// `.debug_rnglists`.
+/// The attributes of a unit's root that hold for the whole unit. `low` is the low address, from
+/// which the offsets in lists count. `stmt_list` is the place of the line table, if that is to be
+/// read. The bases are those in `.debug_str_offsets`, `.debug_addr` and `.debug_rnglists`.
 #[derive(Debug, Drop)]
 pub struct Root<'a> {
     pub at: u64,

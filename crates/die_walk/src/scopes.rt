@@ -7,8 +7,8 @@ use crate::heads::EntryList;
 use std::alloc::Global;
 use sym_edges::OutOfMemory;
 
-/// The nearest scope around an entry with this parent. The search goes from parent to parent, up to a scope or to an entry whose nearest scope is in
-/// the list.
+/// The nearest scope around an entry, given its parent. The search goes from parent to parent, up
+/// to a scope or to an entry whose nearest scope is in the list.
 fn scope_from(
     entries: &EntryList<'_>,
     near: &[Option<u32>],

@@ -88,7 +88,7 @@ impl<'a> Model for DieTable<'a> {
 }
 
 impl<'a> DieTable<'a> {
-    /// A table of these entries, with a list of the nearest scopes around the first ones.
+    /// A table of these entries; `near` has the nearest scope around each of the first ones.
     pub(crate) fn of(root: Root<'a>, entries: EntryList<'a>, near: Vec<Option<u32>>) -> DieTable<'a>
         requires { AreNear entries.dies near.items }
         ensures { result ≡ record { root = root.entry; dies = entries.entry.dies } }
@@ -141,7 +141,8 @@ fn walk_all<'a>(
     Ok(())
 }
 
-/// About the number of bytes per kept entry, in units that have many kept entries. Unused room is given back.
+/// A guess of how many bytes a unit has for each kept entry; the room that is reserved at first
+/// depends on it. Unused room is given back.
 const BYTES_A_KEPT_ENTRY: u64 = 32;
 
 /// The entries of a unit (DWARF 5, 7.5.2), or their first fault, which is in `.debug_info`: `Ends`, `LebLong` or `NoZero` at the code or the value,

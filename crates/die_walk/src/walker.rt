@@ -48,7 +48,7 @@ impl<'w, 'a> Model for Walker<'w, 'a> {
     ghost invariant = { λ w. (w.dies.homes ≡ homes_of w.sections.now) × AreSmall (homes_of w.sections.now) };
 }
 
-/// The stop for the fault of a value.
+/// A fault of a value, as the reason why the walk stops.
 #[tactic(auto, unfolding(crate::specs::Marks::value_fault))]
 fn value_stop(fault: FormFault) -> Stop<DwarfFault>
     ensures { result ≡ Fault (value_fault fault) }
@@ -119,7 +119,7 @@ impl<'w, 'a> Walker<'w, 'a> {
         Ok(DieTable::of(root, dies, near))
     }
 
-    /// The frame of an entry that begins at this place of its section.
+    /// The place of an entry, counted through the file and its supplementary file, and its parent.
     #[inline(always)]
     fn frame(&self, at: u32) -> Frame
         requires { at ≤ 2 ^ 29 }
@@ -276,7 +276,8 @@ impl<'w, 'a> Walker<'w, 'a> {
         Ok(true)
     }
 
-    /// The same, with its own copies of the cursor and the abbreviation, so that those of the loop over entries stay in registers.
+    /// Calls `take_slowly` with copies of the cursor and the abbreviation, so that those of the
+    /// loop over entries stay in registers.
     #[inline(always)]
     fn take_apart(
         &mut self,
@@ -342,7 +343,7 @@ impl<'w, 'a> Walker<'w, 'a> {
         Ok(())
     }
 
-    /// Reads an entry, and opens the list of its children.
+    /// Reads an entry and, if it has children, opens the list of them.
     #[tactic(auto, using(crate::proofs::StepLemmas::moved_plain, crate::proofs::StepLemmas::moved_refused, crate::proofs::StepLemmas::kept_few))]
     fn enter(
         &mut self,

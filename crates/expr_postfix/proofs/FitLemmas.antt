@@ -1,4 +1,5 @@
--- The words of an expression are few, and rules can carry them; for `tokens` and the law `words_fit_rules`.
+-- The words of an expression are few, and rules can carry them. The lemmas are for `tokens` and the
+-- law `words_fit_rules`.
 use Rattle.std.proofs.Common.{◌≡◌, ◌≢◌, ◌<◌, ◌≤◌, ◌+◌, ◌-◌, ◌%◌, ◌^◌, ℕ, pos, negsuc, suc, Bool, true, false, nat_eq, nat_lt, nat_le, ◌&&◌, cond, codes, List, [], ◌∷◌, length, Option, None, Some, refl, sym, ap, ◌∙◌, length-append, arith}
 use Rattle.std.specs.Int.{w64, cast_signed}
 use Rattle.std.specs.List.{list_all, sum_by}
@@ -22,7 +23,7 @@ use Rattle.expr_postfix.specs.ExprTokens.{number, step_tokens, steps_tokens, tok
 use Rattle.expr_postfix.proofs.TokenLemmas.{steps_front, steps_none}
 use Rattle.expr_postfix.proofs.WholeLemmas.{free_depth, free_by, over_by}
 
--- how many words there are
+-- How many words there are.
 step_length : (s : Step) → length (step_tokens s) ≡ words s
 step_length (step.Constant value) = refl
 step_length (step.Register register offset) = refl
@@ -90,7 +91,7 @@ words_some start bytes ws words_are = (few_words start bytes ws words_are).some
 pub words_few : (start : Bool) (bytes : List ℕ) (ws : List Token) → expr_tokens start bytes ≡ Some ws → length ws ≤ 1024
 words_few start bytes ws words_are = (few_words start bytes ws words_are).most
 
--- what they are
+-- Which words there are.
 cast_fits : (n : ℕ) → fits_i64 (cast_signed w64 n) ≡ true
 cast_fits n =
     elim_bool (nat_lt n (2 ^ 63)) (λ t. nat_lt n (2 ^ 63) ≡ t → fits_i64 (cond t (pos n) (negsuc (2 ^ 64 - suc n))) ≡ true)

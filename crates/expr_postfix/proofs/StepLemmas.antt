@@ -1,4 +1,4 @@
--- The words of a step do what its operations do; for the law `words_have_the_value`.
+-- The words of a step do what its operations do. The lemmas are for the law `words_have_the_value`.
 use Rattle.std.proofs.Common.{◌≡◌, ◌<◌, ◌≤◌, ◌+◌, ◌-◌, ◌*◌, ◌/◌, ◌%◌, ◌^◌, ℕ, zero, suc, ℤ, pos, Bool, true, false, nat_eq, nat_lt, cond, codes, List, [], ◌∷◌, ◌++◌, length, Option, None, Some, Result, Ok, Err, refl, sym, ap, ◌∙◌, add_comm, arith}
 use Rattle.std.specs.Prelude.{bit_and}
 use Rattle.std.specs.Int.{w64, cast_signed, cast_unsigned}
@@ -25,25 +25,25 @@ use Rattle.expr_steps.specs.Standing.{takes}
 use Rattle.expr_postfix.specs.ExprTokens.{number, step_tokens}
 use Rattle.expr_postfix.specs.ExprValue.{held, offset_from, fetched, is_at_least, onto, with_operation, go_on, value_over}
 
--- behind an `and` the number on top is below its power of two
+-- After an `and`, the number on top is below its power of two.
 abbrev pub IsKept : Option ℕ → List ℕ → Type 0
 IsKept None stack = Unit {0}
 IsKept (Some size) [] = Unit {0}
 IsKept (Some size) (v ∷ stack) = (v < size) × (size ≤ 2 ^ 62)
 
--- where all went well, there is one number for those that the step took
+-- If nothing failed, one number has replaced those that the step took.
 abbrev pub IfDone : Result (List ℕ) Cause → Option ℕ → ℕ → Type 0
 IfDone (Ok next) keeps depth = (length next ≡ depth) × IsKept keeps next
 IfDone (Err why) keeps depth = Unit {0}
 
--- the words of a step and its operations leave one and the same stack, or fail alike
+-- The words of a step and its operations leave the same stack, or fail for the same cause.
 pub record Agrees (regs : Regs) (memory : List MemRun) (given : Option Outcome) (keeps : Option ℕ) (s : Step) (ops : List Operation) (stack : List ℕ) : Type 0 where
   pub did : Result (List ℕ) Cause
   pub words : (later : List Token) → postfix_from regs memory given (step_tokens s ++ later) stack ≡ or_failed did (postfix_from regs memory given later)
   pub does : (later : List Operation) → value_over regs memory (ops ++ later) stack ≡ go_on did (value_over regs memory later)
   pub left : IfDone did keeps (length stack - takes s + 1)
 
--- a number as a word
+-- A number as a word.
 number_back : (n : ℕ) → cast_unsigned w64 (cast_signed w64 (n % 2 ^ 64)) ≡ n % 2 ^ 64
 number_back n = of_z-to_z w64 (n % 2 ^ 64) (omega arith)
 
@@ -67,7 +67,7 @@ constant_agrees regs memory given c stack = record {
   left = (omega arith, tt);
 }
 
--- a register with an offset
+-- A register with an offset.
 known_words : (regs : Regs) (memory : List MemRun) (given : Option Outcome) (t : Token) (register : ℕ) (offset : ℤ) (value : Option ℕ) (later : List Token) (stack : List ℕ)
     → with_token regs memory given t stack ≡ pushed (known_or_missing register value) stack
     → postfix_from regs memory given (t ∷ token.Number offset ∷ token.Add ∷ later) stack ≡ or_failed (onto stack (offset_from register offset value)) (postfix_from regs memory given later)
@@ -99,7 +99,7 @@ register_agrees regs memory given register offset stack = record {
   left = onto_done stack (offset_from register offset (held regs register));
 }
 
--- the word at an address
+-- The word at an address.
 fetch_words : (regs : Regs) (memory : List MemRun) (given : Option Outcome) (a : ℕ) (word : Option ℕ) (later : List Token) (stack : List ℕ) → word_at memory a ≡ word
     → postfix_from regs memory given (token.Fetch ∷ later) (a ∷ stack) ≡ or_failed (onto stack (fetched a word)) (postfix_from regs memory given later)
 unfolding postfix_from with_token word_value
@@ -120,7 +120,7 @@ fetch_agrees regs memory given (a ∷ stack) some = record {
   left = onto_less stack (fetched a (word_at memory a));
 }
 
--- the signs of two numbers
+-- Sums and differences.
 pub add_agrees : (regs : Regs) (memory : List MemRun) (given : Option Outcome) (stack : List ℕ) → 2 ≤ length stack → Agrees regs memory given None step.Add (op.Plus ∷ []) stack
 unfolding value_over with_operation postfix_from with_token
 add_agrees regs memory given [] some = absurd (omega arith)
@@ -139,7 +139,7 @@ multiply_agrees regs memory given [] some = absurd (omega arith)
 multiply_agrees regs memory given (b ∷ []) some = absurd (omega arith)
 multiply_agrees regs memory given (b ∷ a ∷ stack) some = record { did = Ok ((a * b) % 2 ^ 64 ∷ stack); words = λ later. refl; does = λ later. refl; left = (omega arith, tt) }
 
--- a constant that is added
+-- A constant that is added.
 sum_later : (a addend : ℕ) → (a + addend % 2 ^ 64) % 2 ^ 64 ≡ (a + addend) % 2 ^ 64
 sum_later a addend = ap (λ n. n % 2 ^ 64) (add_comm a (addend % 2 ^ 64)) ∙ mod-add-mod addend (2 ^ 64) a ∙ ap (λ n. n % 2 ^ 64) (add_comm addend a)
 
@@ -162,7 +162,7 @@ add_constant_agrees regs memory given addend (a ∷ stack) some = record {
   left = (omega arith, tt);
 }
 
--- `and` with a mask: what a division by its power of two leaves
+-- An `and` with a mask is the remainder of a division by a power of two.
 pub record IsMask (n c size : ℕ) : Type 0 where
   pub bits : ℕ
   pub below : bits < n
@@ -215,7 +215,7 @@ remainder_agrees regs memory given c size (v ∷ stack) mask some =
       left = (omega arith, (mod_below v size positive, kept_low c size mask));
     }
 
--- `shl` by a constant: a product
+-- A `shl` by a constant is a product.
 multiply_words : (regs : Regs) (memory : List MemRun) (given : Option Outcome) (a b : ℕ) (later : List Token) (stack : List ℕ)
     → postfix_from regs memory given (token.Mul ∷ later) (b ∷ a ∷ stack) ≡ postfix_from regs memory given later ((a * b) % 2 ^ 64 ∷ stack)
 unfolding postfix_from with_token
@@ -236,7 +236,7 @@ product_agrees regs memory given c (v ∷ stack) low some =
       left = (omega arith, tt);
     }
 
--- `ge` of a number below a power of two: whether it reaches that once as much is added as the other is below it
+-- A `ge` of a number below a power of two, expressed by a division.
 divide_words : (regs : Regs) (memory : List MemRun) (given : Option Outcome) (a b : ℕ) (later : List Token) (stack : List ℕ) → 0 < b
     → postfix_from regs memory given (token.Div ∷ later) (b ∷ a ∷ stack) ≡ postfix_from regs memory given later (a / b ∷ stack)
 unfolding postfix_from with_token

@@ -1,4 +1,5 @@
--- The words of an expression as they are added; for `number`, `add_comparison`, `add_steps` and `words_of`.
+-- The words of an expression while they are added. The lemmas are for `number`, `add_comparison`,
+-- `add_steps` and `words_of`.
 use Rattle.std.proofs.Common.{◌≡◌, ◌<◌, ◌%◌, ◌^◌, ℕ, Bool, true, false, List, [], ◌∷◌, ◌++◌, Option, None, Some, refl, sym, ap, ◌∙◌, append_assoc, append-nil, arith}
 use Rattle.std.specs.Int.{w64, cast_signed}
 use Rattle.std.specs.Option.{is_some, option_and_then}
@@ -20,7 +21,7 @@ small_number value small = let same : value ≡ value % 2 ^ 64 = omega arith in 
 pub adds_comparison : (lift size : ℕ) (old mid new : List Token) → mid ≡ old ++ number lift ∷ token.Add ∷ [] → new ≡ mid ++ number size ∷ token.Div ∷ [] → new ≡ old ++ step_tokens (step.Reaches lift size)
 adds_comparison lift size old mid new first second = second ∙ ap (λ ws. ws ++ number size ∷ token.Div ∷ []) first ∙ append_assoc old (number lift ∷ token.Add ∷ []) (number size ∷ token.Div ∷ [])
 
--- the words of a first step, and of those after it
+-- The words of the first step, and those of the steps after it.
 pub steps_front : (s : Step) (later : List Step) → steps_tokens (s ∷ later) ≡ step_tokens s ++ steps_tokens later
 unfolding steps_tokens
 steps_front s later = flat_map-cons step_tokens s later
@@ -56,7 +57,7 @@ fewer s old new is made = rw is (front_fewer s new (still_made s old new is made
 pub made_not : (P : Type 0) (left : Option (List Step)) → is_some left ≡ true → left ≡ None → P
 made_not P left made is = let no : false ≡ true = sym (ap is_some is) ∙ made in cc
 
--- an expression that stands somehow is made of steps
+-- An expression that rule text can express is made of steps.
 made_by : (start : Bool) (left : Option (List Step)) (stands : Standing) → Some stands ≡ option_and_then (standing_of start) left → is_some left ≡ true
 made_by start None stands is = cc
 made_by start (Some given) stands is = refl
@@ -65,7 +66,7 @@ pub stands_made : (start : Bool) (bytes : List ℕ) (stands : Standing) → Some
 unfolding standing
 stands_made start bytes stands is = made_by start (steps bytes) stands is
 
--- its words are the first ones and those of its steps
+-- The words of an expression are the first words and those of its steps.
 by_standing : (given : List Step) (stands : Standing) → tokens_by given (Some stands) ≡ Some (first_tokens stands ++ steps_tokens given)
 by_standing given Free = refl
 by_standing given OverCfa = refl

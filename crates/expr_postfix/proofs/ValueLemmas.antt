@@ -1,4 +1,4 @@
--- The words of an expression have its value; for the law `words_have_the_value`.
+-- The words of an expression have its value. The lemmas are for the law `words_have_the_value`.
 use Rattle.std.proofs.Common.{◌≡◌, ◌≤◌, ◌+◌, ◌-◌, ◌^◌, ℕ, ℤ, Bool, true, false, nat_le, cond, List, [], ◌∷◌, ◌++◌, length, Option, None, Some, Result, Ok, Err, refl, sym, ap, ◌∙◌, append_assoc, arith}
 use Rattle.std.proofs.lemmas.Bool.{leb-true}
 use Rattle.sym_rules.specs.declared.rules.Token.{Token}
@@ -19,13 +19,14 @@ use Rattle.expr_postfix.specs.ExprValue.{go_on, top_value, value_over}
 use Rattle.expr_postfix.proofs.TokenLemmas.{steps_front, steps_none}
 use Rattle.expr_postfix.proofs.StepLemmas.{IsKept, IfDone, Agrees, mask_is, constant_agrees, register_agrees, fetch_agrees, add_agrees, subtract_agrees, multiply_agrees, add_constant_agrees, remainder_agrees, product_agrees, reaches_agrees}
 
--- what comes after a value
+-- The outcome of going on with a value; other outcomes remain.
 abbrev pub behind_value : Outcome → (ℕ → Outcome) → Outcome
 behind_value (Value v) next = next v
 behind_value Undefined next = Undefined
 behind_value (Failed why) next = Failed why
 
--- over each stack on which they leave one value, the words of steps give what their operations give, whatever words come after them
+-- On each stack on which they leave one value, the words of steps give what their operations give,
+-- whatever words come after them.
 pub record Means (regs : Regs) (memory : List MemRun) (given : Option Outcome) (kept : Option ℕ) (ops : List Operation) (made : List Step) : Type 0 where
   pub says : (later : List Token) (stack : List ℕ) → IsKept kept stack → depth_after made (Some (length stack)) ≡ Some 1
       → postfix_from regs memory given (steps_tokens made ++ later) stack ≡ behind_value (value_over regs memory ops stack) (λ v. postfix_from regs memory given later (v ∷ []))
@@ -34,7 +35,7 @@ abbrev pub IfMeans : Regs → List MemRun → Option Outcome → Option ℕ → 
 IfMeans regs memory given kept ops None = Unit {0}
 IfMeans regs memory given kept ops (Some made) = Means regs memory given kept ops made
 
--- no step
+-- There is no step.
 over_one : (regs : Regs) (memory : List MemRun) (given : Option Outcome) (later : List Token) (stack : List ℕ) → length stack ≡ 1
     → postfix_from regs memory given later stack ≡ behind_value (top_value stack) (λ v. postfix_from regs memory given later (v ∷ []))
 over_one regs memory given later [] one = absurd (omega arith)
@@ -49,7 +50,7 @@ none_means regs memory given kept = record {
       ap (λ ws. postfix_from regs memory given (ws ++ later) stack) steps_none ∙ over_one regs memory given later stack one;
 }
 
--- a step in front: it finds what it takes
+-- A step is put in front of others, and finds the numbers that it takes.
 abbrev pub Agreeing : Regs → List MemRun → Option Outcome → Option ℕ → Option ℕ → Step → List Operation → Type 0
 Agreeing regs memory given kept keeps s ops = (stack : List ℕ) → IsKept kept stack → takes s ≤ length stack → Agrees regs memory given keeps s ops stack
 
@@ -91,7 +92,7 @@ front_means regs memory given kept keeps s pair ops (Some made) agreeing means =
   says = λ later stack is_kept depth. front_fits regs memory given kept keeps s pair ops made later stack (nat_le (takes s) (length stack)) refl agreeing means is_kept depth;
 }
 
--- each kind of step
+-- Each kind of step.
 constant_means : (regs : Regs) (memory : List MemRun) (given : Option Outcome) (kept : Option ℕ) (c : ℕ) (ops : List Operation) (made : Option (List Step)) → IfMeans regs memory given None ops made
     → IfMeans regs memory given kept (Constant c ∷ ops) (in_front (step.Constant c) made)
 constant_means regs memory given kept c ops made means = front_means regs memory given kept None (step.Constant c) (Constant c ∷ []) ops made (λ stack is_kept some. constant_agrees regs memory given c stack) means
@@ -126,7 +127,7 @@ ge_means : (regs : Regs) (memory : List MemRun) (given : Option Outcome) (kept :
 ge_means regs memory given None c ops made means = tt
 ge_means regs memory given (Some size) c ops made means = least_means regs memory given c size ops made (nat_le c size) refl means
 
--- all operations
+-- All operations.
 pub steps_mean : (regs : Regs) (memory : List MemRun) (given : Option Outcome) (ops : List Operation) (kept : Option ℕ) → IfMeans regs memory given kept ops (steps_of ops kept)
 unfolding steps_of
 steps_mean regs memory given [] kept = none_means regs memory given kept

@@ -1,4 +1,5 @@
--- A whole expression: its words have its value, alone and with a fetch behind them; for the law `words_have_the_value`.
+-- The words of a whole expression have its value, alone and with a fetch after them. The lemmas are
+-- for the law `words_have_the_value`.
 use Rattle.std.proofs.Common.{◌≡◌, ◌+◌, ℕ, Bool, true, false, nat_eq, nat_le, ◌&&◌, cond, codes, List, [], ◌∷◌, ◌++◌, Option, None, Some, refl, sym, ap, subst, ◌∙◌, append_assoc, append-nil}
 use Rattle.std.specs.Option.{option_and_then}
 use Rattle.std.specs.List.{sum_by}
@@ -24,7 +25,7 @@ use Rattle.expr_postfix.specs.ExprValue.{beginning, value_by, expr_value, word_t
 use Rattle.expr_postfix.proofs.TokenLemmas.{steps_front, steps_none}
 use Rattle.expr_postfix.proofs.ValueLemmas.{behind_value, Means, IfMeans, steps_mean}
 
--- words that are not `.undef` alone are done one after the other
+-- Words other than a single `.undef` are evaluated one after the other.
 abbrev IsDone : Regs → List MemRun → Option Outcome → List Token → Type 0
 IsDone regs memory given ws = rule_value regs memory given ws ≡ postfix_from regs memory given ws []
 
@@ -56,7 +57,7 @@ cfa_done : (regs : Regs) (memory : List MemRun) (given : Option Outcome) (later 
 unfolding rule_value
 cfa_done regs memory given later = refl
 
--- how an expression stands says how many values it leaves
+-- How many values an expression leaves.
 one_there : (depth : Option ℕ) → is_one depth ≡ true → depth ≡ Some 1
 one_there None one = cc
 one_there (Some n) one = ap Some (eqb-true n 1 one)
@@ -97,7 +98,7 @@ over_depth start made is = one_there (depth_after made (Some 1)) (both_second st
 over_start : (start : Bool) (made : List Step) → standing_of start made ≡ Some OverCfa → start ≡ true
 over_start start made is = both_first start (is_one (depth_after made (Some 1))) (over_fits start made is)
 
--- the words of an expression, and some after them
+-- The words of an expression, and words after them.
 pub record Gives (regs : Regs) (memory : List MemRun) (given : Option Outcome) (later ws : List Token) (value : Outcome) : Type 0 where
   pub gives : rule_value regs memory given (ws ++ later) ≡ behind_value value (λ v. postfix_from regs memory given later (v ∷ []))
 
@@ -150,7 +151,7 @@ expr_gives : (regs : Regs) (memory : List MemRun) (given : Option Outcome) (cfa 
 unfolding expr_tokens expr_value standing steps
 expr_gives regs memory given cfa start bytes later ws at_cfa done words = read_gives regs memory given cfa start (operations bytes) later ws at_cfa done words
 
--- with none after them
+-- No words come after them.
 none_done : (regs : Regs) (memory : List MemRun) (given : Option Outcome) → IsDone regs memory given []
 unfolding rule_value
 none_done regs memory given = refl
@@ -173,7 +174,7 @@ value_with_cfa start bytes ws regs memory cfa words = alone_gives regs memory (S
 pub value_free : (bytes : List ℕ) (ws : List Token) (regs : Regs) (memory : List MemRun) (given : Option Outcome) (cfa : Outcome) → expr_tokens false bytes ≡ Some ws → rule_value regs memory given ws ≡ expr_value regs memory cfa false bytes
 value_free bytes ws regs memory given cfa words = alone_gives regs memory given cfa false bytes ws (λ at_start. cc) words
 
--- with `^` after them
+-- A `^` comes after them.
 fetch_done : (regs : Regs) (memory : List MemRun) (given : Option Outcome) → IsDone regs memory given (token.Fetch ∷ [])
 unfolding rule_value
 fetch_done regs memory given = refl

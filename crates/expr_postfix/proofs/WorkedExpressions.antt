@@ -1,5 +1,6 @@
--- Worked expressions: their words, and that evaluating these gives what the operations give, over three states: all registers known, none of
--- them, and numbers at the end of the 64 bits.
+-- Worked examples: the words of expressions. Evaluating the words gives what the operations give,
+-- in three states: all registers are known, no register is known, and the registers have numbers
+-- near 2^64.
 use Rattle.std.proofs.Common.{◌≡◌, ℕ, Bool, true, false, List, [], ◌∷◌, ◌++◌, drop, map, replicate, Option, None, Some, refl}
 use Rattle.std.specs.List.{flat_map, range_with_len}
 use Prim.Native.String.{String}
@@ -17,7 +18,7 @@ use Rattle.expr_postfix.specs.ExprTokens.{expr_tokens, rule_tokens}
 use Rattle.expr_postfix.specs.ExprValue.{expr_value}
 use Rattle.expr_postfix.proofs.Computing.{expr_postfix_computes}
 
--- words as they are spelled
+-- The words as they are spelled.
 abbrev spelling : Option (List Token) → String
 unfolding shown
 spelling None = "none"
@@ -27,7 +28,7 @@ words : Bool → String → String
 unfolding expr_postfix_computes spelling
 words start text = spelling (expr_tokens start (hex text))
 
--- three states, each with its CFA
+-- Three states, each with its CFA.
 record Known : Type 0 where
   regs : Regs
   memory : List MemRun
@@ -50,7 +51,7 @@ at_the_end = record {
   cfa = Value 0x0;
 }
 
--- what the words give, and what the operations give
+-- What the words give, and what the operations give.
 abbrev by_words : Known → Option (List Token) → Outcome
 by_words s None = Undefined
 by_words s (Some words) = rule_value s.regs s.memory (Some s.cfa) words
@@ -260,7 +261,7 @@ two_words_words : words false "77 00 06 06" ≡ "$rsp 0 + ^ ^"
 unfolding expr_postfix_computes words
 two_words_words = refl
 
--- without words
+-- Expressions that rule text cannot express.
 nothing_to_add : words false "22" ≡ "none"
 unfolding expr_postfix_computes words
 nothing_to_add = refl
@@ -281,7 +282,7 @@ register_17 : words false "81 00" ≡ "none"
 unfolding expr_postfix_computes words
 register_17 = refl
 
--- with the fetch that a rule adds
+-- With the fetch that a rule adds.
 a_saved_register : spelling (rule_tokens true true (hex "77 78")) ≡ "$rsp -8 + ^"
 unfolding expr_postfix_computes spelling
 a_saved_register = refl
@@ -298,8 +299,8 @@ no_rule : spelling (rule_tokens true true (hex "96")) ≡ "none"
 unfolding expr_postfix_computes spelling
 no_rule = refl
 
--- the expression that a linker writes for its table of jumps, at each address of the table's entries: the CFA is eight bytes further from the
--- twelfth byte of an entry on, behind a push
+-- The expression that linkers write for the procedure linkage table, evaluated at each address of
+-- an entry. The CFA is eight bytes further from the twelfth byte of an entry on, after a push.
 abbrev linkers : List ℕ
 linkers = hex "77 08 80 00 3f 1a 3b 2a 33 24 22"
 

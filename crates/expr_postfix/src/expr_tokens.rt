@@ -118,7 +118,7 @@ fn add_steps(alloc: Global, words: &mut Vec<Token>, expr: &[u8]) -> Result<(), O
     }
 }
 
-/// The words before those of the steps.
+/// The words that come before those of the steps: none, or `.cfa`.
 fn first_words(alloc: Global, standing: Standing) -> Result<Vec<Token>, OutOfMemory>
     ensures { IfOk result (λ words. words.items ≡ first_tokens standing) }
 {
@@ -146,9 +146,10 @@ fn words_of(alloc: Global, expr: &[u8], start: bool) -> Result<Vec<Token>, Stop<
     Ok(words)
 }
 
-/// The words of an expression, at most 1,024, if rule text can express it; the fault `Expression` exactly if they cannot. `start` says that the CFA
-/// may be on the stack: it may for `DW_CFA_expression` and `DW_CFA_val_expression`, and not for `DW_CFA_def_cfa_expression`. Allocates memory only
-/// for the words.
+/// The words of an expression, at most 1,024, if rule text can express it, and otherwise the fault
+/// `Expression`. `start` says that the CFA may be on the stack: it may for `DW_CFA_expression` and
+/// `DW_CFA_val_expression`, and not for `DW_CFA_def_cfa_expression`. Allocates memory only for the
+/// words.
 #[tactic(auto, using(crate::proofs::WholeLemmas::value_with_cfa, crate::proofs::FitLemmas::words_few))]
 pub fn tokens(alloc: Global, expr: &[u8], start: bool) -> Result<Tokens, Stop<Reason>>
     ensures exact { MatchStop result

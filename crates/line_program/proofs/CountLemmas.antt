@@ -1,4 +1,4 @@
--- The sequences that count, from the last to the first.
+-- The sequences that count, gathered from the last to the first.
 use Rattle.std.proofs.Common.{◌≡◌, ℕ, ◌<◌, nat_le, nat_lt, ◌&&◌, Bool, true, false, cond, List, [], ◌∷◌, ◌++◌, reverse, ◌-◌, inl, inr, Option, Some, None, refl, sym, ◌∙◌, ap, subst, arith}
 use Rattle.std.proofs.lemmas.Bool.{cases_lt, lt-ltb, le-ltb, le-leb, lt-leb}
 use Rattle.std.proofs.lemmas.List.{reverse-append}
@@ -8,7 +8,7 @@ use Rattle.line_program.specs.LineAt.{least_address, row_at, counts, covers_from
 use Rattle.line_program.specs.internal.Painting.{Counted, has, SortedFrom, last_at, counted_row, back_row}
 use Rattle.line_program.proofs.SortLemmas.{row_last}
 
--- with a row for what no sequence of a list has
+-- The row at an address in the first sequence that covers it, or another row if none does.
 pub row_then : (ℕ → ℕ → Bool) → Option Row → List Sequence → ℕ → Option Row
 row_then code later [] a = later
 row_then code later (s ∷ sequences) a = cond (covers code s a) (row_at s.rows a) (row_then code later sequences a)
@@ -49,7 +49,7 @@ unfolding back_row
 back_push under [] k a = refl
 back_push under (x ∷ kept) k a = back_push (cond (has x a) (last_at x.rows a) under) kept k a
 
--- the sequences that are left, and those that were kept
+-- The invariant of `count_sequences`: the sequences that are left, and those that were kept.
 abbrev pub Counts : (ℕ → ℕ → Bool) → List Sequence → List Sequence → List Counted → Type 0
 Counts code all left kept = (a : ℕ) → row_then code (back_row None kept a) left a ≡ row_in code all a
 
@@ -71,7 +71,7 @@ counts_all code all left kept back counts none is a =
     ap (λ l. counted_row l a) is ∙ sym (counted_then_none (reverse kept) a) ∙ sym (back_then None kept a)
     ∙ sym (ap (λ l. row_then code (back_row None kept a) l a) none) ∙ counts a
 
--- a sequence that does not count
+-- A sequence that does not count is not kept.
 pub not_kept : (code : ℕ → ℕ → Bool) (s : Sequence) (kept : List Counted) (a : ℕ) → None ≡ least_address s.rows → back_row None kept a ≡ cond (covers code s a) (row_at s.rows a) (back_row None kept a)
 not_kept code s kept a none = ap (λ o. cond (covers_from code s.end o a) (row_at s.rows a) (back_row None kept a)) none
 
@@ -83,14 +83,13 @@ not_code code s kept start a least none =
     ap (λ b. cond (b && (nat_le start a && nat_lt a s.end)) (row_at s.rows a) (back_row None kept a)) (sym none)
     ∙ ap (λ o. cond (covers_from code s.end o a) (row_at s.rows a) (back_row None kept a)) least
 
--- the last address is below the end
 last_below : (start end a : ℕ) → start < end → nat_le a (end - 1) ≡ nat_lt a end
 last_below start end a some = elim (cases_lt a end) [
   | inl low ↦ le-leb a (end - 1) (omega arith) ∙ sym (lt-ltb a end low)
   | inr high ↦ lt-leb a (end - 1) (omega arith) ∙ sym (le-ltb a end high)
 ]
 
--- one that does
+-- A sequence that counts is kept.
 kept_is : (code : ℕ → ℕ → Bool) (s : Sequence) (kept more : List Counted) (start : ℕ) (k : Counted) → Some start ≡ least_address s.rows → start < s.end → true ≡ code start s.end
     → k.first ≡ start → k.last ≡ s.end - 1 → SortedFrom 0 k.rows → ((a : ℕ) → row_at k.rows a ≡ row_at s.rows a) → more ≡ kept ++ k ∷ []
     → (a : ℕ) → back_row None more a ≡ cond (covers code s a) (row_at s.rows a) (back_row None kept a)

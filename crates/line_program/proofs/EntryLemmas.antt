@@ -1,4 +1,4 @@
--- Entries of the tables: how far they go, and an entry of version 5 pair by pair.
+-- Entries of the tables: an entry takes some bytes, and an entry of version 5 is read pair by pair.
 use Rattle.std.proofs.Common.{◌≡◌, ◌≤◌, ◌<◌, ℕ, ◌+◌, ◌-◌, ◌==◌, Bool, cond, true, false, List, [], ◌∷◌, ◌++◌, length, get_or, drop, Option, Some, None, Result, Ok, Err, refl, sym, ◌∙◌, ap, arith}
 use Rattle.std.specs.List.{find}
 use Rattle.std.specs.Option.{option_map, option_or}
@@ -40,7 +40,7 @@ old_entry_goes of_files c =
 pub old_entries_follow : (of_files : Bool) (c : Ahead) → list_at (old_entry_at of_files) c ≡ list_cases (old_entry_at of_files) c
 old_entries_follow of_files c = list_follows (old_entry_at of_files) (old_entry_goes of_files) c
 
--- what was kept of the pairs so far, over the values that are still to come
+-- An entry made of the values that were kept so far and those that are still to be read.
 abbrev pub entry_from : DebugSections → Option Value → Option Value → Result (List Content × Ahead) Fault → Result (FileFields × Ahead) Fault
 entry_from sections path directory values =
     values >>= λ later. Ok (entry_of sections (option_or path (content_of 1 later.0)) (option_or directory (content_of 2 later.0)), later.1)
@@ -99,7 +99,7 @@ entry_ends sections pairs i wide c path directory all =
     ∙ ap (λ p. Ok (entry_of sections p (option_or directory (content_of 2 [])), c)) (or_none path 1)
     ∙ ap (λ d. Ok (entry_of sections path d, c)) (or_none directory 2)
 
--- a list of versions 2 to 4, one entry after another
+-- A list of versions 2 to 4, read one entry after another.
 pub list_begins : (of_files : Bool) (done : List FileFields) (c : Ahead) → done ≡ [] → done_behind done (list_at (old_entry_at of_files) c) ≡ list_at (old_entry_at of_files) c
 list_begins of_files done c none = none_behind done (list_at (old_entry_at of_files) c) none
 
@@ -115,7 +115,7 @@ list_cut of_files done c fault is = list_refused (old_entry_at of_files) (old_en
 pub list_shorter : (of_files : Bool) (entry : FileFields) (c later : Ahead) → Ok (Some entry, later) ≡ old_entry_at of_files c → length later.bytes < length c.bytes
 list_shorter of_files entry c later is = shorter_by (old_entry_at of_files c) entry c later (old_entry_goes of_files c) is
 
--- the pairs of a format, one after another
+-- The pairs of a format, read one after another.
 pub pairs_begin : (n : ℕ) (done : List EntryFormat) (c : Ahead) → done ≡ [] → done_behind done (several_at pair_at (n - 0) c) ≡ several_at pair_at n c
 pairs_begin n done c none = none_behind done (several_at pair_at (n - 0) c) none ∙ ap (λ k. several_at pair_at k c) (let same : n - 0 ≡ n = omega arith in same)
 
@@ -128,7 +128,7 @@ pairs_done n done c none = several_out pair_at n done c none
 pub pairs_cut : (n : ℕ) (done : List EntryFormat) (c : Ahead) (fault : Fault) → 0 < n → Err fault ≡ pair_at c → done_behind done (several_at pair_at n c) ≡ Err fault
 pairs_cut n done c fault some is = several_cut pair_at n (n - 1) done c fault (omega arith) is
 
--- entries of version 5, one after another
+-- Entries of version 5, read one after another.
 pub entries_begin : (sections : DebugSections) (pairs : List EntryFormat) (wide : Bool) (n : ℕ) (done : List FileFields) (c : Ahead) → done ≡ [] → done_behind done (several_at (entry_at sections pairs wide) (n - 0) c) ≡ several_at (entry_at sections pairs wide) n c
 entries_begin sections pairs wide n done c none = none_behind done (several_at (entry_at sections pairs wide) (n - 0) c) none ∙ ap (λ k. several_at (entry_at sections pairs wide) k c) (let same : n - 0 ≡ n = omega arith in same)
 

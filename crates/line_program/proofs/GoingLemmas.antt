@@ -1,4 +1,4 @@
--- How far a reading of a line table goes.
+-- Each reading of a part of a line table moves forward, and not past the end.
 use Rattle.std.proofs.Common.{ℕ, ◌+◌, Bool, cond, true, false, Result, Ok, Err, refl, arith}
 use Rattle.sym_edges.specs.Results.{◌>>=◌}
 use Rattle.leb_cursor.specs.declared.fault.CursorFault.{CursorFault}
@@ -15,7 +15,7 @@ pub less_passes : {A E : Type 0} (least : ℕ) (c : Ahead) (reading : Result (A 
 less_passes least c (Ok x) goes = (omega (arith, goes.0), goes.1)
 less_passes least c (Err fault) goes = tt
 
--- as a record, from which the checker finds the reading
+-- A reading moves forward, as a record.
 pub record Goes {A : Type 0} (c : Ahead) (reading : Result (A × Ahead) Fault) : Type 0 where
   pub passes : Passes 0 c reading
 

@@ -1,4 +1,4 @@
--- Bytes of a header, one by one and as a run.
+-- Bytes of a header, read one by one and all at once.
 use Rattle.std.proofs.Common.{◌≡◌, ◌≤◌, ◌<◌, ℕ, zero, suc, ◌+◌, cond, List, [], ◌∷◌, length, take, drop, Result, Ok, Err, refl, sym, ◌∙◌, ap, inl, inr, arith}
 use Rattle.std.proofs.lemmas.Bool.{cases_lt, lt-ltb, le-ltb}
 use Rattle.std.proofs.lemmas.List.{length-take-le}
@@ -19,7 +19,6 @@ first_sum : (b : ℕ) (bytes : List ℕ) → fixed_sum 1 (b ∷ bytes) ≡ b
 unfolding fixed_sum
 first_sum b bytes = omega arith
 
--- one byte
 first_byte : (b : ℕ) (bytes : List ℕ) (at : ℕ) → byte_at (from (b ∷ bytes) at) ≡ Ok (b, from bytes (at + 1))
 unfolding fixed_at passed
 first_byte b bytes at =
@@ -64,7 +63,7 @@ ok_not_err x fault is = cc
 same_ok : {T E : Type 0} (x y : T) → (let got : Result T E = Ok x in got) ≡ Ok y → x ≡ y
 same_ok x y is = cc
 
--- a run that was taken is so many bytes
+-- If all bytes are there, reading them one by one gives the same.
 pub bytes_taken : (n : ℕ) (c d : Ahead) (run : List ℕ) → Ok (run, d) ≡ take_at n c → several_at byte_at n c ≡ Ok (run, d)
 unfolding passed
 bytes_taken n c d run is = elim (cases_lt (length c.bytes) n) [
@@ -81,7 +80,7 @@ taken_length n c d run is = elim (cases_lt (length c.bytes) n) [
   | inr all ↦ run_length n c d run all (is ∙ taken n c all)
 ]
 
--- a run that was refused ends after the last byte
+-- If some bytes are missing, the fault is after the last byte that is there.
 pub bytes_short : (n end : ℕ) (c : Ahead) (fault : CursorFault) → Err fault ≡ take_at n c → end ≡ c.at + length c.bytes → several_at byte_at n c ≡ Err (header.Cursor (Ends end))
 bytes_short n end c fault is at_end = elim (cases_lt (length c.bytes) n) [
   | inl less ↦ several_short n c.bytes c.at less ∙ ap (λ place. Err (header.Cursor (Ends place))) (sym at_end)

@@ -1,4 +1,4 @@
--- Rows as they are kept give the lines that the rows give, for `lines`.
+-- Rows as they are stored give the same lines as the rows themselves (for `lines`).
 use Rattle.std.proofs.Common.{◌≡◌, ◌<◌, ◌≤◌, ℕ, ◌+◌, ◌-◌, ◌^◌, ◌==◌, min, nat_le, Bool, true, false, cond, List, [], ◌∷◌, map, length, Option, Some, None, Result, Ok, Err, refl, sym, ◌∙◌, ap, arith}
 use Rattle.std.proofs.lemmas.Bool.{le-ltb}
 use Rattle.std.proofs.lemmas.Bool.Decides.{nat_tests}
@@ -60,7 +60,7 @@ rows_kept code (s ∷ sequences) a =
 min_low : (n m : ℕ) → n ≤ m → min n m ≡ n
 min_low n m low = omega arith
 
--- a file that no table has, under either number
+-- A file number above those of the table has no path.
 no_file : (first : ℕ) (files : List (List ℕ)) (file : ℕ) → first + length files ≤ file → path_of first files file ≡ None
 no_file first files file above =
     ap (λ b. cond b None (slice_get files (file - first))) (le-ltb file first (omega arith))
@@ -90,7 +90,7 @@ says_kept code lines table few says = record {
   paths = says.paths;
 }
 
--- what is made of the kept rows
+-- The stored state gives the stored rows of the table.
 named_kept : (comp_dir : List ℕ) (version : ℕ) (tables : Tables) (state : State) → lines_of comp_dir version tables (kept_state state) ≡ kept_lines (lines_of comp_dir version tables state)
 unfolding lines_of
 named_kept comp_dir version tables state = refl

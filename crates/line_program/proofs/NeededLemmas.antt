@@ -1,4 +1,4 @@
--- Pairs that change no entry are passed over, for tables::keep_needed.
+-- Pairs that have no effect on entries may be left out (for `tables::keep_needed`).
 use Rattle.std.proofs.Common.{◌≡◌, ◌<◌, ◌≤◌, ℕ, zero, suc, ◌+◌, ◌==◌, ◌||◌, Bool, cond, true, false, List, [], ◌∷◌, ◌++◌, append_assoc, append-nil, length, get_or, drop, nat_lt, Option, Some, None, Result, Ok, Err, refl, sym, ◌∙◌, ap, arith}
 use Rattle.std.specs.Option.{option_or}
 use Rattle.std.proofs.lemmas.List.{drop_more, drop_all}
@@ -19,7 +19,7 @@ use Rattle.line_program.specs.Lists.{several_at}
 use Rattle.line_program.specs.internal.Needed.{is_idle, needed}
 use Rattle.line_program.proofs.EntryLemmas.{entry_from, entry_begins, entry_step, kept_by}
 
--- a value that is seen is kept
+-- If a content type was seen, a value of it was kept.
 abbrev Kept : Bool → Option Value → Type 0
 Kept true None = ⊥
 Kept true (Some value) = Prim.Unit {0}
@@ -48,7 +48,7 @@ unfolding value_at form_at direct_at form_row forms kind_at value_of
 flag_value true c = refl
 flag_value false c = refl
 
--- what is_idle says, by its three questions
+-- What `is_idle` tests.
 idle_form : (f rest : Bool) → cond f rest false ≡ true → f ≡ true
 idle_form true rest is = refl
 idle_form false rest is = is
@@ -111,7 +111,7 @@ entry_same : (sections : DebugSections) (pairs : List EntryFormat) (wide : Bool)
 entry_same sections pairs wide c =
     sym (entry_begins sections (needed false false pairs) wide c) ∙ needed_same sections wide pairs false false None None c tt tt ∙ entry_begins sections pairs wide c
 
--- the items behind the first one
+-- The items after the first one.
 abbrev behind_first : {A E : Type 0} → (Ahead → Result (List A × Ahead) E) → Result (A × Ahead) E → Result (List A × Ahead) E
 behind_first rest r = r >>= λ first. rest first.1 >>= λ later. Ok (first.0 ∷ later.0, later.1)
 
@@ -131,7 +131,7 @@ counted_same sections start pairs less wide count c is =
     ap (λ (l : List EntryFormat). counted_at sections start l wide count c) is
     ∙ ap (λ (r : Result (List FileFields × Ahead) Fault). cond (nat_lt (length c.bytes) count) (Err (fault_at LineHeader start)) r) (several_same (entry_at sections (needed false false pairs) wide) (entry_at sections pairs wide) (entry_same sections pairs wide) count c)
 
--- the pairs that are needed, one after another
+-- The pairs that have an effect, found one after another.
 pub needed_begins : (pairs done : List EntryFormat) → done ≡ [] → done ++ needed false false (drop 0 pairs) ≡ needed false false pairs
 needed_begins pairs done none = ap (λ (l : List EntryFormat). l ++ needed false false pairs) none
 

@@ -18,7 +18,7 @@ use denote.Ref.{Bor}
 use Rattle.line_program.specs.LineMaps.{with_path, paths_from, distinct_paths, AreDistinct}
 use Rattle.line_program.specs.internal.Numbering.{picked, AreNumbered, AllBelow, ending_of}
 
--- the place of a path
+-- The place of a path in a list of paths.
 pub place_in : List (List ℕ) → List ℕ → Option ℕ
 place_in [] q = None
 place_in (p ∷ paths) q = cond (bytes_eq q p) (Some 0) (option_map suc (place_in paths q))
@@ -40,7 +40,7 @@ get_by false p q paths n test is later =
     let found = some_suc (place_in paths q) n is in
     ap (λ k. slice_get (p ∷ paths) k) found.2 ∙ later found.0 found.1
 
--- a path stands at its place
+-- A list has the path at its place.
 place_get : (paths : List (List ℕ)) (q : List ℕ) (n : ℕ) → place_in paths q ≡ Some n → slice_get paths n ≡ Some q
 unfolding place_in
 place_get [] q n is = cc
@@ -51,7 +51,7 @@ any_by true o rest is = refl
 any_by false None rest is = is
 any_by false (Some n) rest is = is
 
--- a path is there where it has a place
+-- A list has a path exactly if the path has a place.
 place_any : (paths : List (List ℕ)) (q : List ℕ) → list_any (λ other. bytes_eq q other) paths ≡ is_some (place_in paths q)
 unfolding place_in
 place_any [] q = refl
@@ -63,7 +63,7 @@ push_by false u (Some k) n = refl
 push_by false true None n = refl
 push_by false false None n = refl
 
--- one more path
+-- Places in a list with one more path.
 place_push : (paths : List (List ℕ)) (y q : List ℕ) → place_in (paths ++ y ∷ []) q ≡ option_or (place_in paths q) (cond (bytes_eq q y) (Some (length paths)) None)
 unfolding place_in
 place_push [] y q = refl
@@ -88,7 +88,7 @@ get_either (x ∷ xs) y (suc k) p is = elim (get_either xs y k p is) [
   | inr last ↦ inr (ap suc last.0, last.1)
 ]
 
--- each path's place is where it stands
+-- Each path of a list is at its place, so no path is in the list twice.
 pub ArePlaced : List (List ℕ) → Type 0
 ArePlaced paths = (k : ℕ) (path : List ℕ) → slice_get paths k ≡ Some path → place_in paths path ≡ Some k
 
@@ -136,25 +136,25 @@ unfolding paths_from
 paths_push paths [] f = refl
 paths_push paths (g ∷ files) f = paths_push (with_path paths g) files f
 
--- keys in the order of the ends of paths, then of their bytes
+-- A key: the last eight bytes of a path as a number, and the whole path.
 abbrev Key : Type 0
 Key = ℕ × Bor (List ℕ)
 
 abbrev key_cmp : Key → Key → Ordering
 key_cmp x y = ordering_then (nat_cmp x.0 y.0) (slice_cmp nat_cmp x.1.now y.1.now)
 
--- how a path with an end compares with a key
+-- How a key compares with another one.
 abbrev with_key : ℕ → List ℕ → Key → Ordering
 with_key n q k = ordering_then (nat_cmp n k.0) (slice_cmp nat_cmp q k.1.now)
 
 abbrev found_in : List (Key × ℕ) → List ℕ → Option ℕ
 found_in entries q = lookup (tree.is_at (with_key (ending_of q) q)) entries
 
--- what a map has of a path
+-- The number that a map has for a path.
 abbrev pub number_in : BTreeMap (ℕ × Bor (List ℕ)) ℕ → List ℕ → Option ℕ
 number_in numbers q = tree.get_by (with_key (ending_of q) q) numbers
 
--- a path compares equal to a key of its end and its bytes
+-- A path is equal to a key exactly if its bytes are.
 tests_same : (xs ys : List ℕ) → is_eq (slice_cmp nat_cmp xs ys) ≡ bytes_eq xs ys
 tests_same xs ys = is_eq-slice_cmp xs ys
 
@@ -200,7 +200,7 @@ updated_by true n text q m more w is count updates =
     sym (ap (λ p. number_in more p) same) ∙ sym (ap (λ k. tree.get_by (with_key k text) more) count) ∙ updates.1
 updated_by false n text q m more w is count updates = others_keep m.entries more.entries n text q updates.3 is
 
--- the paths of the first files, and their numbers
+-- The invariant of `number_paths`: the paths of the files so far, and their numbers.
 pub record Numbers (texts : List (List ℕ)) (file : ℕ) (firsts files : List ℕ) (numbers : BTreeMap (ℕ × Bor (List ℕ)) ℕ) : Type 0 where
   pub paths : picked texts firsts ≡ distinct_paths (take file texts)
   pub few : length firsts ≤ file
@@ -223,7 +223,7 @@ numbers_begin texts firsts files numbers no_firsts no_files empty = record {
 none_any : (paths : List (List ℕ)) (q : List ℕ) (o : Option ℕ) → place_in paths q ≡ o → with_path paths q ≡ cond (is_some o) paths (paths ++ q ∷ [])
 none_any paths q o is = ap (λ t. cond t paths (paths ++ q ∷ [])) (place_any paths q ∙ ap is_some is)
 
--- a file whose path has a number
+-- The path of the next file has a number already.
 pub numbers_old : (texts : List (List ℕ)) (file : ℕ) (firsts files more : List ℕ) (numbers : BTreeMap (ℕ × Bor (List ℕ)) ℕ) (text : List ℕ) (long number : ℕ) → file < length texts → Numbers texts file firsts files numbers → text ≡ get_or texts file text → long ≡ ending_of text → Some number ≡ tree.get_by (with_key long text) numbers → more ≡ files ++ number ∷ [] → Numbers texts (file + 1) firsts more numbers
 numbers_old texts file firsts files more numbers text long number inside n at count known added =
     let found : Some number ≡ number_in numbers text = known ∙ ap (λ k. tree.get_by (with_key k text) numbers) count in
@@ -246,7 +246,6 @@ keep_by : (t : Bool) (text q : List ℕ) (numbers : BTreeMap (ℕ × Bor (List �
 keep_by true text q numbers number next is found = found ∙ ap (number_in numbers) (equal text q is)
 keep_by false text q numbers number next is found = refl
 
--- a number that was written over and put back
 pub numbers_back : (texts : List (List ℕ)) (file : ℕ) (firsts files : List ℕ) (numbers once twice : BTreeMap (ℕ × Bor (List ℕ)) ℕ) (text : List ℕ) (long number next : ℕ) → Numbers texts file firsts files numbers → long ≡ ending_of text → Some number ≡ tree.get_by (with_key long text) numbers
     → tree.UpdatesBy key_cmp (with_key long text) numbers once (Some next) → tree.UpdatesBy key_cmp (with_key long text) once twice (Some number) → Numbers texts file firsts files twice
 numbers_back texts file firsts files numbers once twice text long number next n size known over back =
@@ -282,7 +281,7 @@ other_by true text q paths number is none count =
 other_by false text q paths number is none count =
     or_nothing (place_in paths q) (bytes_eq q text) (length paths) (λ yes. (let no : true ≡ false = sym (same_bytes text ∙ refl) ∙ ap (λ r. bytes_eq text r) (sym (equal q text yes)) ∙ is in cc))
 
--- a file whose path has none yet
+-- The path of the next file has no number yet.
 pub numbers_new : (texts : List (List ℕ)) (file : ℕ) (firsts files more_firsts more : List ℕ) (numbers more_numbers : BTreeMap (ℕ × Bor (List ℕ)) ℕ) (text : List ℕ) (long number : ℕ) → file < length texts → Numbers texts file firsts files numbers → text ≡ get_or texts file text → long ≡ ending_of text → None ≡ tree.get_by (with_key long text) numbers → number ≡ length firsts
     → more_firsts ≡ firsts ++ file ∷ [] → tree.UpdatesBy key_cmp (with_key long text) numbers more_numbers (Some number) → more ≡ files ++ number ∷ []
     → Numbers texts (file + 1) more_firsts more more_numbers
@@ -314,7 +313,7 @@ numbers_new texts file firsts files more_firsts more numbers more_numbers text l
       placed = subst ArePlaced (sym paths) (placed_push (picked texts firsts) text n.placed none);
     }
 
--- after the last file
+-- The end of `number_paths`.
 pub numbers_paths : (texts : List (List ℕ)) (file : ℕ) (firsts files : List ℕ) (numbers : BTreeMap (ℕ × Bor (List ℕ)) ℕ) → length texts ≤ file → Numbers texts file firsts files numbers → picked texts firsts ≡ distinct_paths texts
 numbers_paths texts file firsts files numbers all n = n.paths ∙ ap (λ l. paths_from [] l) (take_all file texts all)
 
@@ -327,7 +326,6 @@ numbers_there texts file firsts files numbers all n = subst (λ b. AllBelow b fi
 pub numbers_apart : (texts : List (List ℕ)) (file : ℕ) (firsts files : List ℕ) (numbers : BTreeMap (ℕ × Bor (List ℕ)) ℕ) → Numbers texts file firsts files numbers → AreDistinct (picked texts firsts)
 numbers_apart texts file firsts files numbers n = placed_distinct (picked texts firsts) n.placed
 
--- a text that was read at a place
 pub text_at : (texts : List (List ℕ)) (file : ℕ) (text : List ℕ) → Some text ≡ slice_get texts file → text ≡ get_or texts file text
 text_at [] file text there = absurd (cc)
 text_at (t ∷ texts) zero text there = cc

@@ -1,4 +1,5 @@
--- Each opcode has a byte at the least, so the list of opcodes has no more members than bytes.
+-- Each opcode has at least one byte, so the list of opcodes has no more members than there are
+-- bytes.
 use Rattle.std.proofs.Common.{◌≡◌, ◌≢◌, ◌≤◌, ◌<◌, ℕ, zero, suc, ◌+◌, ◌-◌, ◌==◌, Bool, cond, true, false, List, length, get_or, Option, Some, None, Result, Ok, Err, refl, sym, ap, subst, arith}
 use Rattle.std.proofs.lemmas.Bool.Decides.{nat_tests}
 use Rattle.sym_edges.specs.Results.{◌>>=◌}
@@ -19,7 +20,7 @@ use Rattle.line_program.specs.Opcodes.{one, pass_ulebs, extended_in, extended_at
 one_passes : {A : Type 0} (operand : Ahead → Result (A × Ahead) CursorFault) (make : A → Opcode) (least : ℕ) (c : Ahead) → Passes least c (operand c) → Goes c (one operand make c)
 one_passes operand make least c goes = behind least c (in_line (operand c)) (λ x. Ok (make x.0, x.1)) (line_passes least c (operand c) goes) (λ x. stays (make x.0) x.1)
 
--- operands that are passed over
+-- Skipping operands moves forward.
 abbrev PassesOver : Ahead → Result Ahead Fault → Type 0
 PassesOver c (Ok later) = (length later.bytes ≤ length c.bytes) × (later.at + length later.bytes ≡ c.at + length c.bytes)
 PassesOver c (Err fault) = Unit {0}
@@ -80,14 +81,13 @@ pub opcode_passes : (p : ProgramFields) (c : Ahead) → Passes 1 c (opcode_at p 
 unfolding opcode_at
 opcode_passes p c = passes_then (in_line (fixed_at 1 c)) (λ code. behind_opcode p c.at code.0 code.1) 1 0 c (line_passes 1 c (fixed_at 1 c) (fixed_passes 1 c)) (λ code. (behind_passes p c.at code.0 code.1).passes)
 
--- an opcode was read, so fewer bytes are left
+-- If an opcode was read, fewer bytes are left.
 shorter_by : (r : Result (Opcode × Ahead) Fault) (c d : Ahead) (opcode : Opcode) → Passes 1 c r → Ok (opcode, d) ≡ r → length d.bytes < length c.bytes
 shorter_by r c d opcode goes is = let both = subst (Passes 1 c) (sym is) goes in omega (arith, both.0)
 
 pub opcode_shorter : (p : ProgramFields) (c d : Ahead) (opcode : Opcode) → Ok (opcode, d) ≡ opcode_at p c → length d.bytes < length c.bytes
 opcode_shorter p c d opcode is = shorter_by (opcode_at p c) c d opcode (opcode_passes p c) is
 
--- what comes of one reading, where a byte is left
 abbrev pub next_by : Bool → Ahead → Result (Opcode × Ahead) Fault → Result (Option Opcode × Ahead) Fault
 next_by ended c reading = cond ended (Ok (None, c)) (reading >>= λ opcode. Ok (Some opcode.0, opcode.1))
 

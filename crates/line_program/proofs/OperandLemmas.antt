@@ -1,4 +1,5 @@
--- A standard opcode takes the operand that the table of opcodes gives it; for `operands_are_those_of_the_table`.
+-- A standard opcode has the operands that the standard gives it (for
+-- `operands_are_those_of_the_table`).
 use Rattle.std.proofs.Common.{ℕ, List, refl}
 use Rattle.std.specs.List.{All}
 use Rattle.leb_cursor.specs.Readings.{fixed_at, uleb_at, sleb_at}

@@ -1,4 +1,4 @@
--- Rows painted from an address on.
+-- The lines of rows, painted from an address on.
 use Rattle.std.proofs.Common.{◌≡◌, ◌≢◌, ℕ, zero, suc, ◌+◌, ◌-◌, ◌<◌, ◌≤◌, nat_le, nat_lt, Bool, cond, true, false, List, [], ◌∷◌, ◌++◌, length, get_or, take, drop, Option, Some, None, refl, sym, ◌∙◌, ap, subst, inl, inr, arith}
 use Rattle.std.specs.List.{slice_get}
 use Rattle.std.specs.List.Sorted.{IsPartitionedBy, IsPartitionPoint}
@@ -25,7 +25,6 @@ or_none : (o : Option Row) → or_row o None ≡ o
 or_none None = refl
 or_none (Some r) = refl
 
--- rows in two parts
 last_append : (xs ys : List Row) (a : ℕ) → last_at (xs ++ ys) a ≡ or_row (last_at ys a) (last_at xs a)
 unfolding last_at
 last_append [] ys a = sym (or_none (last_at ys a))
@@ -34,7 +33,6 @@ last_append (x ∷ xs) ys a = ap (λ o. or_row o (cond (nat_le x.address a) (Som
 last_parts : (rows : List Row) (n a : ℕ) → last_at rows a ≡ or_row (last_at (drop n rows) a) (last_at (take n rows) a)
 last_parts rows n a = ap (λ l. last_at l a) (sym (take-append-drop n rows)) ∙ last_append (take n rows) (drop n rows) a
 
--- rows above an address say nothing of it
 last_none : (low : ℕ) (rows : List Row) (a : ℕ) → SortedFrom low rows → a < low → last_at rows a ≡ None
 unfolding last_at
 last_none low [] a sorted below = refl
@@ -42,7 +40,6 @@ last_none low (r ∷ rows) a sorted below =
     ap (λ o. or_row o (cond (nat_le r.address a) (Some r) None)) (last_none r.address rows a sorted.1 (omega (arith, sorted.0)))
     ∙ ap (λ b. cond b (Some r) None) (lt-leb r.address a (omega (arith, sorted.0)))
 
--- where no row is above the address the last one counts
 last_all : (rows : List Row) (i a : ℕ) (d : Row) → length rows ≡ i + 1 → ((k : ℕ) (e : Row) → k ≤ i → (get_or rows k e).address ≤ a) → last_at rows a ≡ Some (get_or rows i d)
 unfolding last_at
 last_all [] i a d many below = absurd (omega arith)
@@ -61,7 +58,7 @@ up_to_take end zero rows all = tt
 up_to_take end (suc n) [] all = tt
 up_to_take end (suc n) (r ∷ rows) all = (all 0 r (omega arith) (omega arith), up_to_take end n rows (λ k d h g. all (suc k) d (omega arith) (omega arith)))
 
--- where the rows are parted
+-- A partition point of sorted rows.
 abbrev pub Below : List Row → ℕ → ℕ → Type 0
 Below rows end n = IsPartitionPoint (λ r. nat_lt r.address end ≡ true) (λ r. nat_lt r.address end ≡ false) rows n
 
@@ -118,7 +115,7 @@ parts_some first numbers rows start n line row d sorted point some inside at is 
     subst (λ (r : Row). r.address ≤ a) (sym (get_or-take n rows k e less)) (omega arith)))
     ∙ ap Some (get_or-take n rows (n - 1) d (omega arith) ∙ sym at))))
 
--- the rows that are left, over what is painted
+-- The invariant of `paint_rows`: the rows that are left, and what is painted so far.
 pub record Paints (first : ℕ) (numbers : List ℕ) (rows : List Row) (old : Stepping PathLine) (start : ℕ) (painted : Stepping PathLine) (from : ℕ) (now : PathLine) (rest : List Row) : Type 0 where
   pub start_below : start ≤ from
   pub sorted : SortedFrom from rest
@@ -177,7 +174,7 @@ pub paints_last : (first : ℕ) (numbers : List ℕ) (rows : List Row) (old : St
     → Paints first numbers rows old start painted from now rest → (end : ℕ) → start ≤ end → AllUpTo end rows → last_from 0 painted.stops ≤ end
 paints_last first numbers rows old start painted from now rest p end le all = omega (arith, p.last, (p.up_to end le all).0)
 
--- one piece after another
+-- The line that is wanted at each address, made of one piece after another.
 abbrev pub wanted : List Counted → List ℕ → List (Option FirstItem) → ℕ → List ℕ → ℕ → PathLine
 wanted kept stops covers first numbers a = numbered_line_of first numbers (row_by (covering kept (held_from None stops covers a)) a)
 

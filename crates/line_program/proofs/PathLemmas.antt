@@ -1,4 +1,4 @@
--- Directories by their numbers.
+-- The directories of a table by their numbers.
 use Rattle.std.proofs.Common.{◌≡◌, ◌≢◌, ℕ, zero, suc, ◌-◌, ◌==◌, Bool, true, false, cond, List, [], ◌∷◌, map, Some, None, refl, sym, ◌∙◌, ap, arith}
 use Rattle.std.specs.List.{slice_get}
 use Rattle.std.specs.Option.{option_map}
@@ -31,7 +31,7 @@ entry_missing some root entries view n path is holds later at =
     ap (λ v. path_under (slice_get v n) path) (there some root entries view is holds)
     ∙ ap (λ o. path_under o path) (behind_root root entries n later ∙ ap (λ o. option_map (λ (d : FileFields). joined root d.path) o) (sym at))
 
--- the directories that the code keeps are those of the table
+-- The directories that the code stores are those of the table.
 pub kept_old : (version : ℕ) (comp_dir root : List ℕ) (entries : List FileFields) → (version == 5) ≡ false → root ≡ comp_dir → directories_in true root entries ≡ directories_of version comp_dir entries
 unfolding directories_of
 kept_old version comp_dir root entries old is =

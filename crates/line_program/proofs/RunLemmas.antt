@@ -1,4 +1,4 @@
--- A program, one opcode after another.
+-- A program, executed one opcode after another.
 use Rattle.std.proofs.Common.{◌≡◌, ◌≢◌, ℕ, ◌==◌, true, false, List, [], ◌∷◌, length, Some, Result, Ok, Err, refl, sym, ◌∙◌, ap, arith}
 use Rattle.std.proofs.lemmas.Bool.Decides.{nat_tests}
 use Rattle.std.proofs.lemmas.List.{map-append}
@@ -20,7 +20,7 @@ some_left n is = grind (arith, nat_tests)
 none_left : (n : ℕ) → true ≡ (n == 0) → n ≡ 0
 none_left n is = grind (arith, nat_tests)
 
--- what is carried out of a list that may be a fault
+-- The state after a list of opcodes that may be a fault.
 abbrev carry : ProgramFields → State → Result (List Opcode × Ahead) Fault → Result State Fault
 carry p s opcodes = opcodes >>= λ list. Ok (all_kept p list.0 s)
 
@@ -56,7 +56,7 @@ run_more p s next c later opcode some read is =
     ∙ carry_more p s opcode later (opcodes_at p later)
     ∙ ap (λ t. carry p t (opcodes_at p later)) (sym is)
 
--- ---- rows as they are kept
+-- The same with rows as they are stored.
 
 kept_after : (p : ProgramFields) (opcode : Opcode) (s : State) → carried_kept p opcode (kept_state s) ≡ kept_state (carried p opcode s)
 unfolding carried_kept carried moved

@@ -1,4 +1,4 @@
--- Line tables for worked rows, field by field.
+-- Line tables for the worked examples, made field by field.
 use Rattle.std.proofs.Common.{ℕ, false, None, nat_lt, ◌==◌, cond, List, [], ◌∷◌, ◌++◌, length, map, codes, Option, Result, Ok}
 use Rattle.std.specs.Prelude.{⊤}
 use Prim.Native.String.{String}
@@ -12,23 +12,24 @@ use Rattle.line_program.specs.Faults.{Fault}
 use Rattle.line_program.specs.LineAt.{Lines, line_at}
 use Rattle.line_program.specs.LineTables.{unit_lines}
 
--- bytes after their count
+-- Bytes with their count in front.
 unfoldable pub counted : ℕ → List ℕ → List ℕ
 unfolding little
 counted width bytes = little width (length bytes) ++ bytes
 
--- what stands between header_length and the tables: a minimum length, the operations of an instruction from version 4 on,
--- default_is_stmt 1, line_base -3, line_range 12, opcode_base 13 and the standard's lengths
+-- The fields between header_length and the tables: minimum_instruction_length,
+-- maximum_operations_per_instruction (from version 4 on), default_is_stmt 1, line_base -3,
+-- line_range 12, opcode_base 13 and the operand counts of the standard's opcodes.
 unfoldable pub fields : ℕ → List ℕ
 unfolding hex
 fields version = hex "01" ++ (cond (nat_lt version 4) [] (hex "01") ++ hex "01 fd 0c 0d 00 01 01 01 01 00 00 00 01 00 00 01")
 
--- the sizes of an address and of a segment, in version 5
+-- The sizes of an address and of a segment selector, in version 5.
 unfoldable pub sizes : ℕ → List ℕ
 unfolding hex
 sizes version = cond (version == 5) (hex "08 00") []
 
--- a table after its length, with these fields, both tables of directories and files, and a program
+-- A table after its length: these fields, the tables of directories and files, and a program.
 unfoldable pub contents : ℕ → List ℕ → List ℕ → List ℕ → List ℕ
 unfolding little sizes counted
 contents version between tables program = little 2 version ++ (sizes version ++ (counted 4 (between ++ tables) ++ program))
@@ -37,12 +38,12 @@ unfoldable pub table : ℕ → String → String → List ℕ
 unfolding hex fields contents counted
 table version tables program = counted 4 (contents version (fields version) (hex tables) (hex program))
 
--- the same in the 64-bit format
+-- The same table in the 64-bit format.
 unfoldable pub wide_table : ℕ → String → String → List ℕ
 unfolding hex little fields sizes counted
 wide_table version tables program = hex "ffffffff" ++ counted 8 (little 2 version ++ (sizes version ++ (counted 8 (fields version ++ hex tables) ++ hex program)))
 
--- the section of line tables, and texts at their places in the two sections of texts
+-- The section of line tables, and texts in the two sections of texts.
 unfoldable pub sections : List ℕ → DebugSections
 unfolding hex
 sections line = record {
@@ -59,17 +60,17 @@ sections line = record {
   is_sup = false;
 }
 
--- the table at an offset, of a unit whose root stands at b
+-- The table at an offset, read for a unit whose root is at b.
 unfoldable pub read_at : ℕ → String → List ℕ → Result Lines Fault
 unfolding sections
 read_at offset comp_dir line = unit_lines (sections line) offset 0xb (codes comp_dir)
 
--- the number of its first file
+-- The number of the table's first file.
 unfoldable pub first_file : ℕ → List ℕ → Result ℕ Fault
 unfolding read_at
 first_file offset line = read_at offset "/s" line >>= λ lines. Ok lines.first
 
--- the files' paths
+-- The paths of the files.
 unfoldable pub paths : String → List ℕ → Result (List String) Fault
 unfolding read_at shown
 paths comp_dir line = read_at 0 comp_dir line >>= λ lines. Ok (map shown lines.files)
@@ -77,7 +78,7 @@ paths comp_dir line = read_at 0 comp_dir line >>= λ lines. Ok (map shown lines.
 abbrev named : Option (List ℕ × ℕ) → Option (String × ℕ)
 named at = option_map (λ l. (shown l.0, l.1)) at
 
--- the lines of some addresses, where 1000 to 2000 are code, and 2000 to 3000
+-- The lines of some addresses, if 1000 to 2000 and 2000 to 3000 are code.
 unfoldable pub lines : List ℕ → List ℕ → Result (List (Option (String × ℕ))) Fault
 unfolding read_at shown
 lines addresses line =

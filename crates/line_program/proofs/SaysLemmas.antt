@@ -1,4 +1,4 @@
--- What a table says by numbers is what the line table says by paths.
+-- A table that gives lines with path numbers is a model of a line table with paths.
 use Rattle.std.proofs.Common.{◌≡◌, ◌≢◌, ◌<◌, ◌^◌, ℕ, zero, suc, ◌-◌, ◌==◌, ◌&&◌, nat_lt, nat_le, Bool, true, false, cond, List, [], ◌∷◌, length, get_or, Option, Some, None, Result, Ok, refl, sym, ◌∙◌, ap, subst, arith}
 use Rattle.std.specs.List.{slice_get}
 use Rattle.std.specs.Option.{option_map, option_and_then}
@@ -17,7 +17,6 @@ use Rattle.line_program.specs.LineTables.{Says}
 use Rattle.line_program.specs.internal.Numbered.{number_of, numbered_line_by, numbered_line_of, numbered_at}
 use Rattle.line_program.specs.internal.Numbering.{picked, AreNumbered, AllBelow, IsLineMap}
 
--- a file's number leads to its path
 numbered_get : (paths : List (List ℕ)) (numbers : List ℕ) (files : List (List ℕ)) (k : ℕ) → AreNumbered paths numbers files → option_and_then (slice_get paths) (slice_get numbers k) ≡ slice_get files k
 numbered_get paths [] [] k are = refl
 numbered_get paths [] (f ∷ files) k are = absurd are
@@ -38,7 +37,6 @@ all_below paths (n ∷ numbers) [] are k inside = absurd are
 all_below paths (n ∷ numbers) (f ∷ files) are zero inside = slice_get_within paths n f are.0
 all_below paths (n ∷ numbers) (f ∷ files) are (suc k) inside = all_below paths numbers files are.1 k (omega arith)
 
--- the line of a number, where the number is there
 line_by_number : (t : Bool) (paths : List (List ℕ)) (n line : ℕ) → (line == 0) ≡ t → named_line paths (shown (cond t no_line (record { path = n; line = line }))) ≡ cond t None (option_map (λ path. (path, line)) (slice_get paths n))
 line_by_number true paths n line is = refl
 line_by_number false paths n line is = ap (λ b. named_line paths (cond b None (Some (n, line)))) is
@@ -69,7 +67,7 @@ says_lines code sequences first texts firsts numbers lines paths are by_lines = 
   paths = paths;
 }
 
--- a line names a path that is there
+-- If there is a line, its path number is below a bound.
 IsNamed : ℕ → PathLine → Type 0
 IsNamed bound at = at.line ≢ 0 → at.path < bound
 
@@ -105,7 +103,7 @@ is_line_map code sequences first texts firsts numbers lines there apart are by_l
       apart = apart;
     }
 
--- nothing is named by a table without lines and files
+-- A table without lines and files is consistent.
 pub no_line_map : (lines : Stepping PathLine) (texts : List (List ℕ)) (firsts files : List ℕ) → lines ≡ record { stops = []; values = [] } → firsts ≡ [] → files ≡ [] → IsLineMap lines texts firsts files
 unfolding held_from
 no_line_map lines texts firsts files no_lines no_firsts no_files = record {
@@ -115,7 +113,7 @@ no_line_map lines texts firsts files no_lines no_firsts no_files = record {
   apart = subst (λ l. AreDistinct (picked texts l)) (sym no_firsts) (λ j k path first second. cc);
 }
 
--- the code that is meant depends on what it encloses alone
+-- Only what the ranges of code enclose matters.
 covers_alike : (code other : ℕ → ℕ → Bool) (s : Sequence) (start : Option ℕ) (a : ℕ) → ((x y : ℕ) → code x y ≡ other x y) → covers_from code s.end start a ≡ covers_from other s.end start a
 covers_alike code other s None a alike = refl
 covers_alike code other s (Some start) a alike = ap (λ b. (nat_lt start s.end && b) && (nat_le start a && nat_lt a s.end)) (alike start s.end)
@@ -135,11 +133,11 @@ says_alike code other lines table alike says = record {
   paths = says.paths;
 }
 
--- what was read, said of any spans that enclose the same
+-- A model holds for any spans that enclose the same ranges.
 pub says_read : (code : List Range) (read : Result Lines Fault) (lines : Lines) (table : LineMap) → read ≡ Ok lines → SaysLines (encloses code) lines table → (spans : List Range) → EncloseAlike code spans → Says (encloses spans) read table
 says_read code read lines table is says spans alike = subst (λ r. Says (encloses spans) r table) (sym is) (says_alike (encloses code) (encloses spans) lines table alike says)
 
--- the same, where both lists were seen as slices
+-- The same, if lists of the table were seen as slices.
 pub of_says : (code : ℕ → ℕ → Bool) (sequences : List Sequence) (first : ℕ) (texts : List (List ℕ)) (firsts numbers numbers_slice : List ℕ) (lines : Stepping PathLine) (read : Lines)
     → record { sequences = sequences; first = first; files = texts } ≡ read → numbers_slice ≡ numbers → picked texts firsts ≡ distinct_paths texts → AreNumbered (picked texts firsts) numbers texts → ((a : ℕ) → a < 2 ^ 64 → value_at no_line lines a ≡ numbered_at code sequences first numbers_slice a)
     → SaysLines code read (record { lines = lines; paths = picked texts firsts; first = first; files = numbers })

@@ -1,4 +1,4 @@
--- The line at a stop is the value beside it.
+-- The line at a stop is the value stored with it.
 use Rattle.std.proofs.Common.{◌≡◌, ◌≢◌, ◌<◌, ◌≤◌, ◌^◌, ℕ, zero, suc, ◌+◌, ◌==◌, Bool, true, false, cond, List, [], ◌∷◌, length, get_or, Some, None, refl, sym, ◌∙◌, ap, subst, arith}
 use Rattle.std.specs.Option.{IfSome}
 use Rattle.std.proofs.lemmas.Bool.Decides.{nat_tests}
@@ -35,7 +35,7 @@ named_by false v bound is below = below (grind (arith, nat_tests))
 pub stop_named : (v : PathLine) (bound : ℕ) → (v.line ≢ 0 → v.path < bound) → IfSome (shown v) (λ line. line.0 < bound)
 stop_named v bound below = named_by (v.line == 0) v bound refl below
 
--- what stands beside a stop of a table
+-- The value stored with a stop of a table.
 pub value_there : (lines : Stepping PathLine) (texts : List (List ℕ)) (firsts : List ℕ) (first : ℕ) (files : List ℕ) (table : LineMap) (values : List PathLine) (i : ℕ) → (let view : LineMap = record { lines = lines; paths = picked texts firsts; first = first; files = files } in view) ≡ table → IsStepping lines.stops lines.values → values ≡ lines.values → i < length table.lines.stops → i < length values
 value_there lines texts firsts first files table values i view stepping is inside =
     values_there lines values i stepping is (subst (λ (t : LineMap). i < length t.lines.stops) (sym view) inside)

@@ -1,4 +1,4 @@
--- The lines of a table, from the sequences that count.
+-- The lines of a table, made from the sequences that count.
 use Rattle.std.proofs.Common.{◌≡◌, ℕ, ◌<◌, ◌≤◌, ◌^◌, nat_le, ◌+◌, ◌-◌, Bool, true, false, not, ◌&&◌, cond, List, [], ◌∷◌, ◌++◌, length, get_or, drop, Option, Some, None, refl, sym, ◌∙◌, ap, ◌⊎◌, inl, inr, append_assoc, append-nil, arith}
 use Rattle.std.specs.List.{slice_get}
 use Rattle.std.specs.Option.{option_map}
@@ -28,7 +28,7 @@ same_held before (s ∷ stops) (v ∷ values) a b le apart =
     ap (λ t. held_from (cond t v before) stops values a) (same_test s a b le apart.0)
     ∙ same_held (cond (nat_le s b) v before) stops values a b le apart.1
 
--- the line stays where no stop is passed
+-- The line is the same at two addresses if no stop is between them.
 pub same_between : (table : LineMap) (a b : ℕ) → a ≤ b → NoStopBetween a b table.lines.stops → numbered_line table a ≡ numbered_line table b
 same_between table a b le apart = ap shown (same_held no_line table.lines.stops table.lines.values a b le apart)
 
@@ -36,7 +36,7 @@ get_behind : (front : List Counted) (k : Counted) (back : List Counted) → slic
 get_behind [] k back = refl
 get_behind (x ∷ front) k back = get_behind front k back
 
--- an item by its index alone
+-- The counted sequence with an index that may be missing.
 abbrev by_index : List Counted → Option ℕ → Option Counted
 by_index kept None = None
 by_index kept (Some index) = slice_get kept index
@@ -53,7 +53,7 @@ by_test : (b : Bool) (front : List Counted) (k : Counted) (kept : List Counted) 
 by_test true front k kept s n a other row count later = ap (λ m. row_by (slice_get (front ++ k ∷ kept) m) a) count ∙ ap (λ o. row_by o a) (get_behind front k kept)
 by_test false front k kept s n a other row count later = later
 
--- the first stretch that has an address is that of the first sequence that has it
+-- The first stretch that contains an address is that of the first sequence that covers it.
 items_from : (front kept : List Counted) (n a : ℕ) → n ≡ length front → row_by (by_index (front ++ kept) (option_map (λ s. s.index) (first_at (stretches_from n kept) a))) a ≡ counted_row kept a
 unfolding first_at counted_row
 items_from front [] n a count = refl
@@ -79,7 +79,7 @@ several_lines kept stretches stretches_slice covers stops items lines first numb
     (ap (λ l. held_from None l items a) is_stops ∙ ap (λ l. held_from None covers.stops l a) is_items ∙ by_covers a low ∙ ap (λ l. first_item l a) (is_slice ∙ is_stretches))
     ∙ ap (numbered_line_of first numbers) (items_count kept a)
 
--- a single sequence covers the addresses from its first one up to its last
+-- A single sequence covers the addresses from its first to its last.
 one_by : (reached inside past : Bool) (k : Counted) (item : FirstItem) (a : ℕ) → item.index ≡ 0 → past ≡ not inside → row_by (covering (k ∷ []) (cond past None (cond reached (Some item) None))) a ≡ cond (reached && inside) (last_at k.rows a) None
 one_by true true false k item a index is = ap (λ n. row_by (slice_get (k ∷ []) n) a) index
 one_by true false true k item a index is = refl
@@ -122,7 +122,7 @@ one_to_the_end kept k d item lines first numbers one at index last held a low =
     ∙ ap (λ l. numbered_line_of first numbers (row_by (covering l (cond (nat_le k.first a) (Some item) None)) a)) all
     ∙ ap (numbered_line_of first numbers) (one_by (nat_le k.first a) (nat_le a k.last) false k item a index (sym (ap not (le-leb a k.last (omega arith)))) ∙ ap (λ l. counted_row l a) (sym all))
 
--- the lines of the sequences that count are those of all
+-- The lines of the sequences that count are those of all sequences.
 pub counted_lines : (code : ℕ → ℕ → Bool) (sequences : List Sequence) (kept kept_slice : List Counted) (lines : Stepping PathLine) (first : ℕ) (numbers : List ℕ)
     → ((a : ℕ) → counted_row kept a ≡ row_in code sequences a) → kept_slice ≡ kept
     → ((a : ℕ) → a < 2 ^ 64 → value_at no_line lines a ≡ numbered_line_of first numbers (counted_row kept_slice a))
@@ -131,7 +131,7 @@ unfolding numbered_at
 counted_lines code sequences kept kept_slice lines first numbers counted is_kept by_lines a low =
     by_lines a low ∙ ap (numbered_line_of first numbers) (ap (λ l. counted_row l a) is_kept ∙ counted a)
 
--- the stretches so far, and those still to come
+-- The stretches so far, and those that are still to be added.
 pub stretches_begin : (kept : List Counted) (stretches : List Stretch) → stretches ≡ [] → stretches ++ stretches_from 0 (drop 0 kept) ≡ stretches_from 0 kept
 stretches_begin kept stretches none = ap (λ l. l ++ stretches_from 0 kept) none
 

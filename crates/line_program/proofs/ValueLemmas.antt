@@ -1,4 +1,4 @@
--- For `read_value`: what the usual forms are.
+-- The usual forms of values, for `read_value`.
 use Rattle.std.proofs.Common.{◌≡◌, ℕ, pos, Bool, true, false, Result, Ok, Err, refl, sym, ap, ◌∙◌}
 use Rattle.sym_edges.specs.Results.{◌>>=◌}
 use Rattle.leb_cursor.specs.declared.fault.CursorFault.{CursorFault}

@@ -1,14 +1,15 @@
--- Worked rows: the lines of addresses (DWARF 5, 6.2.2).
+-- Worked examples: the lines of addresses (DWARF 5, 6.2.2).
 use Rattle.std.proofs.Common.{◌≡◌, [], ◌∷◌, Some, None, Ok, refl}
 use Rattle.line_program.proofs.Computing.{line_program_computes}
 use Rattle.line_program.proofs.Samples.{table, wide_table, lines, tables_compute}
 
--- of rows at one address the last counts; line 0 is none; the end is no row
+-- Of rows at one address the last counts. A row with line 0 gives no line, and the end of a
+-- sequence is no row.
 rows_of_one_address : lines (0xfff ∷ 0x1000 ∷ 0x1007 ∷ 0x1008 ∷ 0x100b ∷ 0x100c ∷ 0x100f ∷ 0x1010 ∷ []) (table 4 "00 612e6300 00 00 00 622e6300 00 00 00 00" "00 09 02 00 10 00 00 00 00 00 00 03 02 01 03 01 01 02 08 03 7c 01 02 04 03 05 01 02 04 00 01 01") ≡ Ok (None ∷ Some ("/s/a.c", 4) ∷ Some ("/s/a.c", 4) ∷ None ∷ None ∷ Some ("/s/a.c", 5) ∷ Some ("/s/a.c", 5) ∷ None ∷ [])
 unfolding line_program_computes tables_compute
 rows_of_one_address = refl
 
--- a sequence without its end
+-- A sequence without an end.
 no_end : lines (0x1000 ∷ []) (table 4 "00 612e6300 00 00 00 622e6300 00 00 00 00" "00 09 02 00 10 00 00 00 00 00 00 01 02 08") ≡ Ok (None ∷ [])
 unfolding line_program_computes tables_compute
 no_end = refl
@@ -17,7 +18,7 @@ no_rows : lines (0x1000 ∷ []) (table 4 "00 612e6300 00 00 00 622e6300 00 00 00
 unfolding line_program_computes tables_compute
 no_rows = refl
 
--- a sequence that is not code
+-- A sequence that is not code.
 no_code : lines (0x500 ∷ 0x1000 ∷ 0x1007 ∷ []) (table 4 "00 612e6300 00 00 00 622e6300 00 00 00 00" "00 09 02 00 05 00 00 00 00 00 00 01 02 08 00 01 01 00 09 02 00 10 00 00 00 00 00 00 01 02 08 00 01 01") ≡ Ok (None ∷ Some ("/s/a.c", 1) ∷ Some ("/s/a.c", 1) ∷ [])
 unfolding line_program_computes tables_compute
 no_code = refl
@@ -30,7 +31,7 @@ up_to_the_end_of_code : lines (0x1ff8 ∷ 0x1fff ∷ 0x2000 ∷ []) (table 4 "00
 unfolding line_program_computes tables_compute
 up_to_the_end_of_code = refl
 
--- of two that overlap the first counts
+-- Of two sequences that overlap the first counts.
 the_inner_one_second : lines (0x1000 ∷ 0x1008 ∷ 0x1010 ∷ []) (table 4 "00 612e6300 00 00 00 622e6300 00 00 00 00" "00 09 02 00 10 00 00 00 00 00 00 01 02 20 00 01 01 00 09 02 08 10 00 00 00 00 00 00 03 04 01 02 08 00 01 01") ≡ Ok (Some ("/s/a.c", 1) ∷ Some ("/s/a.c", 1) ∷ Some ("/s/a.c", 1) ∷ [])
 unfolding line_program_computes tables_compute
 the_inner_one_second = refl
@@ -39,7 +40,7 @@ the_inner_one_first : lines (0x1000 ∷ 0x1007 ∷ 0x1008 ∷ 0x100f ∷ 0x1010 
 unfolding line_program_computes tables_compute
 the_inner_one_first = refl
 
--- rows in falling order of their addresses
+-- Rows in descending order of their addresses.
 falling : lines (0x1003 ∷ 0x1004 ∷ 0x1007 ∷ 0x1008 ∷ 0x100b ∷ 0x100c ∷ []) (table 4 "00 612e6300 00 00 00 622e6300 00 00 00 00" "00 09 02 08 10 00 00 00 00 00 00 03 09 01 00 09 02 04 10 00 00 00 00 00 00 03 01 01 00 09 02 0c 10 00 00 00 00 00 00 00 01 01") ≡ Ok (None ∷ Some ("/s/a.c", 11) ∷ Some ("/s/a.c", 11) ∷ Some ("/s/a.c", 10) ∷ Some ("/s/a.c", 10) ∷ None ∷ [])
 unfolding line_program_computes tables_compute
 falling = refl
@@ -48,7 +49,7 @@ rows_above_the_end : lines (0x1000 ∷ 0x1003 ∷ 0x1004 ∷ 0x1008 ∷ []) (tab
 unfolding line_program_computes tables_compute
 rows_above_the_end = refl
 
--- files are numbered from 1, in version 5 from 0
+-- Files are numbered from 1, in version 5 from 0.
 files_of_version_4 : lines (0x1000 ∷ 0x1001 ∷ 0x1002 ∷ 0x1003 ∷ []) (table 4 "00 612e6300 00 00 00 622e6300 00 00 00 00" "00 09 02 00 10 00 00 00 00 00 00 04 00 01 02 01 04 01 01 02 01 04 02 01 02 01 04 03 01 02 01 00 01 01") ≡ Ok (None ∷ Some ("/s/a.c", 1) ∷ Some ("/s/b.c", 1) ∷ None ∷ [])
 unfolding line_program_computes tables_compute
 files_of_version_4 = refl
@@ -61,17 +62,17 @@ a_file_past_32_bits : lines (0x1000 ∷ []) (table 4 "00 612e6300 00 00 00 622e6
 unfolding line_program_computes tables_compute
 a_file_past_32_bits = refl
 
--- the files at the end of the program count for all rows
+-- A file that is defined at the end of the program counts for all rows.
 a_file_that_is_defined_later : lines (0x1000 ∷ []) (table 4 "00 612e6300 00 00 00 622e6300 00 00 00 00" "00 09 02 00 10 00 00 00 00 00 00 04 03 01 02 01 00 01 01 00 08 03 632e6300 00 00 00") ≡ Ok (Some ("/s/c.c", 1) ∷ [])
 unfolding line_program_computes tables_compute
 a_file_that_is_defined_later = refl
 
--- a function of rows 1000 line 3, 1004 line 9, 100c line 4
+-- A function with the rows 1000 line 3, 1004 line 9 and 100c line 4.
 one_function : lines (0x1000 ∷ 0x1003 ∷ 0x1004 ∷ 0x100b ∷ 0x100c ∷ 0x101f ∷ 0x1020 ∷ []) (table 4 "00 612e6300 00 00 00 622e6300 00 00 00 00" "00 09 02 00 10 00 00 00 00 00 00 03 02 01 02 04 03 06 01 02 08 03 7b 01 02 14 00 01 01") ≡ Ok (Some ("/s/a.c", 3) ∷ Some ("/s/a.c", 3) ∷ Some ("/s/a.c", 9) ∷ Some ("/s/a.c", 9) ∷ Some ("/s/a.c", 4) ∷ Some ("/s/a.c", 4) ∷ None ∷ [])
 unfolding line_program_computes tables_compute
 one_function = refl
 
--- a table of version 3, and one in the 64-bit format
+-- A table of version 3, and one in the 64-bit format.
 version_3 : lines (0x1000 ∷ 0x1003 ∷ 0x1004 ∷ []) (table 3 "00 612e6300 00 00 00 622e6300 00 00 00 00" "00 09 02 00 10 00 00 00 00 00 00 03 02 01 02 04 00 01 01") ≡ Ok (Some ("/s/a.c", 3) ∷ Some ("/s/a.c", 3) ∷ None ∷ [])
 unfolding line_program_computes tables_compute
 version_3 = refl

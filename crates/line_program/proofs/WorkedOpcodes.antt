@@ -1,4 +1,4 @@
--- Worked rows: each opcode with the registers after it (DWARF 5, 6.2.5).
+-- Worked examples: each opcode, with the registers after it (DWARF 5, 6.2.5).
 use Rattle.std.proofs.Common.{◌≡◌, ℕ, ◌-◌, ℤ, pos, negsuc, [], ◌∷◌, take, codes, Result, Ok, Err, refl}
 use Prim.Native.String.{String}
 use Rattle.sym_edges.proofs.Hex.{hex}
@@ -15,7 +15,7 @@ reg address file line = record { address = address; file = file; line = line }
 abbrev reg_row : Registers → Row
 reg_row r = record { address = r.address; file = r.file; line = r.line }
 
--- what a header says, with the operands of the standard's opcodes and of seven that are not known
+-- The fields of a header, with the operands of the standard's opcodes and of seven unknown ones.
 abbrev program : ℕ → ℕ → ℤ → ℕ → ℕ → ProgramFields
 program version minimum_length line_base line_range opcode_base = record {
   version = version;
@@ -50,23 +50,23 @@ base10 = program 2 1 (negsuc 2) 12 10
 abbrev base20 : ProgramFields
 base20 = program 4 1 (negsuc 2) 12 20
 
--- in front of each opcode
+-- The state before each opcode.
 abbrev begun : State
 begun = record { registers = reg 0x1000 2 10; rows = []; sequences = []; files = [] }
 
--- the registers alone change, and a row of them is added
+-- Only the registers change; the registers change and their row is added.
 abbrev moves : Registers → Result State Fault
 moves r = Ok (record { registers = r; rows = []; sequences = []; files = [] })
 
 abbrev adds : Registers → Result State Fault
 adds r = Ok (record { registers = r; rows = reg_row r ∷ []; sequences = []; files = [] })
 
--- the state after opcodes that stand from 40 on
+-- The state after opcodes that begin at place 40.
 unfoldable behind : ProgramFields → String → Result State Fault
 unfolding hex
 behind p text = run_from p begun (record { bytes = hex text; at = 0x40 })
 
--- standard opcodes; each begins at address 1000, file 2 and line 10
+-- Standard opcodes; each begins at address 1000, file 2 and line 10.
 copy : behind usual "01" ≡ adds (reg 0x1000 2 10)
 unfolding line_program_computes behind
 copy = refl
@@ -75,12 +75,12 @@ advance_pc : behind usual "02 8001" ≡ moves (reg 0x1080 2 10)
 unfolding line_program_computes behind
 advance_pc = refl
 
--- the minimum length of an instruction is 4
+-- The minimum instruction length is 4.
 advance_pc_by_fours : behind fours "02 03" ≡ moves (reg 0x100c 2 10)
 unfolding line_program_computes behind
 advance_pc_by_fours = refl
 
--- modulo 2^64
+-- Addresses are modulo 2^64.
 advance_pc_past_the_end : behind usual "02 ffffffffffffffffff01" ≡ moves (reg 0xfff 2 10)
 unfolding line_program_computes behind
 advance_pc_past_the_end = refl
@@ -93,7 +93,7 @@ advance_line_to_0 : behind usual "03 76" ≡ moves (reg 0x1000 2 0)
 unfolding line_program_computes behind
 advance_line_to_0 = refl
 
--- modulo 2^32
+-- Lines are modulo 2^32.
 advance_line_below_0 : behind usual "03 75" ≡ moves (reg 0x1000 2 4294967295)
 unfolding line_program_computes behind
 advance_line_below_0 = refl
@@ -118,7 +118,7 @@ set_basic_block : behind usual "07" ≡ moves (reg 0x1000 2 10)
 unfolding line_program_computes behind
 set_basic_block = refl
 
--- as the special opcode 255 would: 242 / 12 instructions, and no line
+-- The address is advanced as by the special opcode 255, by 242 / 12 instructions; the line stays.
 const_add_pc : behind usual "08" ≡ moves (reg 0x1014 2 10)
 unfolding line_program_computes behind
 const_add_pc = refl
@@ -131,7 +131,7 @@ fixed_advance_pc : behind usual "09 3412" ≡ moves (reg 0x2234 2 10)
 unfolding line_program_computes behind
 fixed_advance_pc = refl
 
--- it is not scaled
+-- The operand of DW_LNS_fixed_advance_pc is not multiplied.
 fixed_advance_pc_by_fours : behind fours "09 3412" ≡ moves (reg 0x2234 2 10)
 unfolding line_program_computes behind
 fixed_advance_pc_by_fours = refl
@@ -148,7 +148,7 @@ set_isa : behind usual "0c 8001" ≡ moves (reg 0x1000 2 10)
 unfolding line_program_computes behind
 set_isa = refl
 
--- special opcodes at both ends
+-- The first and the last special opcode.
 first_special : behind usual "0d" ≡ adds (reg 0x1000 2 7)
 unfolding line_program_computes behind
 first_special = refl
@@ -157,7 +157,7 @@ last_special : behind usual "ff" ≡ adds (reg 0x1014 2 9)
 unfolding line_program_computes behind
 last_special = refl
 
--- line_base -5 and line_range 14
+-- line_base is -5 and line_range is 14.
 special_4b : behind (program 4 1 (negsuc 4) 14 13) "4b" ≡ adds (reg 0x1004 2 11)
 unfolding line_program_computes behind
 special_4b = refl
@@ -166,17 +166,17 @@ last_special_by_fours : behind fours "ff" ≡ adds (reg 0x1050 2 9)
 unfolding line_program_computes behind
 last_special_by_fours = refl
 
--- line_range 1: each special opcode is an instruction more
+-- line_range is 1: each special opcode advances by one more instruction.
 special_of_range_1 : behind steep "10" ≡ adds (reg 0x1003 2 10)
 unfolding line_program_computes behind
 special_of_range_1 = refl
 
--- opcode_base 1: there is no standard opcode
+-- opcode_base is 1: there is no standard opcode.
 special_from_1 : behind base1 "01" ≡ adds (reg 0x1000 2 7)
 unfolding line_program_computes behind
 special_from_1 = refl
 
--- opcode_base 4: 4 to 9 are special
+-- opcode_base is 4: the opcodes 4 to 9 are special.
 special_from_4 : behind base4 "04" ≡ adds (reg 0x1000 2 7)
 unfolding line_program_computes behind
 special_from_4 = refl
@@ -189,12 +189,12 @@ standard_below_4 : behind base4 "03 01" ≡ moves (reg 0x1000 2 11)
 unfolding line_program_computes behind
 standard_below_4 = refl
 
--- opcode_base 10, as in DWARF 2
+-- opcode_base is 10, as in DWARF 2.
 special_from_10 : behind base10 "0a" ≡ adds (reg 0x1000 2 7)
 unfolding line_program_computes behind
 special_from_10 = refl
 
--- opcode_base 20: opcodes that are not known pass as many operands as the header says
+-- opcode_base is 20: unknown opcodes have as many operands as the header says.
 unknown_of_two : behind base20 "0d 8001 05" ≡ moves (reg 0x1000 2 10)
 unfolding line_program_computes behind
 unknown_of_two = refl
@@ -211,12 +211,12 @@ special_from_20 : behind base20 "14" ≡ adds (reg 0x1000 2 7)
 unfolding line_program_computes behind
 special_from_20 = refl
 
--- the end of a sequence is no row; the registers begin anew
+-- The end of a sequence adds no row, and resets the registers.
 end_sequence : behind usual "01 00 01 01" ≡ Ok (record { registers = reg 0 1 1; rows = []; sequences = record { rows = reg_row (reg 0x1000 2 10) ∷ []; end = 0x1000 } ∷ []; files = [] })
 unfolding line_program_computes behind
 end_sequence = refl
 
--- extended opcodes
+-- Extended opcodes.
 set_address : behind usual "00 09 02 8877665544332211" ≡ moves (reg 0x1122334455667788 2 10)
 unfolding line_program_computes behind
 set_address = refl
@@ -237,7 +237,7 @@ unknown_extended : behind usual "00 04 80 0900 01" ≡ moves (reg 0x1000 2 10)
 unfolding line_program_computes behind
 unknown_extended = refl
 
--- the faults of extended opcodes
+-- The faults of extended opcodes.
 extended_of_no_byte : behind usual "00 00" ≡ Err (fault_at is.LineOpcode 0x40)
 unfolding line_program_computes behind
 extended_of_no_byte = refl
@@ -254,7 +254,7 @@ set_address_of_four : behind usual "00 05 02 01020304" ≡ Err (fault_at is.Line
 unfolding line_program_computes behind
 set_address_of_four = refl
 
--- a length that leaves the table comes before what its opcode must be
+-- A length that leaves the table is found before a wrong length of an opcode.
 set_address_of_length_5_cut : behind usual "00 05 02 01" ≡ Err (fault_at is.Ends 0x42)
 unfolding line_program_computes behind
 set_address_of_length_5_cut = refl
@@ -267,7 +267,7 @@ define_file_cut : behind usual "00 04 03 6100 01 01" ≡ Err (fault_at is.Ends 0
 unfolding line_program_computes behind
 define_file_cut = refl
 
--- operands that are cut
+-- Operands that are cut.
 advance_pc_cut : behind usual "02 80" ≡ Err (fault_at is.Ends 0x41)
 unfolding line_program_computes behind
 advance_pc_cut = refl

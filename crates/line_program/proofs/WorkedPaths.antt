@@ -1,11 +1,13 @@
--- Worked rows: the paths of files, by the tables of each version (DWARF 5, 6.2.4; DWARF 4, 6.2.4).
+-- Worked examples: the paths of files, by the tables of each version (DWARF 5, 6.2.4; DWARF 4,
+-- 6.2.4).
 use Rattle.std.proofs.Common.{◌≡◌, [], ◌∷◌, Ok, Err, refl}
 use Rattle.abbrev_units.specs.declared.fault.DwarfKind.TheVariants as is
 use Rattle.line_program.specs.Faults.{fault_at}
 use Rattle.line_program.proofs.Computing.{line_program_computes}
 use Rattle.line_program.proofs.Samples.{table, wide_table, paths, tables_compute}
 
--- versions 2 to 4: directory 0 is the compilation directory, and a directory that is not there adds nothing
+-- Versions 2 to 4: directory 0 is the compilation directory. A missing directory adds nothing to
+-- the path.
 version_2 : paths "/s" (table 2 "696e6300 2f61627300 00 612e6300 00 00 00 622e6800 01 00 00 632e6800 02 00 00 2f642e6800 01 00 00 652e6300 03 00 00 00" "") ≡ Ok ("/s/a.c" ∷ "/s/inc/b.h" ∷ "/abs/c.h" ∷ "/d.h" ∷ "e.c" ∷ [])
 unfolding line_program_computes tables_compute
 version_2 = refl
@@ -30,7 +32,7 @@ relative_compilation_directory : paths "build" (table 4 "2e2e2f696e6300 00 612e6
 unfolding line_program_computes tables_compute
 relative_compilation_directory = refl
 
--- control bytes become ?, leading spaces go
+-- Control bytes become `?`, and leading spaces are dropped.
 cleaned : paths "/s" (table 4 "00 61017f2e6300 00 00 00 00" "") ≡ Ok ("/s/a??.c" ∷ [])
 unfolding line_program_computes tables_compute
 cleaned = refl
@@ -43,7 +45,7 @@ twice : paths "/s" (table 4 "7800 00 612e6300 00 00 00 612e6300 01 00 00 612e630
 unfolding line_program_computes tables_compute
 twice = refl
 
--- a file that the program defines stands after the others
+-- A file that the program defined comes after the others.
 defined : paths "/s" (table 4 "696e6300 00 612e6300 00 00 00 00" "00 08 03 622e6300 01 00 00") ≡ Ok ("/s/a.c" ∷ "/s/inc/b.c" ∷ [])
 unfolding line_program_computes tables_compute
 defined = refl
@@ -52,7 +54,8 @@ defined_in_version_5 : paths "/s" (table 5 "01 01 08 01 2f7300 01 01 08 01 612e6
 unfolding line_program_computes tables_compute
 defined_in_version_5 = refl
 
--- version 5: directory 0 is the compilation directory, once; the others stand in it
+-- Version 5: directory 0 is the compilation directory, which is not joined with itself. The others
+-- are relative to it.
 first_directory_once : paths "/s" (table 5 "01 01 08 03 2f7300 696e6300 2f61627300 02 01 08 02 0b 05 612e6300 00 622e6800 01 632e6800 02 2f642e6800 01 652e6300 03" "") ≡ Ok ("/s/a.c" ∷ "/s/inc/b.h" ∷ "/abs/c.h" ∷ "/d.h" ∷ "e.c" ∷ [])
 unfolding line_program_computes tables_compute
 first_directory_once = refl
@@ -77,7 +80,7 @@ no_directory : paths "/s" (table 5 "01 01 08 00 02 01 08 02 0b 01 782e6300 00" "
 unfolding line_program_computes tables_compute
 no_directory = refl
 
--- contents that are missing or twice there
+-- Values that are missing, or there twice.
 no_directory_index : paths "/s" (table 5 "01 01 08 01 2f7300 01 01 08 01 782e6300" "") ≡ Ok ("/s/x.c" ∷ [])
 unfolding line_program_computes tables_compute
 no_directory_index = refl
@@ -114,7 +117,7 @@ index_that_is_signed : paths "/s" (table 5 "01 01 08 02 2f7300 7800 02 01 08 02 
 unfolding line_program_computes tables_compute
 index_that_is_signed = refl
 
--- texts in other sections
+-- Paths in other sections.
 path_in_debug_line_str : paths "/s" (table 5 "01 01 08 01 2f7300 01 01 1f 01 01000000" "") ≡ Ok ("/s/l.c" ∷ [])
 unfolding line_program_computes tables_compute
 path_in_debug_line_str = refl
@@ -123,7 +126,7 @@ path_in_debug_str : paths "/s" (table 5 "01 01 0e 01 01000000 01 01 0e 01 030000
 unfolding line_program_computes tables_compute
 path_in_debug_str = refl
 
--- no text is found by its number
+-- A path that is given by a number is not found.
 path_by_number : paths "/s" (table 5 "01 01 08 01 2f7300 01 01 1a 01 00" "") ≡ Ok ("/s" ∷ [])
 unfolding line_program_computes tables_compute
 path_by_number = refl
@@ -132,7 +135,7 @@ path_outside : paths "/s" (table 5 "01 01 08 01 2f7300 01 01 1f 01 05000000" "")
 unfolding line_program_computes tables_compute
 path_outside = refl
 
--- other contents are passed over
+-- Values of other content types are ignored.
 md5 : paths "/s" (table 5 "01 01 08 01 2f7300 02 01 08 05 1e 01 612e6300 000102030405060708090a0b0c0d0e0f" "") ≡ Ok ("/s/a.c" ∷ [])
 unfolding line_program_computes tables_compute
 md5 = refl
@@ -145,12 +148,12 @@ indirect : paths "/s" (table 5 "01 01 08 01 2f7300 01 01 16 01 08 612e6300" "") 
 unfolding line_program_computes tables_compute
 indirect = refl
 
--- in the 64-bit format places have eight bytes
+-- In the 64-bit format, places have eight bytes.
 wide_texts : paths "/s" (wide_table 5 "01 01 08 01 2f7300 01 01 1f 01 0100000000000000" "") ≡ Ok ("/s/l.c" ∷ [])
 unfolding line_program_computes tables_compute
 wide_texts = refl
 
--- forms that are not read here
+-- Forms that are not read here.
 implicit_const : paths "/s" (table 5 "01 01 08 01 2f7300 01 01 21 01 00" "") ≡ Err (fault_at is.UnknownForm 0x29)
 unfolding line_program_computes tables_compute
 implicit_const = refl
@@ -167,7 +170,7 @@ unknown_form_without_entries : paths "/s" (table 5 "01 01 08 01 2f7300 01 01 7f 
 unfolding line_program_computes tables_compute
 unknown_form_without_entries = refl
 
--- a count above the bytes that are left
+-- A count that is greater than the number of bytes left.
 count_of_directories : paths "/s" (table 5 "01 01 08 04 2f7300" "") ≡ Err (fault_at is.LineHeader 0x0)
 unfolding line_program_computes tables_compute
 count_of_directories = refl
@@ -176,12 +179,12 @@ count_of_files : paths "/s" (table 5 "00 00 00 01" "") ≡ Err (fault_at is.Line
 unfolding line_program_computes tables_compute
 count_of_files = refl
 
--- as many entries as bytes, each of none
+-- As many entries as bytes left, each without bytes.
 count_of_nothing : paths "/s" (table 5 "00 01 00 00" "") ≡ Ok []
 unfolding line_program_computes tables_compute
 count_of_nothing = refl
 
--- tables that are cut
+-- Tables that are cut.
 format_cut : paths "/s" (table 5 "01 01" "") ≡ Err (fault_at is.Ends 0x20)
 unfolding line_program_computes tables_compute
 format_cut = refl

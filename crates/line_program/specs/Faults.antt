@@ -16,11 +16,11 @@ Fault = Located DwarfKind
 abbrev pub fault_at : DwarfKind → ℕ → Fault
 fault_at kind at = record { kind = kind; section = Line; at = at }
 
--- a reading whose fault becomes one in `.debug_line`
+-- a reading whose fault becomes one in `.debug_line`, at the same place
 abbrev pub in_line : {A : Type 0} → Result A CursorFault → Result A Fault
 in_line reading = read_in Line reading
 
--- a value, or the fault of its reading
+-- the fault of a value that cannot be read
 abbrev pub value_fault : FormFault → Fault
 value_fault (form.Cursor fault) = in_section Line fault
 value_fault (form.Unknown at) = fault_at UnknownForm at

@@ -23,8 +23,8 @@ pub record Tables : Type 0 where
   pub directories : List FileFields
   pub files : List FileFields
 
--- an entry of include_directories or, if `of_files`, of file_names, in versions 2 to 4. It has a path; a file has more fields after the path. The
--- empty path ends the list
+-- an entry of include_directories or, if `of_files`, of file_names, in versions 2 to 4. It has a
+-- path; a file has more fields after its path. An empty path ends the list
 unfoldable pub old_entry_at : Bool → Ahead → Result (Option FileFields × Ahead) Fault
 old_entry_at of_files c =
     in_line (text_at c) >>= λ path.
@@ -72,12 +72,13 @@ values_at (pair ∷ pairs) wide c =
 unfoldable pub content_of : ℕ → List Content → Option Value
 content_of content values = option_map (λ v. v.value) (find (λ v. v.content == content) values)
 
--- DW_LNCT_path (1): the path is empty if it is missing, is not a string or cannot be found
+-- DW_LNCT_path (1): the path is empty if this value is missing, is not a string or cannot be found
 abbrev pub path_in : DebugSections → Option Value → List ℕ
 path_in sections None = []
 path_in sections (Some value) = unwrap_or (line_text sections value) []
 
--- DW_LNCT_directory_index (2): the number is 0 if it is missing or is not an unsigned constant
+-- DW_LNCT_directory_index (2): the number is 0 if this value is missing or is not an unsigned
+-- constant
 abbrev pub directory_in : Option Value → ℕ
 directory_in (Some (Num number)) = number
 directory_in _ = 0
@@ -91,7 +92,8 @@ entry_at sections pairs wide c =
     values_at pairs wide c >>= λ values.
     Ok (entry_of sections (content_of 1 values.0) (content_of 2 values.0), values.1)
 
--- `count` entries; there may be no more entries than bytes left before the program
+-- `count` entries. It is a fault if the count is greater than the number of bytes left before the
+-- program
 unfoldable pub counted_at : DebugSections → ℕ → List EntryFormat → Bool → ℕ → Ahead → Result (List FileFields × Ahead) Fault
 counted_at sections start pairs wide count c =
     if nat_lt (length c.bytes) count then Err (fault_at LineHeader start) else

@@ -42,7 +42,8 @@ operations_at version c =
     if nat_lt version 4 then Ok c else
     (byte_at c >>= λ operations. if nat_le operations.0 1 then Ok operations.1 else Err (Start LineHeader))
 
--- minimum_instruction_length to standard_opcode_lengths; default_is_stmt is skipped, since the line of a row does not depend on it
+-- the fields from minimum_instruction_length to standard_opcode_lengths. default_is_stmt is
+-- skipped, since the line of a row does not depend on it
 unfoldable pub program_at : ℕ → Ahead → Result (ProgramFields × Ahead) HeaderFault
 program_at version c =
     byte_at c >>= λ minimum_length.
@@ -64,7 +65,8 @@ program_at version c =
       lengths.1,
     )
 
--- the header after the version: header_length gives the start of the program, and the program goes up to the end of the table
+-- the header after the version. header_length gives the start of the program, which goes up to the
+-- end of the table
 unfoldable pub header_behind : ℕ → Bool → Ahead → Result HeaderFields HeaderFault
 header_behind version wide c =
     sizes_at version c >>= λ sizes.

@@ -9,8 +9,8 @@ use Rattle.step_maps.specs.Stepping.{Stepping, value_at}
 use Rattle.line_program.specs.declared.path_line.PathLine.{PathLine}
 use Rattle.line_program.specs.LineAt.{Lines, path_of, line_at}
 
--- a step map that gives a path number and a line, the paths in the order of their numbers, the number of the first file, and for each file the number
--- of its path
+-- the lines of a table by address, each with the number of its path; the paths in the order of
+-- their numbers; the number of the first file; and for each file the number of its path
 pub record LineMap : Type 0 where
   pub lines : Stepping PathLine
   pub paths : List (List ℕ)
@@ -41,7 +41,7 @@ abbrev pub named_line : List (List ℕ) → Option (ℕ × ℕ) → Option (List
 named_line paths None = None
 named_line paths (Some at) = option_map (λ path. (path, at.1)) (slice_get paths at.0)
 
--- the paths with another path at the end, unless they have it already
+-- the paths, with another one at the end if it is not among them
 abbrev pub with_path : List (List ℕ) → List ℕ → List (List ℕ)
 with_path paths path = if list_any (λ other. bytes_eq path other) paths then paths else paths ++ path ∷ []
 
@@ -57,8 +57,8 @@ distinct_paths files = paths_from [] files
 abbrev pub AreDistinct : List (List ℕ) → Type 0
 AreDistinct paths = (j k : ℕ) (path : List ℕ) → slice_get paths j ≡ Some path → slice_get paths k ≡ Some path → j ≡ k
 
--- `table` is the model of `lines`: at each address below 2^64 both give the same path and line, each file has the same path, and each path is there
--- once
+-- `table` is the model of `lines`. At each address below 2^64 both give the same path and line,
+-- each file has the same path in both, and the table has each path once
 pub record SaysLines (code : ℕ → ℕ → Bool) (lines : Lines) (table : LineMap) : Type 0 where
   pub line : (a : ℕ) → a < 2 ^ 64 → named_line table.paths (numbered_line table a) ≡ line_at code lines a
   pub file : (file : ℕ) → option_and_then (slice_get table.paths) (numbered_file table file) ≡ path_of lines.first lines.files file
@@ -68,7 +68,7 @@ pub record SaysLines (code : ℕ → ℕ → Bool) (lines : Lines) (table : Line
 abbrev pub EncloseAlike : List Range → List Range → Type 0
 EncloseAlike xs ys = (start end : ℕ) → encloses xs start end ≡ encloses ys start end
 
--- each stop is at or below the address `a`, or above the address `b`
+-- no stop is above the address `a` and at or below the address `b`
 abbrev pub NoStopBetween : ℕ → ℕ → List ℕ → Type 0
 NoStopBetween a b [] = Unit {0}
 NoStopBetween a b (s ∷ stops) = ((s ≤ a) ⊎ (b < s)) × NoStopBetween a b stops

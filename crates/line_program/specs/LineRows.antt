@@ -11,7 +11,7 @@ use Rattle.line_program.specs.ProgramFields.{ProgramFields}
 use Rattle.line_program.specs.Opcodes.{opcodes_at}
 use Rattle.line_program.specs.Faults.{Fault}
 
--- the registers of the state machine that matter here (6.2.2)
+-- the registers of the state machine on which the line of an address depends (6.2.2)
 pub record Registers : Type 0 where
   pub address : ℕ
   pub file : ℕ
@@ -29,7 +29,8 @@ advanced p address count = (address + p.minimum_length * count) % 2 ^ 64
 abbrev pub line_on : ℕ → ℤ → ℕ
 line_on line by = unsigned_abs (int_rem_euclid (pos line +ℤ by) (pos (2 ^ 32)))
 
--- the registers after an opcode (6.2.5.1 to 6.2.5.3); DW_LNS_const_add_pc advances the address as the special opcode 255 does
+-- the registers after an opcode (6.2.5.1 to 6.2.5.3). DW_LNS_const_add_pc advances the address as
+-- much as the special opcode 255
 unfoldable pub moved : ProgramFields → Opcode → Registers → Registers
 moved p (Special adjusted) r = record { address = advanced p r.address (adjusted / p.line_range); file = r.file; line = line_on r.line (p.line_base +ℤ pos (adjusted % p.line_range)) }
 moved p (AdvancePc by) r = record { address = advanced p r.address by; file = r.file; line = r.line }
@@ -50,7 +51,8 @@ pub record Sequence : Type 0 where
   pub rows : List Row
   pub end : ℕ
 
--- the registers, the rows of the current sequence, the sequences that have ended, and the files that the program has defined
+-- the state between two opcodes: the registers, the rows of the current sequence, the sequences
+-- that have ended, and the files that the program has defined
 pub record State : Type 0 where
   pub registers : Registers
   pub rows : List Row
@@ -60,7 +62,8 @@ pub record State : Type 0 where
 abbrev pub first_state : State
 first_state = record { registers = first_registers; rows = []; sequences = []; files = [] }
 
--- a special opcode and DW_LNS_copy add the row of the registers. DW_LNE_end_sequence adds no row: it ends the sequence, and another one begins
+-- the rows of the current sequence after an opcode. A special opcode and DW_LNS_copy add the row of
+-- the registers. DW_LNE_end_sequence adds no row: it ends the sequence, and another one begins
 -- without rows
 abbrev pub rows_behind : ProgramFields → Opcode → State → List Row
 rows_behind p (Special adjusted) s = s.rows ++ row_of (moved p (Special adjusted) s.registers) ∷ []
@@ -89,6 +92,6 @@ all_carried p (opcode ∷ opcodes) s = all_carried p opcodes (carried p opcode s
 unfoldable pub run_from : ProgramFields → State → Ahead → Result State Fault
 run_from p s c = opcodes_at p c >>= λ opcodes. Ok (all_carried p opcodes.0 s)
 
--- the state after a whole program; rows that no end of a sequence follows are in no sequence
+-- the state after a whole program. Rows without a later DW_LNE_end_sequence are in no sequence
 abbrev pub line_rows : ProgramFields → Ahead → Result State Fault
 line_rows p c = run_from p first_state c

@@ -23,11 +23,12 @@ lines_of comp_dir version tables state = record {
   files = map (file_path (directories_of version comp_dir tables.directories)) (tables.files ++ state.files);
 }
 
--- the same, with the program still ahead
+-- the content of a line table, given the tables of its header and the bytes of its program
 abbrev pub program_lines : List ℕ → ProgramFields → Tables → Ahead → Result Lines Fault
 program_lines comp_dir p tables c = line_rows p c >>= λ state. Ok (lines_of comp_dir p.version tables state)
 
--- the line table whose first byte is next, for a unit with the compilation directory `comp_dir`
+-- the line table at the start of the bytes ahead, for a unit with the compilation directory
+-- `comp_dir`
 unfoldable pub lines_at : DebugSections → List ℕ → Ahead → Result Lines Fault
 lines_at sections comp_dir c =
     as_header Line c.at (table_at c) >>= λ header.

@@ -4,7 +4,7 @@ use Rattle.abbrev_units.specs.declared.value.Value.{Value}
 use Rattle.abbrev_units.specs.DebugSections.{DebugSections}
 use Rattle.abbrev_units.specs.Texts.{text_of}
 
--- a text in the line table itself, in `.debug_str` or in `.debug_line_str`. A text given by index is not found, since the str_offsets_base of a unit
--- is not known here
+-- a text in the line table itself, in `.debug_str` or in `.debug_line_str`. A text that is given by
+-- a number is not found, since the str_offsets_base of a unit is not known here
 abbrev pub line_text : DebugSections → Value → Option (List ℕ)
 line_text sections value = text_of sections sections.line false None value

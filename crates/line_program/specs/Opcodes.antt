@@ -12,14 +12,14 @@ use Rattle.line_program.specs.Faults.{Fault, fault_at, in_line}
 use Rattle.line_program.specs.FileFields.{FileFields}
 use Rattle.line_program.specs.ProgramFields.{ProgramFields}
 
--- an opcode without an operand, and an opcode with one
+-- an opcode without operands; an opcode with one operand
 abbrev pub alone : Opcode → Ahead → Result (Opcode × Ahead) Fault
 alone opcode c = Ok (opcode, c)
 
 abbrev pub one : {A : Type 0} → (Ahead → Result (A × Ahead) CursorFault) → (A → Opcode) → Ahead → Result (Opcode × Ahead) Fault
 one operand make c = in_line (operand c) >>= λ x. Ok (make x.0, x.1)
 
--- a number of unsigned operands, which are skipped
+-- skips n unsigned LEB128 operands
 unfoldable pub pass_ulebs : ℕ → Ahead → Result Ahead Fault
 pass_ulebs zero c = Ok c
 pass_ulebs (suc n) c = in_line (uleb_at c) >>= λ operand. pass_ulebs n operand.1
@@ -44,8 +44,8 @@ set_address_at at len c =
     then (in_line (fixed_at 8 c) >>= λ address. Ok (SetAddress address.0))
     else Err (fault_at LineOpcode at)
 
--- an extended opcode after its code; its zero byte is at `at` (6.2.5.3). Version 5 does not have DW_LNE_define_file. DW_LNE_set_discriminator and
--- unknown opcodes do nothing
+-- an extended opcode after its code; its zero byte is at `at` (6.2.5.3). Version 5 does not have
+-- DW_LNE_define_file. DW_LNE_set_discriminator and unknown opcodes do nothing
 unfoldable pub extended_of : ℕ → ℕ → ℕ → ℕ → Ahead → Result Opcode Fault
 extended_of version at len code c =
     if code == 0x01 then Ok EndSequence else  -- DW_LNE_end_sequence
@@ -66,7 +66,8 @@ extended_at version at c =
     then Err (fault_at LineOpcode at)
     else (extended_in version at len.0 part.0 >>= λ opcode. Ok (opcode, part.1))
 
--- a standard opcode (6.2.5.2, and table 7.25); an unknown one has as many operands as the header gives it
+-- a standard opcode after its first byte (6.2.5.2, and table 7.25). An unknown one has as many
+-- operands as the header says
 unfoldable pub standard_at : List ℕ → ℕ → Ahead → Result (Opcode × Ahead) Fault
 standard_at lengths code c =
     if code == 0x01 then alone Copy c else  -- DW_LNS_copy
@@ -83,7 +84,8 @@ standard_at lengths code c =
     if code == 0x0c then one uleb_at SetIsa c else  -- DW_LNS_set_isa
     (pass_ulebs (slice_index lengths (code - 1)) c >>= λ later. Ok (UnknownStandard, later))
 
--- an opcode after its first byte, which is at `at`: if that byte is opcode_base or more, the opcode is a special one (6.2.5.1)
+-- an opcode after its first byte `code`, which is at `at`. If `code` is opcode_base or more, the
+-- opcode is a special one (6.2.5.1)
 unfoldable pub behind_opcode : ProgramFields → ℕ → ℕ → Ahead → Result (Opcode × Ahead) Fault
 behind_opcode p at code c =
     if nat_le p.opcode_base code then alone (Special (code - p.opcode_base)) c else
@@ -94,7 +96,7 @@ behind_opcode p at code c =
 unfoldable pub opcode_at : ProgramFields → Ahead → Result (Opcode × Ahead) Fault
 opcode_at p c = in_line (fixed_at 1 c) >>= λ code. behind_opcode p c.at code.0 code.1
 
--- the next opcode; none at the end of the program
+-- the next opcode, or `None` at the end of the program
 unfoldable pub next_at : ProgramFields → Ahead → Result (Option Opcode × Ahead) Fault
 next_at p c =
     if length c.bytes == 0 then Ok (None, c) else (opcode_at p c >>= λ opcode. Ok (Some opcode.0, opcode.1))

@@ -19,11 +19,11 @@ joined directory path =
     if length path == 0 then directory else
     if ends_in_slash directory then directory ++ path else directory ++ 47 ∷ path
 
--- directory 0 of version 5 is the compilation directory; if both have the same text, that text is not joined with itself
+-- directory 0 of version 5: its path, joined with the compilation directory unless both are equal
 unfoldable pub root_of : List ℕ → List ℕ → List ℕ
 root_of comp_dir path = if bytes_eq path comp_dir then path else joined comp_dir path
 
--- the directories of version 5, from number 0 on; each but directory 0 is relative to directory 0
+-- the directories of version 5, from number 0 on; all but the first are relative to the first
 abbrev pub rooted_directories : List ℕ → List FileFields → List (List ℕ)
 rooted_directories comp_dir [] = []
 rooted_directories comp_dir (root ∷ directories) =
@@ -39,7 +39,7 @@ abbrev pub path_under : Option (List ℕ) → List ℕ → List ℕ
 path_under None path = path
 path_under (Some directory) path = joined directory path
 
--- a file's path: joined with its directory, if the table has that directory, and cleaned
+-- a file's path: joined with its directory if the table has that directory, and then cleaned
 unfoldable pub file_path : List (List ℕ) → FileFields → List ℕ
 file_path directories file = cleaned (path_under (slice_get directories file.directory) file.path)
 

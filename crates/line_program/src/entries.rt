@@ -13,7 +13,7 @@ use abbrev_units::{DwarfKind, Sections, Value, read_form, read_place, read_text}
 use code_table::{DW_FORM_flag_present, DW_FORM_implicit_const, DW_FORM_line_strp, DW_FORM_udata};
 use leb_cursor::Cursor;
 
-// The content types of version 5 that are read (DWARF 5, table 7.27).
+// The content types of version 5 whose values are used (DWARF 5, table 7.27).
 pub const DW_LNCT_path: u64 = 1;
 
 pub const DW_LNCT_directory_index: u64 = 2;
@@ -59,7 +59,7 @@ fn read_any(cursor: &mut Cursor<'_>, form: u64, wide: bool) -> Result<Value, Lin
     Ok(value)
 }
 
-/// Reads a value. The forms of most paths and of numbers are read here, others by `read_any`.
+/// Reads a value. The usual forms of paths and of numbers are read here, others by `read_any`.
 #[inline]
 #[tactic(auto, using(crate::proofs::ValueLemmas::number_read, crate::proofs::ValueLemmas::path_read))]
 fn read_value(cursor: &mut Cursor<'_>, form: u64, wide: bool) -> Result<Value, LineFault>
@@ -78,7 +78,7 @@ fn read_value(cursor: &mut Cursor<'_>, form: u64, wide: bool) -> Result<Value, L
     }
 }
 
-/// The value that was kept or, if there is none, this value if it has the content type.
+/// The value that was kept. If there is none, this value, if it has the content type.
 fn kept_or(kept: Option<Value>, content: u64, of: u64, value: Value) -> Option<Value>
     ensures { result ≡ option_or kept (if of == content then Some value else None) }
 {
@@ -110,7 +110,8 @@ fn directory_in(directory: Option<Value>) -> u64
     }
 }
 
-/// Whether a pair changes no entry: its values have no bytes, and it is neither the first pair of a path nor the first of a directory.
+/// Whether a pair has no effect on entries: its values have no bytes, and it is neither the first
+/// pair of a path nor the first of a directory.
 #[tactic(auto, unfolding(crate::specs::internal::Needed::is_idle))]
 pub fn is_idle(path: bool, directory: bool, pair: EntryFormat) -> bool
     ensures { result ≡ is_idle path directory pair }

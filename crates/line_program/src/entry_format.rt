@@ -1,6 +1,6 @@
-//! The formats of entries in version 5.
+//! The entry formats of version 5.
 
-/// The content type of a value of an entry, and its form (DWARF 5, 6.2.4.1).
+/// A pair of an entry format: the content type and the form of a value (DWARF 5, 6.2.4.1).
 #[derive(Clone, Copy, Debug, PartialEq, Eq)]
 pub struct EntryFormat {
     pub content: u64,

@@ -15,7 +15,7 @@ pub struct LineFault {
     fault: DwarfFault,
 }
 
-/// What was read, or the fault of its reading; or out of memory.
+/// What was read, or the fault of the reading; or out of memory.
 pub type Reading<T> = Result<Result<T, LineFault>, OutOfMemory>;
 
 impl Model for LineFault {

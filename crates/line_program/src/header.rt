@@ -10,7 +10,7 @@ use abbrev_units::{Contents, DwarfKind, HeaderFault, read_contents, read_place};
 use leb_cursor::{Cursor, CursorFault};
 use std::marker::Model;
 
-/// The fields before the tables, the bytes of both tables, and the bytes of the program.
+/// The fields that the program depends on, the bytes of both tables, and the bytes of the program.
 #[derive(Drop)]
 pub struct Header<'a> {
     pub program: Program<'a>,

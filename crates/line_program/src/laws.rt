@@ -10,19 +10,20 @@ ghost use Rattle.line_program.specs.LineMaps.{LineMap, NoStopBetween, numbered_l
 ghost use Rattle.line_program.specs.Opcodes.{next_at, opcodes_at, standard_at};
 ghost use Rattle.line_program.specs.ProgramFields.{ProgramFields};
 
-/// The opcodes ahead are the next one and then those after it; there are none if no byte is left.
+/// The opcodes ahead are the next one and those after it; if no byte is left there are none.
 #[tactic(auto, using(crate::proofs::OpcodeLemmas::opcodes_follow))]
 pub fn opcodes_follow()
     ensures { (p : ProgramFields) (c : Ahead) → opcodes_at p c ≡ list_cases (next_at p) c }
 {}
 
-/// The entries of a list of versions 2 to 4 are the next one and then those after it, up to the empty path that ends the list.
+/// The entries of a list of versions 2 to 4 are the next one and those after it, up to the empty
+/// path that ends the list.
 #[tactic(auto, using(crate::proofs::EntryLemmas::old_entries_follow))]
 pub fn old_entries_follow()
     ensures { (of_files : Bool) (c : Ahead) → list_at (old_entry_at of_files) c ≡ list_cases (old_entry_at of_files) c }
 {}
 
-/// A known standard opcode has the operand that the table of opcodes gives it, whatever the header says.
+/// A known standard opcode has the operands that the standard gives it, whatever the header says.
 #[tactic(auto, using(crate::proofs::OperandLemmas::operands_taken))]
 pub fn operands_are_those_of_the_table()
     ensures { (lengths : List ℕ) → All (TakesOperands (standard_at lengths)) line_opcodes }

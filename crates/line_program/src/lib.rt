@@ -1,20 +1,26 @@
 //! Line tables: which file and line the code at an address comes from (DWARF 5, 6.2; DWARF 4, 6.2).
 //!
-//! [`read_lines`] reads the table at an offset of `.debug_line`, of versions 2 to 5 and in both formats: its header, its tables of directories and
-//! files, and its program. The opcodes of the program are executed on the registers and give sequences of rows. If there is a fault, the first one is
-//! returned with its place. A [`LineTable`] gives the line of each address ([`LineTable::line_at`]). The first sequence whose range is code and
-//! contains the address counts. Of its rows at or below the address, the one with the greatest address counts, and of several such rows the last one.
-//! Lines change only at [`LineTable::stops`]; to go over the addresses of a function, walk these with [`LineTable::line_from`]. Each file has a path
-//! ([`LineTable::file`], [`LineTable::path`]), joined with its directory and cleaned, and each path has one number. Tables are read one after another
-//! in a [`LineScratch`].
+//! [`read_lines`] reads the table at an offset of `.debug_line`, of versions 2 to 5 and in both
+//! formats: its header, its tables of directories and files, and its program. The opcodes of the
+//! program are executed on the registers and give sequences of rows. If there is a fault, the first
+//! one is returned with its place. A [`LineTable`] gives the line of each address
+//! ([`LineTable::line_at`]). It is in the first sequence whose range is code and contains the
+//! address. Of the sequence's rows at or below the address, the one with the greatest address
+//! counts, and of several such rows the last one. Lines change only at [`LineTable::stops`]; to go
+//! over the addresses of a function, walk these with [`LineTable::line_from`]. Each file has a path
+//! ([`LineTable::file`], [`LineTable::path`]), joined with its directory and cleaned, and each path
+//! has one number. A [`LineScratch`] is memory that is reused for one table after another.
 //!
-//! The definitions are in `specs/`, in the standard's order: `Headers`, `FileTables`, `Paths`; `Opcodes` (how they are read) and `LineRows` (what
-//! they do); `LineAt` (the line of an address, by a search of all rows); `LineTables` (a whole table). The model of a table in contracts is defined
-//! in `specs/LineMaps.antt`: a step map of lines, and paths with numbers. The code sorts a sequence's rows only if they are not in order, overlays
-//! the sequences by divide and conquer, and paints their rows once.
+//! The definitions are in `specs/`, in the standard's order: `Headers`, `FileTables`, `Paths`;
+//! `Opcodes` (how they are read) and `LineRows` (what they do); `LineAt` (the line of an address,
+//! by a search of all rows); `LineTables` (a whole table). The model of a table in contracts is
+//! defined in `specs/LineMaps.antt`: a step map of lines, and paths with numbers. The code sorts a
+//! sequence's rows only if they are not in order. It finds the sequence that counts at each address
+//! with `step_maps`, and paints the rows once.
 //!
-//! To read: `program`, `opcode`, `opcode_reader`, `machine` and `program_run`; then `header`, `entries`, `tables` and `paths`; then `row_order`,
-//! `stretches`, `line_map`, `path_numbers` and `table`; last `scratch` and `lines`.
+//! Read the modules in this order: `program`, `opcode`, `opcode_reader`, `machine` and
+//! `program_run`; then `header`, `entries`, `tables` and `paths`; then `row_order`, `stretches`,
+//! `line_map`, `path_numbers` and `table`; then `scratch` and `lines`.
 #![tactic(auto)]
 
 mod entries;

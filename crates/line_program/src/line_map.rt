@@ -15,7 +15,8 @@ use std::alloc::Global;
 use step_maps::{FirstItem, StepMap};
 use sym_edges::OutOfMemory;
 
-/// The sequences that are painted, the number of the first file, and for each file the number of its path.
+/// What is needed to paint: the sequences that count, the number of the first file, and for each
+/// file the number of its path.
 #[derive(Drop)]
 pub struct RowPainter<'k> {
     pub kept: &'k [CountedSequence],
@@ -30,7 +31,7 @@ struct HeldLine {
     line: PathLine,
 }
 
-/// The rows below an address.
+/// The rows that may count below the address `end`.
 fn rows_below(rows: &[Row], end: u64) -> &[Row]
     requires { SortedFrom 0 rows.now }
     ensures sorted { SortedFrom 0 result.now }
@@ -41,7 +42,7 @@ fn rows_below(rows: &[Row], end: u64) -> &[Row]
     &rows[..count]
 }
 
-/// The rows above an address, and the line of the last row at or below it.
+/// The line of the last row at or below the address `start`, and the rows above `start`.
 fn rows_above<'a>(rows: &'a [Row], first: u32, numbers: &[u32], start: u64) -> (PathLine, &'a [Row])
     requires { SortedFrom 0 rows.now }
     ensures { Parts first numbers.now rows.now start result.0 result.1.now }
@@ -54,7 +55,7 @@ fn rows_above<'a>(rows: &'a [Row], first: u32, numbers: &[u32], start: u64) -> (
     (line_of(first, numbers, rows[count - 1]), above)
 }
 
-/// Paints a line from an address on, unless it is the line that is there already.
+/// Paints a line from an address on, unless the last painted line is the same.
 #[inline]
 fn paint_line(
     painted: &mut StepMap<PathLine>,
@@ -73,7 +74,7 @@ fn paint_line(
     Ok(())
 }
 
-/// Paints rows from an address on.
+/// Paints the lines of rows from an address on.
 fn paint_rows(
     painted: &mut StepMap<PathLine>,
     rows: &[Row],
@@ -102,7 +103,7 @@ fn paint_rows(
     Ok(())
 }
 
-/// The sequence that covers an address.
+/// The counted sequence whose index a first item has.
 fn covering(kept: &[CountedSequence], item: Option<FirstItem>) -> Option<&CountedSequence>
     ensures { option_copied result ≡ covering kept.now item }
 {
@@ -112,7 +113,8 @@ fn covering(kept: &[CountedSequence], item: Option<FirstItem>) -> Option<&Counte
     }
 }
 
-/// Paints a piece, from its start up to its end, with the lines of the sequence that covers it; without a line if no sequence does.
+/// Paints the addresses from `start` on, up to the end of the piece, with the lines of the sequence
+/// that covers them, or without a line if none does.
 fn paint_piece(
     painter: &RowPainter<'_>,
     painted: &mut StepMap<PathLine>,
@@ -148,7 +150,7 @@ fn paint_piece(
     }
 }
 
-/// The stop after the one at a place, if there is one.
+/// The stop after the one at a place of the list, if there is one.
 fn next_stop(stops: &[u64], place: usize) -> Option<u64>
     requires { place < length stops.now }
     ensures { result ≡ slice_get stops.now (place + 1) }
@@ -165,7 +167,7 @@ fn line_count(kept: &[CountedSequence]) -> usize {
     count
 }
 
-/// Paints all pieces of the addresses that sequences cover.
+/// Paints all addresses that sequences cover.
 pub fn paint_all(
     alloc: Global,
     painter: &RowPainter<'_>,

@@ -21,7 +21,8 @@ use range_set::Enclosing;
 use std::alloc::Global;
 use sym_edges::{Located, OutOfMemory, Sect, Stop};
 
-/// The paths of the files in the header's tables, and then of the files that the program defined.
+/// The paths of the files: first those in the header's table, and then those that the program
+/// defined.
 #[tactic(auto, unfolding(crate::specs::LineTables::lines_of))]
 fn name_files<'a>(
     alloc: Global,
@@ -54,7 +55,7 @@ fn name_files<'a>(
     })
 }
 
-/// The content of a line table, given its header: its tables and its program are read.
+/// Reads the tables and the program of a line table, given its header.
 #[tactic(auto, using(crate::proofs::KeptLemmas::lines_read, crate::proofs::KeptLemmas::lines_refused))]
 fn read_rows<'a>(
     alloc: Global,
@@ -79,7 +80,7 @@ fn read_rows<'a>(
     Ok(Ok(lines))
 }
 
-/// Reads the next table.
+/// Reads the line table at the cursor.
 #[tactic(auto, unfolding(crate::specs::LineTables::lines_at))]
 fn read_ahead<'a>(
     alloc: Global,
@@ -103,14 +104,17 @@ fn read_ahead<'a>(
     Ok(lines)
 }
 
-/// Reads the line table at an offset in `.debug_line`, which the root of a unit gives; the root is at `place` in `.debug_info`. `comp_dir` is the
-/// unit's compilation directory, or empty if it has none. `code`, which may be made once for an image, says whether a sequence is code. A caller that
-/// reads many tables passes the same `scratch` for each.
+/// Reads the line table at an offset in `.debug_line`, which the root of a unit gives; the root is
+/// at `place` in `.debug_info`. `comp_dir` is the unit's compilation directory, or empty if it has
+/// none. `code` says whether a sequence is code; one such value may serve for all tables of an
+/// image. A caller that reads many tables passes the same `scratch` for each.
 ///
-/// Versions 2 to 5 are read, in both formats. Faults are in `.debug_line`, except `OffsetOutside`, which is in `.debug_info` at `place`. These faults
-/// are at the table's start: `Ends` if the length leaves the section, `Reserved`, `LineVersion`, and `LineHeader` if a field of the header has an
-/// impossible value, the program begins after the end of the table, or a count is greater than the number of bytes left. These are at their own
-/// places: `Ends`, `LebLong`, `NoZero`, `UnknownForm` and `LineOpcode`.
+/// Versions 2 to 5 are read, in both formats. Faults are in `.debug_line`, except `OffsetOutside`,
+/// which is in `.debug_info` at `place`. The faults at the table's start are `Ends` if the length
+/// leaves the section, `Reserved`, `LineVersion` and `LineHeader`. The last one means that a field
+/// of the header has an impossible value, that the program begins after the end of the table, or
+/// that a count is greater than the number of bytes left. All other faults are at the place of what
+/// cannot be read: `Ends`, `LebLong`, `NoZero`, `UnknownForm` and `LineOpcode`.
 #[tactic(auto, using(crate::proofs::LinesLemmas::offset_outside, crate::proofs::LinesLemmas::inside_refused))]
 pub fn read_lines(
     alloc: Global,

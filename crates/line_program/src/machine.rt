@@ -1,4 +1,4 @@
-//! Executes opcodes.
+//! Executes the opcodes of a line number program.
 ghost use Rattle.std.specs.Prelude.{◌≡◌, [], ◌∷◌, ◌++◌, IfOk, OnOk};
 ghost use Rattle.line_program.specs.declared.opcode.Opcode.TheVariants.{EndSequence};
 ghost use Rattle.line_program.specs.LineRows.{first_state, row_of, advanced, line_on};
@@ -51,7 +51,7 @@ impl<'a> Model for Machine<'a> {
     } };
 }
 
-/// A copy of rows, in a reused list if there is one.
+/// A copy of rows, in an old list if there is one.
 fn copy_rows(
     alloc: Global,
     spare: &mut Vec<Vec<Row>>,
@@ -88,7 +88,7 @@ fn advance_line(line: u32, by: i64) -> u32
 }
 
 impl<'a> Machine<'a> {
-    /// The state before the first opcode. The rows of each sequence, and the sequences, are gathered in the given lists.
+    /// The state before the first opcode. The given lists are emptied and reused.
     pub fn new(alloc: Global, mut rows: Vec<Row>, mut sequences: Vec<LineSequence>) -> Machine<'a>
         ensures { result ≡ first_state }
     {
@@ -138,7 +138,8 @@ impl<'a> Machine<'a> {
         Ok(())
     }
 
-    /// Ends the sequence, whose rows may be stored in a spare list, and begins another.
+    /// Ends the sequence and begins another. The rows of the ended one may be stored in a spare
+    /// list.
     #[tactic(auto, unfolding(crate::specs::internal::KeptRows::carried_kept, crate::specs::LineRows::carried, crate::specs::LineRows::moved))]
     fn end_sequence(
         &mut self,

@@ -1,4 +1,4 @@
-//! Reads opcodes.
+//! Reads the opcodes of a line number program.
 ghost use Rattle.std.specs.Prelude.{◌≡◌, ◌<◌, ◌≤◌, length};
 ghost use Rattle.leb_cursor.specs.Ahead.{gave};
 ghost use Rattle.abbrev_units.specs.Faults.{left_by};
@@ -103,7 +103,7 @@ fn read_extended<'a>(
     Ok(opcode)
 }
 
-/// A standard opcode with its operand.
+/// Reads the operand of a standard opcode.
 macro_rules! read {
     ($cursor:ident; $opcode:ident { $field:ident: $call:ident }) => {{
         let $field = $cursor.$call()?;

@@ -5,7 +5,7 @@ ghost use Rattle.line_program.specs.internal.Numbered.{number_of, numbered_line_
 use crate::row::Row;
 use std::mem::size_of;
 
-/// The number of a path, and a line of that file; line 0 means no line. 8 bytes.
+/// The number of a path, and a line of that file; line 0 means that there is no line. 8 bytes.
 #[derive(Clone, Copy, Debug, PartialEq, Eq)]
 pub struct PathLine {
     pub path: u32,
@@ -30,7 +30,7 @@ pub fn number_of(first: u32, numbers: &[u32], file: u32) -> Option<u32>
     }
 }
 
-/// Path number and line of a row.
+/// Path number and line of a row; line 0 if the row has none.
 #[inline]
 pub fn line_of(first: u32, numbers: &[u32], row: Row) -> PathLine
     ensures { result ≡ numbered_line_of first numbers.now (Some row) }

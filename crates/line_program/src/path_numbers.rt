@@ -28,7 +28,7 @@ fn word_of(bytes: &[u8]) -> u64
     ])
 }
 
-/// The last eight bytes of a path as a number, or 0 for a shorter path.
+/// The last eight bytes of a path as a number, the lowest byte first; 0 for a shorter path.
 #[inline]
 #[tactic(auto, unfolding(crate::specs::internal::Numbering::ending_of))]
 fn ending_of(text: &[u8]) -> u64
@@ -50,7 +50,7 @@ pub(crate) fn number_paths(alloc: Global, texts: &FlatLists<u8>) -> Result<Numbe
 {
     let mut firsts = Vec::with_capacity(alloc, texts.len())?;
     let mut files = Vec::with_capacity(alloc, texts.len())?;
-    // Compared by their ends first, since many paths begin alike.
+    // Paths are compared by their last bytes first, since many begin alike.
     let mut numbers: BTreeMap<(u64, &[u8]), u32> = BTreeMap::new(alloc);
     'files: for file in 0..texts.len() {
         let text = texts.at(file);

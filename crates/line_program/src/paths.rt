@@ -9,10 +9,11 @@ use std::alloc::Global;
 use std::marker::Model;
 use sym_edges::OutOfMemory;
 
-/// Most paths are no longer than 64 bytes.
+/// How many bytes are allocated for the path of each file at first; most paths are no longer.
 const USUAL: usize = 64;
 
-/// The texts in which the path of a file is made: the path of its directory, the joined path, and the cleaned path.
+/// Texts whose memory is reused for each file: the path of its directory, the joined path, and the
+/// cleaned path.
 #[derive(Drop)]
 pub struct PathTexts {
     directory: Vec<u8>,
@@ -30,7 +31,8 @@ impl PathTexts {
     }
 }
 
-/// The directories of a table, from number 0 on: the first one, and those that are relative to it.
+/// The directories of a table, from number 0 on: the first one (`root`), and the entries that are
+/// relative to it.
 #[derive(Drop)]
 pub struct Directories<'t, 'a> {
     some: bool,
@@ -96,7 +98,7 @@ fn put_joined(text: &mut Vec<u8>, directory: &[u8], path: &[u8]) -> Result<(), O
     Ok(())
 }
 
-/// Directory 0 of version 5; if it has to be joined, it is made in a text.
+/// Directory 0 of version 5. If it must be joined, the joined path is stored in `text`.
 #[tactic(auto, unfolding(crate::specs::Paths::root_of))]
 fn root_of<'t>(
     text: &'t mut Vec<u8>,
@@ -113,7 +115,8 @@ fn root_of<'t>(
 }
 
 impl<'t, 'a> Directories<'t, 'a> {
-    /// The directories of a table, given the unit's compilation directory; if the first one has to be joined, it is made in a text.
+    /// The directories of a table, given the unit's compilation directory. If the first one must be
+    /// joined, the joined path is stored in `text`.
     #[tactic(auto, unfolding(crate::specs::Paths::directories_of))]
     pub fn of(
         text: &'t mut Vec<u8>,
@@ -147,7 +150,7 @@ impl<'t, 'a> Directories<'t, 'a> {
         }
     }
 
-    /// Replaces a text by the path of a file; the path of its directory is made in `directory`.
+    /// Replaces a text by the path of a file. The path of its directory is stored in `directory`.
     #[tactic(auto, using(crate::proofs::PathLemmas::none_there, crate::proofs::PathLemmas::root_there, crate::proofs::PathLemmas::entry_there, crate::proofs::PathLemmas::entry_missing))]
     fn put_path(
         &self,

@@ -3,7 +3,7 @@ ghost use Rattle.std.specs.Prelude.{◌≡◌, ◌+◌, ◌/◌, ◌%◌, ◌<�
 
 use std::marker::Model;
 
-/// The fields of the header that the program is read with (DWARF 5, 6.2.4).
+/// The fields of a line table's header that its program depends on (DWARF 5, 6.2.4).
 #[derive(Drop)]
 pub struct Program<'a> {
     pub version: u16,
@@ -12,7 +12,8 @@ pub struct Program<'a> {
     pub line_range: u8,
     pub opcode_base: u8,
 
-    /// The factor by which special opcodes are divided by `line_range`.
+    /// A factor that turns the division of a special opcode by `line_range` into a multiplication
+    /// and a shift.
     pub line_factor: u32,
 
     /// The number of operands of each standard opcode, from opcode 1 on.
@@ -37,7 +38,8 @@ impl<'a> Model for Program<'a> {
     ghost invariant = { λ p. (0 < p.line_range) × (length p.lengths.now + 1 ≡ p.opcode_base) × (p.line_factor ≡ 65535 / p.line_range + 1) };
 }
 
-/// Quotient and remainder of a byte by another, given the factor of the latter: a multiplication and a shift.
+/// Quotient and remainder of one byte by another, given the factor of the latter; computed by a
+/// multiplication and a shift.
 #[inline]
 fn divided(number: u8, by: u8, factor: u32) -> (u8, u8)
     requires some { 0 < by }
@@ -50,7 +52,8 @@ fn divided(number: u8, by: u8, factor: u32) -> (u8, u8)
 }
 
 impl<'a> Program<'a> {
-    /// The quotient of a special opcode by `line_range`, for the address, and the remainder, for the line.
+    /// The quotient of a special opcode by `line_range`, which advances the address, and the
+    /// remainder, which advances the line.
     #[inline]
     pub fn divide(&self, adjusted: u8) -> (u8, u8)
         ensures quotient { result.0 ≡ adjusted / self.now.line_range }

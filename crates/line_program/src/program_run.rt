@@ -1,4 +1,4 @@
-//! Runs a whole program.
+//! Executes a whole line number program.
 ghost use Rattle.std.specs.Prelude.{◌≡◌, IfOk};
 ghost use Rattle.line_program.specs.LineRows.{line_rows};
 ghost use Rattle.line_program.specs.internal.KeptRows.{or_kept_state};
@@ -12,7 +12,7 @@ use leb_cursor::Cursor;
 use std::alloc::Global;
 use std::mem::replace;
 
-/// The rows of a program, in lists from the scratch.
+/// The state after a program, with its rows in lists from the scratch.
 #[tactic(auto, using(crate::proofs::RunLemmas::run_begins, crate::proofs::RunLemmas::run_more, crate::proofs::RunLemmas::run_ended, crate::proofs::RunLemmas::run_cut, crate::proofs::OpcodeLemmas::opcode_shorter))]
 pub fn run_program<'a>(
     alloc: Global,

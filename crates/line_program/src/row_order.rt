@@ -1,4 +1,4 @@
-//! Sequences that count, with their rows in order.
+//! Sequences that count, with their rows in the order of their addresses.
 ghost use Rattle.std.specs.Prelude.{◌≡◌, ℕ, OnOk};
 ghost use Rattle.std.specs.Bool.{OnTrue};
 ghost use Rattle.line_program.specs.LineAt.{least_address, row_at};

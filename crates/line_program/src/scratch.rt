@@ -8,7 +8,8 @@ use crate::tables::FormatLists;
 use std::alloc::Global;
 use step_maps::Stretch;
 
-/// Lists and texts whose memory is reused for each table, so that it is allocated once for many tables. Their old content does not matter.
+/// Lists and texts whose memory is reused for one table after another. Their old content does not
+/// matter.
 #[derive(Drop)]
 pub struct LineScratch {
     pub(crate) formats: FormatLists,
@@ -22,7 +23,7 @@ pub struct LineScratch {
 }
 
 impl LineScratch {
-    /// Allocates no memory.
+    /// An empty scratch. Allocates no memory.
     pub fn new(alloc: Global) -> LineScratch {
         LineScratch {
             formats: FormatLists::new(alloc),

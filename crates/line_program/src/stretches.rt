@@ -1,4 +1,4 @@
-//! The sequences that count.
+//! The sequences that count, and their addresses as stretches.
 ghost use Rattle.std.specs.Prelude.{◌≡◌, ℕ, ◌^◌, ◌<◌, None, if◌then◌else◌, length, OnOk};
 ghost use Rattle.range_set.specs.Enclosing.{encloses};
 ghost use Rattle.step_maps.specs.Covers.{AreStretches};
@@ -12,10 +12,10 @@ use range_set::Enclosing;
 use step_maps::Stretch;
 use sym_edges::OutOfMemory;
 
-/// The greatest number of lists of rows that are kept for the next table.
+/// The greatest number of lists of rows whose memory is kept for the next table.
 const SPARE: usize = 16;
 
-/// Keeps a sequence, with its rows in order, if it counts.
+/// Adds a sequence to `kept`, with its rows in order, if it counts.
 #[tactic(auto, using(crate::proofs::CountLemmas::not_kept, crate::proofs::CountLemmas::not_code))]
 fn count_sequence(
     code: &Enclosing,
@@ -60,7 +60,7 @@ pub fn count_sequences(
     Ok(())
 }
 
-/// Drops sequences, but keeps the lists of rows of some.
+/// Removes the sequences, but keeps some of their lists of rows as spare memory.
 pub fn keep_lists(
     kept: &mut Vec<CountedSequence>,
     spare: &mut Vec<Vec<Row>>,
@@ -80,7 +80,8 @@ pub fn keep_lists(
     Ok(())
 }
 
-/// Replaces `stretches` by the addresses of the sequences that count, with the sequences' indices.
+/// Replaces `stretches` by the addresses of the sequences that count. The index of a stretch is
+/// that of its sequence.
 #[tactic(auto, using(crate::proofs::TableLemmas::stretches_begin, crate::proofs::TableLemmas::stretches_more, crate::proofs::TableLemmas::stretches_all, step_maps::proofs::StretchLemmas::stretches_push))]
 pub fn put_stretches(
     stretches: &mut Vec<Stretch>,

@@ -1,4 +1,4 @@
-//! The line table of a unit, by address.
+//! The lines of a line table, by address.
 ghost use Rattle.std.specs.Prelude.{◌≡◌, ℕ, ◌+◌, ◌^◌, ◌<◌, [], length, slice_index, Some, IfOk, IfSome};
 ghost use Rattle.std.specs.List.{slice_get};
 ghost use Rattle.range_set.specs.Enclosing.{encloses};
@@ -128,7 +128,7 @@ impl LineTable {
         }
     }
 
-    /// The table of what was read.
+    /// Makes the table from what was read.
     pub(crate) fn of(
         alloc: Global,
         scratch: &mut LineScratch,
@@ -166,8 +166,9 @@ impl LineTable {
         })
     }
 
-    /// Path number and line of an address, by binary search; none if no sequence that is code covers the address, the row has no line, or the table
-    /// does not have the row's file. Allocates no memory.
+    /// Path number and line of an address, by binary search. There are none if no sequence that is
+    /// code covers the address, the row has no line, or the table does not have the row's file.
+    /// Allocates no memory.
     pub fn line_at(&self, a: u64) -> Option<(u32, u32)>
         ensures line { result ≡ numbered_line self.now a }
         ensures known { a < 2 ^ 64 → IfSome result (λ line. line.0 < length self.now.paths) }
@@ -183,7 +184,7 @@ impl LineTable {
         self.lines.stops()
     }
 
-    /// Path number and line from a stop up to the next one. Allocates no memory.
+    /// Path number and line at a stop, which hold up to the next stop. Allocates no memory.
     pub fn line_from(&self, stop: usize) -> Option<(u32, u32)>
         requires { stop < length self.now.lines.stops }
         ensures line { result ≡ numbered_line self.now (slice_index self.now.lines.stops stop) }
@@ -201,8 +202,8 @@ impl LineTable {
         self.firsts.len()
     }
 
-    /// The cleaned path with a number; two numbers have different paths. The table has the numbers that `line_at`, `line_from` and `file` return.
-    /// Allocates no memory.
+    /// The cleaned path with a number; two numbers have different paths. `line_at`, `line_from` and
+    /// `file` return such numbers. Allocates no memory.
     pub fn path(&self, number: u32) -> &[u8]
         requires { number < length self.now.paths }
         ensures path { Some result.now ≡ slice_get self.now.paths number }

@@ -19,10 +19,10 @@ use std::alloc::Global;
 use std::marker::Model;
 use sym_edges::OutOfMemory;
 
-/// Most tables have no more than 512 entries.
+/// At first memory for at most this many entries is allocated; most tables have no more.
 const USUAL: usize = 512;
 
-/// The pairs of a format of version 5, and the pairs among them that change entries.
+/// The pairs of an entry format of version 5, and those of them that have an effect on entries.
 #[derive(Drop)]
 pub struct FormatLists {
     pairs: Vec<EntryFormat>,
@@ -38,8 +38,8 @@ impl FormatLists {
     }
 }
 
-/// What is needed to read entries of version 5: the sections that have their paths, the place at which the line table starts, and whether its format
-/// is the 64-bit one.
+/// What is needed to read entries of version 5: the sections that have their paths, the place of
+/// the line table, and whether its format is the 64-bit one.
 #[derive(Drop)]
 struct EntrySource<'s, 'a> {
     alloc: Global,
@@ -48,7 +48,7 @@ struct EntrySource<'s, 'a> {
     wide: bool,
 }
 
-/// Both tables.
+/// The tables of directories and of files.
 #[derive(Drop)]
 pub struct Tables<'a> {
     pub directories: Vec<FileEntry<'a>>,
@@ -115,7 +115,8 @@ fn is_seen(before: bool, content: u64, of: u64) -> bool
     before || content == of
 }
 
-/// Replaces `kept` by the pairs that change entries: of the pairs whose values have no bytes only the first one of a path or a directory.
+/// Replaces `kept` by the pairs that have an effect on entries. Of the pairs whose values have no
+/// bytes these are only the first one of a path and the first one of a directory.
 #[tactic(auto, using(crate::proofs::NeededLemmas::needed_begins, crate::proofs::NeededLemmas::needed_idle, crate::proofs::NeededLemmas::needed_one, crate::proofs::NeededLemmas::needed_all))]
 fn keep_needed(kept: &mut Vec<EntryFormat>, pairs: &[EntryFormat]) -> Result<(), OutOfMemory>
     ensures { OnOk result (kept.new.items ≡ needed false false pairs.now) }
@@ -135,7 +136,8 @@ fn keep_needed(kept: &mut Vec<EntryFormat>, pairs: &[EntryFormat]) -> Result<(),
     Ok(())
 }
 
-/// Reads `count` entries of version 5; there may be no more entries than bytes left.
+/// Reads `count` entries of version 5. It is a fault if the count is greater than the number of
+/// bytes left.
 #[tactic(auto, using(crate::proofs::EntryLemmas::entries_begin, crate::proofs::EntryLemmas::entries_one, crate::proofs::EntryLemmas::entries_done, crate::proofs::EntryLemmas::entries_cut), unfolding(crate::specs::FileTables::counted_at))]
 fn read_counted<'a>(
     source: &EntrySource<'_, 'a>,

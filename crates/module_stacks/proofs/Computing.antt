@@ -1,4 +1,4 @@
--- What a proof unfolds to compute the definitions of module_stacks where the input is written out.
+-- The definitions of module_stacks that a proof unfolds to compute a result from given texts.
 use Rattle.std.specs.Prelude.{⊤}
 use Rattle.cfi_eval.proofs.Computing.{cfi_eval_computes}
 use Rattle.core_file.proofs.Computing.{core_file_computes}

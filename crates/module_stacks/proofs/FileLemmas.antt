@@ -1,4 +1,4 @@
--- A table of files with one name more, and the files that agree with it; for `ask`.
+-- A table of files to which one name is added, and the files that agree with it, for `ask`.
 use Rattle.std.proofs.Common.{◌≡◌, ◌⊎◌, inl, inr, ℕ, ◌+◌, ◌^◌, ◌≤◌, ◌||◌, Bool, true, false, cond, if◌then◌else◌, is_some, map, List, [], ◌∷◌, ◌++◌, Option, None, Some, Result, arith, append_assoc, append-nil, refl, sym, ap, ◌∙◌, subst, Ordering, Less, Equal, Greater}
 use Rattle.std.proofs.lemmas.Bool.{cases_lt}
 use Rattle.std.proofs.lemmas.Map.Text.{is_eq-slice_cmp}
@@ -24,7 +24,7 @@ or_none : {A : Type 0} (o : Option A) → option_or o None ≡ o
 or_none None = refl
 or_none (Some x) = refl
 
--- what is found after a new entry
+-- What is found after an entry is added.
 abbrev pub with_file : Option Found → List ℕ → List ℕ → Found → Option Found
 with_file earlier name key found = option_or earlier (if bytes_eq name key then Some found else None)
 
@@ -52,12 +52,12 @@ inserted (e ∷ entries) key found name none = go (slice_cmp nat_cmp key.items e
     go Equal gone later_is = absurd (cc)
     go Greater gone later_is = ap (λ o. cond (is_eq (slice_cmp nat_cmp name e.0.items)) (Some e.1) o) (later_is gone) ∙ behind (is_eq (slice_cmp nat_cmp name e.0.items))
 
--- one name more
+-- One name more.
 pub record HasMore (old new : Seen) (key : List ℕ) (found : Found) : Type 0 where
   pub more : (name : List ℕ) → new name ≡ with_file (old name) name key found
   pub none : old key ≡ None
 
--- what a table has under a name
+-- What a table has under a name.
 seen_entries : (entries : List (Vec ℕ × Found)) (name : List ℕ) → seen_in (map named entries) name ≡ entry_at entries name
 seen_entries [] name = refl
 seen_entries (e ∷ entries) name = ap (λ b. cond b (Some e.1) (seen_in (map named entries) name)) (sym (is_eq-slice_cmp name e.0.items)) ∙ ap (λ o. cond (is_eq (slice_cmp nat_cmp name e.0.items)) (Some e.1) o) (seen_entries entries name)
@@ -84,16 +84,16 @@ newest old new key found has = has.more key ∙ ap (λ o. with_file o key key fo
 stays_more : (old new : Seen) (key : List ℕ) (found : Found) → HasMore old new key found → (other : List ℕ) (was : Found) → old other ≡ Some was → new other ≡ Some was
 stays_more old new key found has other was is = has.more other ∙ ap (λ o. with_file o other key found) is
 
--- ---- files that agree
+-- Files that agree.
 
--- files with these bytes under a name
+-- The files with these bytes under a name.
 abbrev pub over : Files → List ℕ → Option (List ℕ) → Files
 over got key bytes name = if bytes_eq name key then bytes else got name
 
 over_here : (got : Files) (key : List ℕ) (bytes : Option (List ℕ)) → over got key bytes key ≡ bytes
 over_here got key bytes = ap (λ b. if b then bytes else got key) ((bytes_eq-Decides key key).1 refl)
 
--- what was found before agrees with them too
+-- What was found before agrees with these files too.
 agrees_over : (old new : Seen) (key : List ℕ) (found : Found) (got : Files) (bytes : Option (List ℕ)) → HasMore old new key found → Agrees got old → found_in bytes ≡ found → Agrees (over got key bytes) new
 agrees_over old new key found got bytes has agrees is = λ name was there. go name was (old name) refl (bytes_eq name key) refl (sym (has.more name) ∙ there)
   where
@@ -105,7 +105,7 @@ agrees_over old new key found got bytes has agrees is = λ name was there. go na
     go name was None at true same there = (let one : found ≡ was = cc in is ∙ one)
     go name was None at false same there = absurd (cc)
 
--- the told files are these too, where the call told the bytes under the name
+-- The known files are these, if the call returned the bytes under the name.
 told_over : (missed : List (List ℕ)) (f got : Files) (key : List ℕ) (bytes : List ℕ) → ((name : List ℕ) → got name ≡ without missed f name) → list_any (bytes_eq key) missed ≡ false → f key ≡ Some bytes → (name : List ℕ) → over got key (Some bytes) name ≡ without missed f name
 told_over missed f got key bytes told free is = λ name. go name (bytes_eq name key) refl
   where
@@ -115,7 +115,7 @@ told_over missed f got key bytes told free is = λ name. go name (bytes_eq name 
         subst (λ n. Some bytes ≡ without missed f n) one (sym (ap (λ b. if b then None else f key) free ∙ is))
     go name false same = told name
 
--- or where the call failed
+-- The known files are these, if the call failed.
 missed_over : (missed : List (List ℕ)) (f got : Files) (key : List ℕ) → ((name : List ℕ) → got name ≡ without missed f name) → (name : List ℕ) → over got key None name ≡ without (key ∷ missed) f name
 missed_over missed f got key told = λ name. go name (bytes_eq name key) refl
   where
@@ -136,7 +136,7 @@ is_there old new key found has name some = go (old name) (has.more name) some
     go (Some was) is some = ap is_some is
     go None is some = absurd (cc)
 
--- a name at which a call failed was asked for
+-- A name at which a call failed was asked for.
 free_of : (old : Seen) (missed : List (List ℕ)) (key : List ℕ) → ((name : List ℕ) → list_any (bytes_eq name) missed ≡ true → is_some (old name) ≡ true) → old key ≡ None → list_any (bytes_eq key) missed ≡ false
 free_of old missed key asked none = go (list_any (bytes_eq key) missed) refl
   where
@@ -144,7 +144,7 @@ free_of old missed key asked none = go (list_any (bytes_eq key) missed) refl
     go false is = is
     go true is = (let no : false ≡ true = sym (ap is_some none) ∙ asked key is in absurd (cc))
 
--- where the call failed
+-- A call failed.
 knows_none : (files : Option Files) (before mid after : ℕ) (old new : Seen) (key : List ℕ) → HasMore old new key None → before ≤ mid → mid ≤ after → Rose mid after → Knows files before mid old → Knows files before after new
 knows_none files before mid after old new key has first second rose knows = record {
   got = over knows.got key None;
@@ -165,7 +165,7 @@ knows_none files before mid after old new key has first second rose knows = reco
     asked name true same among = ap (λ n. is_some (new n)) ((bytes_eq-Decides name key).0 same) ∙ ap is_some (newest old new key None has)
     asked name false same among = is_there old new key None has name (knows.had.asked name among)
 
--- where it read some bytes
+-- A call read some bytes.
 knows_some : (files : Option Files) (before mid after : ℕ) (old new : Seen) (key : List ℕ) (read : Result (List SymLine) SymRefusal) (bytes : List ℕ) → HasMore old new key (Some read) → after ≡ mid → file_reading (2 ^ 29) bytes ≡ read → Tells files (λ f. f key ≡ Some bytes) → Knows files before mid old → Knows files before after new
 knows_some files before mid after old new key read bytes has steady is there knows = record {
   got = over knows.got key (Some bytes);
@@ -187,9 +187,9 @@ knows_more files before mid after old new key None has first second is knows = k
 knows_more None before mid after old new key (Some read) has first second is knows = knows_some None before mid after old new key read is.1.0 has is.0 is.1.1 tt knows
 knows_more (Some f) before mid after old new key (Some read) has first second is knows = knows_some (Some f) before mid after old new key read is.1.0 has is.0 is.1.2 is.1.1 knows
 
--- ---- one call after another
+-- One call after another.
 
--- a fact of each member of both lists, and of each by a weaker one
+-- What is true of each member of two lists is true of each member of both together.
 pub all_both : {X : Type 0} (P : X → Type 0) (xs ys : List X) → AllByRecursion P xs → AllByRecursion P ys → AllByRecursion P (xs ++ ys)
 all_both P [] ys first second = second
 all_both P (x ∷ xs) ys first second = (first.0, all_both P xs ys first.1 second)
@@ -201,7 +201,7 @@ all_weaker P Q weaker (x ∷ xs) all = (weaker x all.0, all_weaker P Q weaker xs
 none_new : (old : Seen) (key : List ℕ) → old key ≡ None → AreNew old (key ∷ [])
 none_new old key none = (none, (refl, tt))
 
--- a name of which something is known now and was not before is the new one
+-- If something is known now of a name, and was not known before, this is the new name.
 only_new : (old new : Seen) (key : List ℕ) (found : Found) → HasMore old new key found → (name : List ℕ) → is_some (new name) ≡ true → list_any (bytes_eq name) (key ∷ []) ≡ false → is_some (old name) ≡ true
 only_new old new key found has name some other = go (old name) (bytes_eq name key) (sym (ap is_some (has.more name)) ∙ some) other
   where
@@ -243,7 +243,7 @@ asks_one P asked after old key of none asks = elim asks [
   | inr same ↦ subst (AsksFresh P old asked) (sym same) (asks_none P asked old)
 ]
 
--- names that are new behind others that were asked for in between
+-- Names that are new after others were asked for.
 was_none : (old mid : Seen) (name : List ℕ) → ((name : List ℕ) (found : Found) → old name ≡ Some found → mid name ≡ Some found) → mid name ≡ None → old name ≡ None
 was_none old mid name stays none = go (old name) refl
   where
@@ -255,7 +255,7 @@ new_before : (old mid : Seen) (names : List (List ℕ)) → ((name : List ℕ) (
 new_before old mid [] stays later = tt
 new_before old mid (name ∷ names) stays later = (was_none old mid name stays later.0, (later.1.0, new_before old mid names stays later.1.1))
 
--- a name that was asked for is none of those that are new
+-- A name that was asked for is not among the new ones.
 not_among : (mid : Seen) (name : List ℕ) (names : List (List ℕ)) → is_some (mid name) ≡ true → AreNew mid names → list_any (bytes_eq name) names ≡ false
 not_among mid name [] there later = refl
 not_among mid name (other ∷ names) there later = go (bytes_eq name other) refl (not_among mid name names there later.1.1)
@@ -325,7 +325,7 @@ asks_then P files asked between after faults mid old half first second = (
   ),
 )
 
--- a fact of the names by a stronger one
+-- What is true of the names that were learned implies a weaker fact.
 pub learns_weaker : (P Q : List ℕ → Type 0) → ((name : List ℕ) → P name → Q name) → (files : Option Files) (asked after : List (List ℕ)) (faults now : ℕ) (old new : Seen) → Learns P files asked after faults now old new → Learns Q files asked after faults now old new
 learns_weaker P Q weaker files asked after faults now old new learns = record {
   stays = learns.stays;
@@ -341,7 +341,7 @@ learns_weaker P Q weaker files asked after faults now old new learns = record {
 pub asks_weaker : (P Q : List ℕ → Type 0) → ((name : List ℕ) → P name → Q name) → (asked after : List (List ℕ)) (old : Seen) → AsksFresh P old asked after → AsksFresh Q old asked after
 asks_weaker P Q weaker asked after old asks = (asks.0, (asks.1.0, (asks.1.1.0, all_weaker P Q weaker asks.0 asks.1.1.1)))
 
--- ---- a call that asks
+-- A call that asks the store.
 
 pub none_by : {A : Type 0} (held : Option (Bor A)) (found : Option A) → is_some held ≡ false → option_copied held ≡ found → found ≡ None
 none_by None found none is = sym is
@@ -356,7 +356,7 @@ pub ask_learns : (files : Option Files) (asked after : List (List ℕ)) (mid now
 ask_learns files asked after mid now old new owned key found same none added asks up is =
     learns_more (λ name. name ≡ key) files asked after mid now (seen_in (names_of old)) (seen_in (names_of new)) key found (has_more old new owned key found same none added) asks up refl is
 
--- the same, where the files of the second call are said to be those of the first
+-- The same, if the files of the second call are equal to those of the first.
 pub learns_on : (P : List ℕ → Type 0) (files between_files : Option Files) (asked between after : List (List ℕ)) (faults mid now : ℕ) (old half new : Seen) → between_files ≡ files → faults ≤ mid → Learns P files asked between faults mid old half → Learns P between_files between after mid now half new → Learns P files asked after faults now old new
 learns_on P files between_files asked between after faults mid now old half new same up first second =
     learns_then P files asked between after faults mid now old half new up first (subst (λ (f : Option Files). Learns P f between after mid now half new) same second)

@@ -1,4 +1,5 @@
--- The module that counts at an address is that of the first stretch there, where the stretches stand in the order in which modules count.
+-- If the stretches are in the order in which modules count, the first stretch at an address is that
+-- of the module that counts there.
 use Rattle.std.proofs.Common.{◌≡◌, ℕ, zero, suc, ◌+◌, ◌<◌, ◌≤◌, ◌^◌, Bool, true, false, cond, List, [], ◌∷◌, ◌++◌, Option, Some, None, IfSome, length, find, refl, sym, ◌∙◌, ap, subst, arith, append_assoc, append-nil, if◌then◌else◌, ◌⊎◌, inl, inr, IsPermutation}
 use Rattle.std.specs.Prelude.{◌&&◌, ◌||◌, nat_lt, nat_le}
 use Rattle.std.specs.List.{AllByRecursion, Contains, list_any, slice_index_or}
@@ -20,7 +21,7 @@ use Rattle.core_file.proofs.MemoryLemmas.{find_true}
 use Rattle.module_stacks.specs.ModuleAt.{Holder, greater, holder_from, module_at}
 use Rattle.module_stacks.specs.internal.ModuleStretches.{stretch_of, stretches_from, Upto, Fall, IsModuleMap}
 
--- the stretches so far, and those of the modules that are left
+-- The stretches so far, and those of the modules that are left.
 pub stretches_end : (i : ℕ) (done : List Stretch) → done ++ stretches_from i [] ≡ done
 unfolding stretches_from
 stretches_end i done = append-nil done
@@ -35,7 +36,7 @@ stretch_none i m later done none =
     let n : nat_lt m.start m.end ≡ false = grind (arith, nat_tests) in
     rw n refl
 
--- what a sort by start and place leaves
+-- The order after sorting by start and place.
 not_below : (i j : ℕ) → is_lt (nat_cmp i j) ≡ false → j ≤ i
 not_below i j is = by_ranked (i < j) (i ≡ j) (j < i) (nat_cmp i j) (ranked i j (nat_cmp i j) refl)
     (λ o p. let f : true ≡ false = ap is_lt (sym o) ∙ is in absurd cc)
@@ -48,7 +49,7 @@ not_less x y i j is = by_ranked (x < y) (x ≡ y) (y < x) (nat_cmp x y) (ranked 
     (λ o p. inr (sym p, not_below i j (ap (λ r. is_lt (ordering_then r (nat_cmp i j))) (sym o) ∙ is)))
     (λ o p. inl p)
 
--- a stretch is to stand before another
+-- One stretch must come before another.
 abbrev before : Stretch → Stretch → Bool
 before s t = is_lt (ordering_then (nat_cmp t.first s.first) (nat_cmp t.index s.index))
 
@@ -73,7 +74,7 @@ fall_sorted (x ∷ y ∷ xs) sorted =
     let near : Upto y x = not_less x.first y.first x.index y.index (sorted 0 x (omega arith) (omega arith)) in
     ((near, weaken (λ t. Upto t y) (λ t. Upto t x) (λ t h. upto_trans t y x h near) xs later.0), later)
 
--- stretches stay such in another order
+-- Stretches stay valid in another order.
 some_all : (xs : List Stretch) → AreStretches xs → AllByRecursion (λ s. s.first ≤ s.last) xs
 some_all [] all = tt
 some_all (x ∷ xs) all = (all.0, some_all xs all.1)
@@ -88,7 +89,7 @@ moved_all P xs ys moved all = recursion_from_All P ys (All-permutation P xs ys m
 pub moved_stretches : (xs ys : List Stretch) → IsPermutation xs ys → AreStretches xs → AreStretches ys
 moved_stretches xs ys moved all = all_some ys (moved_all (λ s. s.first ≤ s.last) xs ys moved (some_all xs all))
 
--- a stretch that was found is among the stretches
+-- A stretch that was found is one of the stretches.
 in_by : (p : Stretch → Bool) (y s : Stretch) (ys : List Stretch) (b : Bool) → cond b (Some y) (find p ys) ≡ Some s → (find p ys ≡ Some s → Contains ys s) → Contains (y ∷ ys) s
 in_by p y s ys true is later = (0, omega arith, (let e : y ≡ s = cc in e))
 in_by p y s ys false is later = let h : Contains ys s = later is in (suc h.0, omega (arith, h.1), h.2)
@@ -97,7 +98,7 @@ found_in : (p : Stretch → Bool) (ys : List Stretch) (s : Stretch) → find p y
 found_in p [] s is = absurd cc
 found_in p (y ∷ ys) s is = in_by p y s ys (p y) is (found_in p ys s)
 
--- of those that pass a test none counts before the first one
+-- Of the stretches that pass a test, none takes precedence over the first one.
 top_by : (p : Stretch → Bool) (y s : Stretch) (ys : List Stretch) (b : Bool) → p y ≡ b → AllByRecursion (λ t. Upto t y) ys → cond b (Some y) (find p ys) ≡ Some s → (find p ys ≡ Some s → AllByRecursion (λ t. p t ≡ true → Upto t s) ys) → AllByRecursion (λ t. p t ≡ true → Upto t s) (y ∷ ys)
 top_by p y s ys true test upto is later =
     let e : y ≡ s = cc in
@@ -117,7 +118,7 @@ none_found : (p : Stretch → Bool) (ys : List Stretch) → find p ys ≡ None �
 none_found p [] is = refl
 none_found p (y ∷ ys) is = none_by p y (p y) (list_any p ys) (find p ys) is (none_found p ys)
 
--- a module holds the addresses of its stretch, and none where it has no stretch
+-- A module contains the addresses of its stretch, and none if it has no stretch.
 reaches_is : (i : ℕ) (m : Module) (a : ℕ) → nat_lt m.start m.end ≡ true → reaches (stretch_of i m) a ≡ lies_in m a
 reaches_is i m a some = ap (λ b. nat_le m.start a && b) (grind (arith, nat_tests))
 
@@ -128,7 +129,7 @@ abbrev Below : Option Holder → ℕ → Type 0
 Below None start = Unit {0}
 Below (Some h) start = h.start < start
 
--- no stretch at an address counts after s
+-- No stretch at the address takes precedence over s.
 abbrev AreUpto : ℕ → Stretch → List Stretch → Type 0
 AreUpto a s stretches = AllByRecursion (λ t. reaches t a ≡ true → Upto t s) stretches
 
@@ -153,7 +154,8 @@ below_by place m a s rest o true false has is behind all later = later all.1
 below_by place m a s rest o false true has is behind all later = let f : true ≡ false = sym is ∙ lies_nowhere m a has in absurd cc
 below_by place m a s rest o false false has is behind all later = later all
 
--- where no later stretch at the address counts after s, the module that counts among theirs begins below it
+-- If no later stretch at the address takes precedence over s, the module that counts among the
+-- later ones begins below s.
 below_top : (place : ℕ) (modules : List Module) (a : ℕ) (s : Stretch) → s.index < place → AreUpto a s (stretches_from place modules) → Below (holder_from place modules a) s.first
 unfolding stretches_from holder_from
 below_top place [] a s behind all = tt
@@ -172,7 +174,7 @@ upto_low : (s t : Stretch) → Upto t s → t.first ≤ s.first
 upto_low s t (inl below) = omega (arith, below)
 upto_low s t (inr alike) = omega (arith, alike.0)
 
--- the holder of a stretch
+-- The module of a stretch.
 abbrev holder_of : Stretch → Holder
 holder_of s = record { place = s.index; start = s.first }
 
@@ -201,7 +203,8 @@ some_by : (place : ℕ) (m : Module) (modules : List Module) (a : ℕ) (s : Stre
 some_by place m modules a s true has member here all later = counts_by place m modules a s member.0 has member.1 member.2 here all later
 some_by place m modules a s false has member here all later = rw (lies_nowhere m a has) (later member all)
 
--- the stretch after which none at the address counts is that of the module that counts
+-- If no stretch at the address takes precedence over a stretch there, its module is the one that
+-- counts.
 top_at : (place : ℕ) (modules : List Module) (a : ℕ) (s : Stretch) → Contains (stretches_from place modules) s → reaches s a ≡ true → AreUpto a s (stretches_from place modules) → holder_from place modules a ≡ Some (holder_of s)
 unfolding stretches_from holder_from
 top_at place [] a s member here all = absurd (omega (arith, member.1))
@@ -220,7 +223,7 @@ nowhere_by place m a rest o true false has is none later =
 nowhere_by place m a rest o false true has is none later = let f : true ≡ false = sym is ∙ lies_nowhere m a has in absurd cc
 nowhere_by place m a rest o false false has is none later = later none
 
--- where no stretch has the address no module counts
+-- If no stretch has the address, no module counts there.
 nowhere : (place : ℕ) (modules : List Module) (a : ℕ) → list_any (λ t. reaches t a) (stretches_from place modules) ≡ false → holder_from place modules a ≡ None
 unfolding stretches_from holder_from
 nowhere place [] a none = refl
@@ -239,14 +242,14 @@ first_by modules ys a (Some s) moved fall is =
     (find_true (λ t. reaches t a) ys s is)
     (moved_all (λ t. reaches t a ≡ true → Upto t s) ys (stretches_from 0 modules) back (found_top (λ t. reaches t a) ys s fall is))))
 
--- the first stretch at an address is that of the module that counts there
+-- The first stretch at an address is that of the module that counts there.
 pub module_map : (modules : List Module) (xs ys : List Stretch) (tops : Stepping (Option FirstItem)) → xs ≡ stretches_from 0 modules → IsPermutation xs ys → Fall ys → ((a : ℕ) → a < 2 ^ 64 → value_at None tops a ≡ first_item ys a) → IsModuleMap modules tops
 unfolding first_item first_at module_at
 module_map modules xs ys tops all moved fall is = λ a below.
     ap (option_map (λ item. item.index)) (is a below)
     ∙ first_by modules ys a (find (λ t. reaches t a) ys) (subst (λ (l : List Stretch). IsPermutation l ys) all moved) fall refl
 
--- it is one of them
+-- The module that counts is one of the modules.
 within_by : (own : Holder) (o : Option Holder) (n : ℕ) → own.place < n → IfSome o (λ h. h.place < n) → IfSome (greater own o) (λ h. h.place < n)
 within_by own None n inside later = inside
 within_by own (Some h) n inside later = go (nat_lt h.start own.start)

@@ -1,4 +1,4 @@
--- The names of symbol files; for `path_by` and `names_of`.
+-- The names of symbol files, for `path_by` and `names_of`.
 use Rattle.std.proofs.Common.{◌≡◌, ℕ, ◌+◌, ◌<◌, ◌≤◌, Bool, true, false, cond, List, [], ◌∷◌, ◌++◌, length, map, take, get_or, None, Some, refl, sym, ap, ◌∙◌}
 use Rattle.std.proofs.lemmas.List.{take_more, take_all, map-append}
 use Rattle.std.proofs.lemmas.Str.{IsUtf8-from_is_utf8, is_utf8-from_IsUtf8}
@@ -17,7 +17,7 @@ path_bad folder name identity bad = sym (ap (λ b. cond b (Some (symbol_path fol
     not_utf8 true is = absurd (bad (IsUtf8-from_is_utf8 name is))
     not_utf8 false is = is
 
--- one element more of a list that a map makes
+-- One element more of a list that `map` gives.
 pub map_more : {A B : Type 0} (f : A → B) (xs : List A) (i : ℕ) (x : A) (ys next : List B) (y : B) → i < length xs → x ≡ get_or xs i x → ys ≡ map f (take i xs) → y ≡ f x → next ≡ ys ++ y ∷ [] → next ≡ map f (take (i + 1) xs)
 map_more f xs i x ys next y low at before is more =
     more ∙ ap (λ l. l ++ y ∷ []) before ∙ ap (λ z. map f (take i xs) ++ z ∷ []) is

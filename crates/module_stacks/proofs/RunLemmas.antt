@@ -1,4 +1,4 @@
--- The byte at an address by runs, and by segments.
+-- The byte at an address, by runs and by segments.
 use Rattle.std.proofs.Common.{◌≡◌, ℕ, ◌+◌, ◌-◌, ◌<◌, ◌^◌, Bool, true, false, cond, List, [], ◌∷◌, ◌++◌, Option, Some, None, length, drop, find, refl, sym, ◌∙◌, ap, arith, length-drop, if◌then◌else◌}
 use Rattle.std.specs.Prelude.{◌&&◌, ◌==◌, nat_lt, nat_le, slice_index}
 use Rattle.std.specs.Option.{option_or, option_map}
@@ -21,7 +21,7 @@ or_none : {X : Type 0} (x : Option X) → option_or x None ≡ x
 or_none (Some x) = refl
 or_none None = refl
 
--- the byte in two lists of runs: the later one's, where it has one
+-- The byte in two lists of runs is that of the later list, if it has one.
 pub byte_append : (xs ys : List MemRun) (a : ℕ) → runs.byte_at (xs ++ ys) a ≡ option_or (runs.byte_at ys a) (runs.byte_at xs a)
 unfolding runs.byte_at
 byte_append [] ys a = sym (or_none (runs.byte_at ys a))
@@ -29,7 +29,7 @@ byte_append (x ∷ xs) ys a =
     let own : Option ℕ = if runs.holds a x then Some (slice_index x.bytes (a - x.start)) else None in
     ap (λ o. option_or o own) (byte_append xs ys a) ∙ sym (or_assoc (runs.byte_at ys a) (runs.byte_at xs a) own)
 
--- the run of a segment is as long as the bytes that are in the file
+-- The run of a segment is as long as the segment's bytes in the file.
 run_length : (file : List ℕ) (s : Segment) → length (run_of file s).bytes ≡ present file s
 unfolding run_of present
 run_length file s = length-take (present file s) (drop s.offset file) ∙ omega (arith, length-drop s.offset file)
@@ -59,7 +59,7 @@ segment_by file s a true load =
     ∙ same_where (gives file a s) _ _ (run_byte file s a)
 segment_by file s a false load = rw (not_load file s a load) refl
 
--- the byte of one segment
+-- The byte of one segment.
 segment_byte : (file : List ℕ) (s : Segment) (a : ℕ) → runs.byte_at (loaded_run file s) a ≡ (if gives file a s then Some (given file a s) else None)
 segment_byte file s a = segment_by file s a (s.kind == pt_load) refl
 
@@ -67,7 +67,7 @@ found : {X Y : Type 0} (f : X → Y) (b : Bool) (x : X) (later : Option X) → o
 found f true x later = refl
 found f false x later = refl
 
--- the byte of segments: that of the first one that gives it
+-- The byte of several segments is that of the first one that gives it.
 pub segments_byte : (file : List ℕ) (segments : List Segment) (a : ℕ) → runs.byte_at (runs_of file segments) a ≡ option_map (given file a) (find (gives file a) segments)
 unfolding runs_of runs.byte_at
 segments_byte file [] a = refl
@@ -77,7 +77,7 @@ segments_byte file (s ∷ segments) a =
     ∙ ap (option_or (if gives file a s then Some (given file a s) else None)) (segments_byte file segments a)
     ∙ found (given file a) (gives file a s) s (find (gives file a) segments)
 
--- the byte at an address of 64 bits
+-- The byte at an address below 2^64.
 pub same_byte : (m : Memory) (a : ℕ) → a < 2 ^ 64 → memory.byte_at m a ≡ runs.byte_at (core_runs m) a
 unfolding memory.byte_at
 same_byte m a below = rw (lt-ltb a (2 ^ 64) below) (sym (segments_byte m.file m.segments a))

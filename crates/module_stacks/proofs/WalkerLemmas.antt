@@ -1,4 +1,4 @@
--- Stacks by what was found of the symbol files; for `StackWalker`.
+-- Stacks by what was found of the symbol files, for `StackWalker`.
 use Rattle.std.proofs.Common.{◌≡◌, ℕ, zero, suc, ◌^◌, IfOk, OnOk, ◌<◌, true, is_some, List, [], ◌∷◌, ◌++◌, length, map, get_or, slice_get, Option, None, Some, Result, Ok, Err, refl, sym, ap, ◌∙◌, subst}
 use Rattle.std.proofs.lemmas.Option.{slice_get-get_or}
 use Rattle.std.specs.Borrow.{Bor}
@@ -23,7 +23,7 @@ use Rattle.module_stacks.specs.Walking.{Walking, known_found, IsPathSeen, IsName
 use Rattle.module_stacks.specs.declared.names.SymbolName.{SymbolName}
 use Rattle.module_stacks.proofs.FileLemmas.{all_both, asks_weaker, learns_weaker}
 
--- ---- names by places
+-- Names by places.
 
 mapped_at : {A B : Type 0} (f : A → B) (xs : List A) (place : ℕ) → slice_get (map f xs) place ≡ option_map f (slice_get xs place)
 mapped_at f [] place = refl
@@ -39,13 +39,13 @@ name_there folder modules names place name are low is =
     let there : slice_get names place ≡ Some name = slice_get-get_or names place name low ∙ ap Some (sym is) in
     joined (name_of folder) (slice_get modules place) name (sym (mapped_at (name_of folder) modules place) ∙ ap (λ l. slice_get l place) (sym are) ∙ there)
 
--- ---- what was found
+-- What was found.
 
 pub known_is : (known : List (List ℕ × Found)) (path : List ℕ) (found : Option (Bor Found)) → option_copied found ≡ seen_in known path → known_found known path ≡ option_and_then (λ (f : Bor Found). f.now) found
 known_is known path None is = ap (option_and_then (λ (f : Found). f)) (sym is)
 known_is known path (Some f) is = ap (option_and_then (λ (f : Found). f)) (sym is)
 
--- files that agree with what was found have it under each path that was asked for
+-- Files that agree with what was found have it under each path that was asked for.
 found_alike : (known : List (List ℕ × Found)) (got : Files) (path : List ℕ) → Agrees got (seen_in known) → is_some (seen_in known path) ≡ true → found_in (got path) ≡ known_found known path
 found_alike known got path agrees some = go (seen_in known path) refl some
   where
@@ -70,7 +70,7 @@ pub symbols_alike : (known : List (List ℕ × Found)) (got : Files) (folder : L
 unfolding symbols_of
 symbols_alike known got folder m agrees seen = names_alike known got (name_of folder m) agrees seen
 
--- ---- steps
+-- Steps.
 
 pub step_by_known : (found : List ℕ → Found) (folder : List ℕ) (core : CoreParts) (known : Known) (here : Place) (step : WalkStep) → known.records ≡ records_at found folder core.modules here.at → known.is_code ≡ is_code core.memory core.modules here.at
     → step ≡ step_known true known (core_runs core.memory) here → step ≡ step_at (process_by found folder core) here
@@ -88,14 +88,14 @@ step_alike w got here agrees asked =
 pub agrees_before : (got : Files) (old new : Seen) → ((name : List ℕ) (found : Found) → old name ≡ Some found → new name ≡ Some found) → Agrees got new → Agrees got old
 agrees_before got old new stays agrees = λ name found is. agrees name found (stays name found is)
 
--- a step by what was found is one by all files that agree with it
+-- A step by what was found is the step by all files that agree with it.
 pub step_got : (w : Walking) (got : Files) (core : CoreParts) (folder : List ℕ) (here : Place) (step : WalkStep) → w.core ≡ core → w.folder ≡ folder → Agrees got (seen_in w.known) → IsAsked w here.at → step ≡ step_at (process_by (known_found w.known) w.folder w.core) here
     → step ≡ step_at (process_of got folder core) here
 step_got w got core folder here step core_is folder_is agrees asked is =
     is ∙ step_alike w got here agrees asked
     ∙ ap (λ c. step_at (process_of got w.folder c) here) core_is ∙ ap (λ f. step_at (process_of got f core) here) folder_is
 
--- a stack of a thread
+-- The stack of a thread.
 pub stack_is : (result : Result Walk OutOfMemory) (seen : Seen) (core : CoreParts) (folder : List ℕ) (thread : Thread) (regs : Regs) (first : Place) → regs ≡ regs_of thread.registers → first ≡ first_place regs thread.registers.rip
     → IfOk result (λ walk. (got : Files) → Agrees got seen → walk ≡ walk_from (process_of got folder core) (2 ^ 20) first) → IfOk result (λ walk. (got : Files) → Agrees got seen → walk ≡ stack_of got folder core thread)
 unfolding stack_of
@@ -103,7 +103,7 @@ stack_is (Err fault) seen core folder thread regs first regs_is first_is walks =
 stack_is (Ok walk) seen core folder thread regs first regs_is first_is walks = λ got agrees.
     walks got agrees ∙ ap (walk_from (process_of got folder core) (2 ^ 20)) (first_is ∙ ap (λ r. first_place r thread.registers.rip) regs_is)
 
--- ---- names that were asked for
+-- Names that were asked for.
 
 is_some_later : (old new : Seen) (name : List ℕ) → ((name : List ℕ) (found : Found) → old name ≡ Some found → new name ≡ Some found) → is_some (old name) ≡ true → is_some (new name) ≡ true
 is_some_later old new name stays some = go (old name) refl some
@@ -130,7 +130,7 @@ pub are_asked_later : (old new : Walking) (steps : List WalkStep) → new.core �
 are_asked_later old new [] core folder stays asked = tt
 are_asked_later old new (step ∷ steps) core folder stays asked = (asked_later old new step.at core folder stays asked.0, are_asked_later old new steps core folder stays asked.1)
 
--- a step more
+-- One step more.
 pub place_of : (w : Walking) (here : Place) (step : WalkStep) → step ≡ step_at (process_by (known_found w.known) w.folder w.core) here → step.at ≡ here.at
 unfolding step_known
 place_of w here step is = ap (λ (s : WalkStep). s.at) is
@@ -139,7 +139,7 @@ pub asked_more : (old new : Walking) (steps next : List WalkStep) (step : WalkSt
 asked_more old new steps next step a core folder stays asked there at is =
     subst (AreAsked new) (sym is) (all_both (λ (s : WalkStep). IsAsked new s.at) steps (step ∷ []) (are_asked_later old new steps core folder stays asked) (subst (IsAsked new) (sym at) there, tt))
 
--- the path of a module's symbol file
+-- The path of a module's symbol file.
 path_same : (w v : Walking) → w.core ≡ v.core → w.folder ≡ v.folder → (name : List ℕ) → IsPathOf w name → IsPathOf v name
 path_same w v core folder name path = (
   path.0,
@@ -153,7 +153,7 @@ asks_at w v asked after old core folder asks = asks_weaker (IsPathOf w) (IsPathO
 pub learns_at : (w v : Walking) (files : Option Files) (asked after : List (List ℕ)) (faults now : ℕ) (old new : Seen) → w.core ≡ v.core → w.folder ≡ v.folder → Learns (IsPathOf w) files asked after faults now old new → Learns (IsPathOf v) files asked after faults now old new
 learns_at w v files asked after faults now old new core folder learns = learns_weaker (IsPathOf w) (IsPathOf v) (path_same w v core folder) files asked after faults now old new learns
 
--- the one name for which the store was asked at an address
+-- The only name for which the store was asked at an address.
 pub path_there : (w : Walking) (place : ℕ) (name : SymbolName) (path : List ℕ) → option_and_then (name_of w.folder) (slice_get w.core.modules place) ≡ Some name → name.path ≡ Some path → (other : List ℕ) → other ≡ path → IsPathOf w other
 path_there w place name path is has other same = (place, go (slice_get w.core.modules place) is ∙ has ∙ ap Some (sym same))
   where

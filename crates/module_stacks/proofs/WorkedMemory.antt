@@ -1,4 +1,4 @@
--- The memory of cores as runs: segments over one another, and a file that is cut.
+-- Worked examples of the memory of cores as runs: segments that overlap, and a file that is cut.
 use Rattle.std.proofs.Common.{◌≡◌, ℕ, [], ◌∷◌, Some, None, refl}
 use Rattle.cfi_eval.specs.Bytes.{byte_at, word_at}
 use Rattle.core_file.specs.declared.segments.Segment.{Segment}
@@ -6,11 +6,12 @@ use Rattle.core_file.specs.Memory.{Memory}
 use Rattle.module_stacks.specs.CoreRuns.{core_runs}
 use Rattle.module_stacks.proofs.Computing.{module_stacks_computes}
 
--- p_type, p_offset, p_vaddr and p_filesz
+-- A segment: p_type, p_offset, p_vaddr and p_filesz.
 abbrev segment : ℕ → ℕ → ℕ → ℕ → Segment
 segment kind offset address size = record { kind = kind; flags = 4; offset = offset; address = address; file_size = size; memory_size = size }
 
--- of two segments that give an address a byte the first counts, and its run is the last; a note is no memory
+-- If two segments give an address a byte, the first one counts; its run is the last. A note is no
+-- memory.
 unfoldable over : Memory
 over = record {
   file = 1 ∷ 2 ∷ 3 ∷ 4 ∷ 5 ∷ 6 ∷ 7 ∷ 8 ∷ 9 ∷ 10 ∷ 11 ∷ 12 ∷ [];
@@ -33,7 +34,7 @@ of_both : word_at (core_runs over) 0x1000 ≡ Some 0x0403020108070605
 unfolding module_stacks_computes over
 of_both = refl
 
--- of a cut file, the bytes that are there
+-- A file that is cut has the bytes that are there.
 unfoldable cut : Memory
 cut = record { file = 1 ∷ 2 ∷ 3 ∷ []; segments = segment 1 1 0x2000 8 ∷ segment 1 9 0x3000 4 ∷ [] }
 

@@ -1,4 +1,5 @@
--- Stacks of a thread: the addresses of each step, and why the walk ends; and why a module has no records.
+-- Worked examples of the stacks of a thread: the addresses of each step, why the walk ends, and why
+-- a module has no records.
 use Rattle.std.proofs.Common.{◌≡◌, ℕ, List, [], ◌∷◌, codes, map, Option, Some, None, Result, Ok, Err, if◌then◌else◌, refl}
 use Prim.Native.String.{String}
 use Rattle.std.specs.Char.{encode_utf8}
@@ -25,21 +26,22 @@ use Rattle.module_stacks.specs.declared.lack.Lack.{Lack}
 use Rattle.module_stacks.specs.declared.lack.Lack.TheVariants.{NoBuildId, Missing, Refused, OtherModule}
 use Rattle.module_stacks.proofs.Computing.{module_stacks_computes}
 
--- f calls g, which has no rule for its return address
+-- `f` calls `g`, which has no rule for its return address.
 abbrev text : String
 text = "MODULE Linux x86_64 030201000504070608090A0B0C0D0E0F0 a\nFUNC 1000 20 0 f\nFUNC 2000 10 0 g\nSTACK CFI INIT 1000 20 .cfa: $rsp 8 + .ra: .cfa -8 + ^\nSTACK CFI INIT 2000 10 .cfa: $rsp 8 +\n"
 
 abbrev path : String
 path = "store/a/030201000504070608090A0B0C0D0E0F0/a.sym"
 
--- files of which one has a text
+-- Files of which one has a text.
 abbrev only : String → String → Files
 only name text other = if bytes_eq other (codes name) then Some (codes text) else None
 
 abbrev nothing : Files
 nothing name = None
 
--- a process of one module at 555555550000, whose code is a segment that the file does not have, with some bytes at 7000
+-- A process of one module at 555555550000, with some bytes at 7000. The module's code is a segment
+-- whose bytes are not in the file.
 abbrev some_id : List ℕ
 some_id = 0 ∷ 1 ∷ 2 ∷ 3 ∷ 4 ∷ 5 ∷ 6 ∷ 7 ∷ 8 ∷ 9 ∷ 10 ∷ 11 ∷ 12 ∷ 13 ∷ 14 ∷ 15 ∷ []
 
@@ -65,7 +67,7 @@ thread_at rip = record {
 abbrev spots : Walk → List (ℕ × ℕ) × WalkEnd
 spots walk = (map {B = ℕ × ℕ} (λ (s : WalkStep). (s.rip, s.at)) walk.steps, walk.end)
 
--- the return address 555555552005, and before it 555555551005
+-- The return address 555555552005, and in front of it 555555551005.
 abbrev to_g : List ℕ
 to_g = 0x05 ∷ 0x20 ∷ 0x55 ∷ 0x55 ∷ 0x55 ∷ 0x55 ∷ 0 ∷ 0 ∷ []
 
@@ -76,17 +78,17 @@ a_stack : spots (stack_of (only path text) (codes "store") (core_with to_g 8) (t
 unfolding stack_of process_by records_at symbols_of name_of debug_pair_computes is_utf8 chars encode_utf8 file_reading module_stacks_computes stack_walk_computes
 a_stack = refl
 
--- without its symbol file
+-- Without its symbol file, a module has no records.
 no_file : spots (stack_of nothing (codes "store") (core_with to_g 8) (thread_at 0x555555551005)) ≡ ((0x555555551005, 0x555555551005) ∷ [], NoSymbols)
 unfolding stack_of process_by records_at symbols_of name_of debug_pair_computes is_utf8 chars encode_utf8 file_reading module_stacks_computes stack_walk_computes
 no_file = refl
 
--- a call through null
+-- A call through a null pointer.
 a_null_call : spots (stack_of (only path text) (codes "store") (core_with to_f 16) (thread_at 0)) ≡ ((0, 0) ∷ (0x555555551005, 0x555555551004) ∷ (0x555555552005, 0x555555552004) ∷ [], RaUndefined)
 unfolding stack_of process_by records_at symbols_of name_of debug_pair_computes is_utf8 chars encode_utf8 file_reading module_stacks_computes stack_walk_computes
 a_null_call = refl
 
--- why a module has no records
+-- Why a module has no records.
 abbrev lack_in : Result (List SymLine) Lack → Option Lack
 lack_in (Ok lines) = None
 lack_in (Err lack) = Some lack
@@ -111,7 +113,7 @@ no_text : lacks (only path "FUNC 1000 20 0 f\n") (module_a (Some some_id)) ≡ S
 unfolding lacks name_of debug_pair_computes is_utf8 chars encode_utf8 file_reading module_stacks_computes stack_walk_computes
 no_text = refl
 
--- an id of fewer than 16 bytes is filled with zeros
+-- An id of fewer than 16 bytes is padded with zeros.
 a_short_id : lacks (only "store/a/000000AB0000000000000000000000000/a.sym" "MODULE Linux x86_64 000000AB0000000000000000000000000 a\n") (module_a (Some (0xab ∷ []))) ≡ None
 unfolding lacks name_of debug_pair_computes is_utf8 chars encode_utf8 file_reading module_stacks_computes stack_walk_computes
 a_short_id = refl

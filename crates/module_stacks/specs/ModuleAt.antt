@@ -10,13 +10,14 @@ pub record Holder : Type 0 where
   pub place : ℕ
   pub start : ℕ
 
--- the module with the greater start, of a module and a later one in the list; if their starts are equal, the later one
+-- of a module and a later one in the list, the one with the greater start; if their starts are
+-- equal, the later one
 abbrev pub greater : Holder → Option Holder → Option Holder
 greater own None = Some own
 greater own (Some later) = if nat_lt later.start own.start then Some own else Some later
 
--- among the modules that contain an address, the one with the greatest start; if several have that start, the last of them. Places count from `place`
--- on
+-- among the modules that contain an address, the one with the greatest start; if several have that
+-- start, the last of them. The first of `modules` has the number `place`
 unfoldable pub holder_from : ℕ → List Module → ℕ → Option Holder
 holder_from place [] a = None
 holder_from place (m ∷ modules) a =

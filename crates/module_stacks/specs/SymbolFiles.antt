@@ -38,26 +38,27 @@ abbrev pub Counted : List (List ℕ) → ℕ → ℕ → Type 0
 Counted [] before now = now ≡ before
 Counted (name ∷ missed) before now = Rose before now
 
--- the files of a run: if the files of the store are known, they are those without the names `missed`, at which a call failed
+-- the files of a run: if the files of the store are known, they are these, but without the names
+-- `missed`, at which a call failed
 pub record Had (files : Option Files) (before now : ℕ) (seen : Seen) (got : Files) (missed : List (List ℕ)) : Type 0 where
   pub told : Tells files (λ f. (name : List ℕ) → got name ≡ without missed f name)
   pub counted : Counted missed before now
   pub asked : (name : List ℕ) → list_any (bytes_eq name) missed ≡ true → is_some (seen name) ≡ true
 
--- some such files agree with what was found
+-- some files of the run agree with what was found
 pub record Knows (files : Option Files) (before now : ℕ) (seen : Seen) : Type 0 where
   pub got : Files
   pub missed : List (List ℕ)
   pub had : Had files before now seen got missed
   pub agrees : Agrees got seen
 
--- what a call found under a name. If it found nothing, it failed; otherwise this is the reading of the file, or of unknown bytes if the files are not
--- known
+-- what a call found under a name. If it found nothing, it failed. Otherwise it found the reading of
+-- the file; if the files are not known, of unknown bytes
 abbrev pub IsFound : Found → Option Files → List ℕ → ℕ → ℕ → Type 0
 IsFound None files name before after = Rose before after
 IsFound (Some read) files name before after = (after ≡ before) × HoldsFile files name (IsReading (2 ^ 29) read)
 
--- one more name was asked for; if memory ran out, perhaps not
+-- one more name was asked for; if memory ran out, perhaps it was not
 abbrev pub AsksNew : {A : Type 0} → Result A OutOfMemory → List (List ℕ) → List ℕ → List (List ℕ) → Type 0
 AsksNew (Ok x) before name after = after ≡ before ++ name ∷ []
 AsksNew (Err fault) before name after = (after ≡ before ++ name ∷ []) ⊎ (after ≡ before)
@@ -76,8 +77,9 @@ AreSeen new (name ∷ names) = (is_some (new name) ≡ true) × AreSeen new name
 abbrev pub AsksFresh : (List ℕ → Type 0) → Seen → List (List ℕ) → List (List ℕ) → Type 0
 AsksFresh P old asked after = (names : List (List ℕ)) × ((after ≡ asked ++ names) × (AreNew old names × AllByRecursion P names))
 
--- what was found before stays; it is now known what was found under the new names that were asked for, and under no others; if files agreed with what
--- was known before, then files agree with all that is known now
+-- what was found before stays. It is now also known what was found under the new names that were
+-- asked for, and under no others. If some files agreed with what was known before, then some files
+-- agree with all that is known now
 pub record Learns (P : List ℕ → Type 0) (files : Option Files) (asked after : List (List ℕ)) (faults now : ℕ) (old new : Seen) : Type 0 where
   pub stays : (name : List ℕ) (found : Found) → old name ≡ Some found → new name ≡ Some found
   pub names : List (List ℕ)

@@ -17,7 +17,8 @@ use Rattle.module_stacks.specs.declared.names.SymbolName.{SymbolName}
 use Rattle.module_stacks.specs.declared.lack.Lack.{Lack}
 use Rattle.module_stacks.specs.declared.lack.Lack.TheVariants.{NoBuildId, Missing, Refused, OtherModule}
 
--- for a module with a build id, the path of its symbol file if the module's name is UTF-8, and the id in that file's MODULE
+-- for a module with a build id: the path of its symbol file, if the module's name is UTF-8, and the
+-- id that the file's MODULE must have
 abbrev pub path_by : List ℕ → List ℕ → List ℕ → Option (List ℕ)
 path_by folder name identity = if is_utf8 name then Some (symbol_path folder name identity) else None
 

@@ -30,7 +30,7 @@ IsNameSeen known (Some name) = IsPathSeen known name.path
 abbrev pub IsAsked : Walking → ℕ → Type 0
 IsAsked w a = IsNameSeen w.known (option_and_then (name_of w.folder) (holder_of w.core.modules a))
 
--- the same for the address of each step
+-- the same for the address that each step looks up
 abbrev pub AreAsked : Walking → List WalkStep → Type 0
 AreAsked w steps = AllByRecursion (λ step. IsAsked w step.at) steps
 

@@ -65,7 +65,8 @@ fn put_in_order(stretches: &mut Vec<Stretch>)
 }
 
 impl<'m> ModuleMap<'m> {
-    /// A map of modules, in n log n steps for n modules. If u32 cannot number them, the result is want of memory; a core has 65,536 at most.
+    /// A map of modules, in n log n steps for n modules. If there are too many for a u32, the call
+    /// ends as if memory ran out; a core has at most 65,536.
     pub fn of(alloc: Global, modules: &'m [Module]) -> Result<ModuleMap<'m>, OutOfMemory>
         ensures { IfOk result (λ map. map ≡ modules.now) }
     {
@@ -84,7 +85,8 @@ impl<'m> ModuleMap<'m> {
         self.modules
     }
 
-    /// The place of the module that counts at an address: of the modules that contain it, the one with the greatest start; of equal starts, the last.
+    /// The place of the module that counts at an address: of the modules that contain it, the one
+    /// with the greatest start, and the last one of these.
     #[tactic(auto, using(crate::proofs::ModuleLemmas::at_within))]
     pub fn at(&self, a: u64) -> Option<usize>
         ensures exact { result ≡ module_at self.now a }

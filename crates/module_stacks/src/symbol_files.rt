@@ -34,7 +34,8 @@ impl Model for Table {
 }
 
 impl Table {
-    /// A file of 2^32 records is longer than a file may be.
+    /// The records of a file, with their index. A file of 2^32 records is longer than a file may
+    /// be.
     fn of(alloc: Global, file: SymFile) -> Result<Table, OutOfMemory>
         ensures { IfOk result (λ table. table ≡ file) }
     {
@@ -78,7 +79,7 @@ impl Model for SymbolFiles {
     ghost view = { λ s. names_of s.files };
 }
 
-/// What is found under a name, for which the store is asked.
+/// What is found under a name. The store is asked for it.
 fn find_file<S: Store>(alloc: Global, store: &mut S, name: &str) -> Result<FoundFile, OutOfMemory>
     ensures asked { AsksNew result (S.asked store.old) name.now (S.asked store.new) }
     ensures files { S.files store.new ≡ S.files store.old }
@@ -94,7 +95,7 @@ fn find_file<S: Store>(alloc: Global, store: &mut S, name: &str) -> Result<Found
 }
 
 impl SymbolFiles {
-    /// Nothing was asked for.
+    /// No name was asked for yet.
     pub fn new(alloc: Global) -> SymbolFiles
         ensures { (name : List ℕ) → seen_in result name ≡ None }
     {

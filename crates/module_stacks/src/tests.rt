@@ -1,4 +1,4 @@
-//! What no clause says: that a map of many modules is made if there is enough memory.
+//! Tests of what no clause says: a map of many modules is made if there is enough memory.
 use crate::module_map::ModuleMap;
 use core_file::Module;
 use std::alloc::{AllocError, Global};

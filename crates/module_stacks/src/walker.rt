@@ -25,10 +25,11 @@ use std::marker::Model;
 use sym_edges::{OutOfMemory, Store};
 use sym_records::{SymFile, SymLine};
 
-/// The most steps of a stack.
+/// How many steps a stack has at most.
 const MOST_STEPS: usize = 1 << 20;
 
-/// A process: its core file, the folder with the symbol files of its modules, and what was found of those that were asked for.
+/// A process: its core file, the folder with the symbol files of its modules, and what was found of
+/// the symbol files that were asked for.
 #[derive(Drop)]
 pub struct StackWalker<'c> {
     core: &'c Core<'c>,
@@ -78,7 +79,7 @@ fn regs_of(registers: &Registers) -> Regs
     }
 }
 
-/// Whether the first of the records is a MODULE of an id.
+/// Whether the first record is a MODULE with this id.
 fn is_of(id: &[u8], lines: &[SymLine]) -> bool
     ensures { result ≡ is_of id.now lines.now }
 {
@@ -89,7 +90,7 @@ fn is_of(id: &[u8], lines: &[SymLine]) -> bool
 }
 
 impl<'c> StackWalker<'c> {
-    /// Nothing was asked for.
+    /// A process whose symbol files were not asked for yet.
     pub fn new(
         alloc: Global,
         core: &'c Core<'c>,
@@ -136,7 +137,7 @@ impl<'c> StackWalker<'c> {
         }
     }
 
-    /// The id that a module's symbol file has in MODULE, if the module has a build id.
+    /// The id that the MODULE of a module's symbol file must have, if the module has a build id.
     pub fn id_of(&self, place: usize) -> Option<&[u8]>
         requires { place < length self.now.core.modules }
         ensures { IfSome (slice_get self.now.core.modules place) (λ m. option_copied result ≡ option_map (λ name. name.id) (name_of self.now.folder m)) }

@@ -1,4 +1,5 @@
--- What a proof unfolds to compute the definitions of range_lists and of the crates below it where the input is written out.
+-- The definitions of range_lists and of the crates below it that a proof unfolds to compute a
+-- worked example.
 use Rattle.std.specs.Prelude.{⊤}
 use Rattle.range_set.specs.Enclosing.{encloses}
 use Rattle.die_walk.proofs.Computing.{die_walk_computes}

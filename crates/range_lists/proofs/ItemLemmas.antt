@@ -1,4 +1,4 @@
--- How far the items of range lists go.
+-- How many bytes the items of range lists pass.
 use Rattle.std.proofs.Common.{ℕ, ◌+◌, nat_eq, nat_lt, Option, None, Some, Result, Ok, Err, refl, arith}
 use Rattle.sym_edges.specs.Results.{◌>>=◌}
 use Rattle.sym_edges.specs.declared.part.Sect.{Sect}
@@ -17,7 +17,7 @@ use Rattle.range_lists.specs.AddressTable.{AddressTable}
 use Rattle.range_lists.specs.ListItems.{pair_at, as_item, item_with, item_with_two, item_by, rnglist_item_at, item_at}
 use Rattle.range_lists.specs.ListPairs.{effect_of, list_section, in_list, effect_by, effect_at}
 
--- readings that differ in their fault alone go as far
+-- A reading passes the same bytes if only its fault is changed.
 as_item_passes : {A : Type 0} (reading : Result (A × Ahead) CursorFault) (least : ℕ) (c : Ahead) → Passes least c reading → Passes least c (as_item reading)
 as_item_passes (Ok x) least c goes = goes
 as_item_passes (Err f) least c goes = tt
@@ -67,7 +67,7 @@ item_passes version c =
     (weaker (as_item (pair_at c)) 16 1 c (omega arith) (as_item_passes (pair_at c) 16 c (pair_passes c)))
     (rnglist_item_passes c)
 
--- what is made of a reading that goes nowhere else
+-- A value that is made without reading passes no bytes.
 made_passes : {A B E : Type 0} (make : A → B) (made : Result A E) (d : Ahead) → Passes 0 d (made >>= λ x. Ok (make x, d))
 made_passes make (Ok x) d = (omega arith, refl)
 made_passes make (Err f) d = tt

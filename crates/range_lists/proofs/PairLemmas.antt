@@ -1,4 +1,4 @@
--- The pairs of a list follow its first item, and which addresses they give.
+-- The pairs of a list are given by its first item; and the addresses that pairs give.
 use Rattle.std.proofs.Common.{◌≡◌, ◌<◌, ℕ, Bool, false, ◌&&◌, ◌||◌, List, [], ◌∷◌, ◌++◌, length, Option, None, Some, Result, Ok, Err, refl, sym, ap, ◌∙◌}
 use Rattle.std.proofs.Math.Bool.{or_assoc, or-false}
 use Rattle.sym_edges.specs.Addresses.{Range}
@@ -15,13 +15,13 @@ use Rattle.range_lists.specs.ListPairs.{effect_at, base_after, pair_of, pairs_fr
 use Rattle.range_lists.specs.EntryRanges.{is_code, in_pairs, in_ranges}
 use Rattle.range_lists.proofs.ItemLemmas.{effect_goes}
 
--- the pairs by the first item
+-- The pairs of a list, given its first item.
 abbrev pub pairs_next : ℕ → AddressTable → ℕ → Option Effect → Ahead → Result (List Range) (Located DwarfKind)
 pairs_next version table base None c = Ok []
 pairs_next version table base (Some does) c =
     list_pairs version table (base_after base does) c >>= λ pairs. Ok (pair_of base does ++ pairs)
 
--- a member in front of those that come later
+-- An item, followed by later items.
 abbrev in_front : Effect → List Effect × Ahead → Result (List Effect × Ahead) (Located DwarfKind)
 in_front does rest = Ok (does ∷ rest.0, rest.1)
 
@@ -40,21 +40,21 @@ first_by version table base (Ok (None, c)) = refl
 first_by version table base (Ok (Some does, c)) = later_by base does c (list_at (effect_at version table) c)
 first_by version table base (Err fault) = refl
 
--- no count of readings is part of what the pairs are
+-- The pairs do not depend on how many readings are allowed.
 pub pairs_follow : (version : ℕ) (table : AddressTable) (base : ℕ) (c : Ahead) → list_pairs version table base c ≡ (effect_at version table c >>= λ x. pairs_next version table base x.0 x.1)
 unfolding list_pairs
 pairs_follow version table base c =
     ap (λ r. r >>= λ effects. Ok (pairs_from base effects.0)) (list_follows (effect_at version table) (effect_goes version table) c)
     ∙ first_by version table base (effect_at version table c)
 
--- pairs one after the other give what both give
+-- Two lists of pairs, one after the other, give the addresses of both.
 in_joined : (code xs ys : List Range) (a : ℕ) → in_pairs code (xs ++ ys) a ≡ (in_pairs code xs a || in_pairs code ys a)
 in_joined code [] ys a = refl
 in_joined code (x ∷ xs) ys a =
     ap (λ b. (is_code code x && holds x a) || b) (in_joined code xs ys a)
     ∙ sym (or_assoc (is_code code x && holds x a) (in_pairs code xs a) (in_pairs code ys a))
 
--- the addresses that were gathered, and those of pairs still to come
+-- The addresses that were gathered, and those of the pairs still to be read.
 abbrev pub with_gathered : List Range → Bool → Result (List Range) (Located DwarfKind) → ℕ → Result Bool (Located DwarfKind)
 with_gathered code held later a = later >>= λ pairs. Ok (held || in_pairs code pairs a)
 
@@ -68,7 +68,7 @@ none_gathered : (code : List Range) (given : Result (List Range) (Located DwarfK
 none_gathered code (Ok pairs) a = refl
 none_gathered code (Err fault) a = refl
 
--- the loop's steps
+-- The steps of the loop.
 pub gather_begins : (code held : List Range) (given : Result (List Range) (Located DwarfKind)) (a : ℕ) → held ≡ [] → with_gathered code (holds_any held a) given a ≡ in_ranges code given a
 gather_begins code held given a none =
     ap (λ h. with_gathered code (holds_any h a) given a) none ∙ none_gathered code given a
@@ -96,7 +96,7 @@ gather_refused code held version table base c fault a read =
     ap (λ r. with_gathered code (holds_any held a) r a) (pairs_follow version table base c)
     ∙ ap (λ r. with_gathered code (holds_any held a) (r >>= λ x. pairs_next version table base x.0 x.1) a) (sym read)
 
--- where an address has a fault, there is no other
+-- The pairs have the fault that the test of an address has.
 pub fault_given : (code : List Range) (given : Result (List Range) (Located DwarfKind)) (fault : Located DwarfKind) (a : ℕ) → in_ranges code given a ≡ Err fault → given ≡ Err fault
 fault_given code (Ok pairs) fault a is = cc
 fault_given code (Err other) fault a is = cc
@@ -104,7 +104,7 @@ fault_given code (Err other) fault a is = cc
 pub items_shorter : (version : ℕ) (table : AddressTable) (does : Effect) (c d : Ahead) → Ok (Some does, d) ≡ effect_at version table c → length d.bytes < length c.bytes
 items_shorter version table does c d is = shorter_by (effect_at version table c) does c d (effect_goes version table c) is
 
--- the same steps against what the list gives
+-- The steps of the loop, compared with the pairs of the list.
 pub gather_more_from : (code held more : List Range) (version : ℕ) (table : AddressTable) (base after : ℕ) (does : Effect) (c d : Ahead) (given : Result (List Range) (Located DwarfKind)) (a : ℕ)
     → with_gathered code (holds_any held a) (list_pairs version table base c) a ≡ in_ranges code given a
     → Ok (Some does, d) ≡ effect_at version table c

@@ -1,4 +1,4 @@
--- Lists that stand at one place: what they give names no entry, only their faults do.
+-- Lists at the same place give the same pairs to all entries; only a fault names the entry.
 use Rattle.std.proofs.Common.{◌≡◌, ℕ, zero, suc, ◌+◌, ◌*◌, nat_lt, Bool, true, false, cond, List, [], ◌∷◌, length, Option, None, Some, Result, Ok, Err, refl, sym, ap, subst, ◌∙◌}
 use Rattle.std.specs.List.{slice_get}
 use Rattle.std.proofs.lemmas.Bool.{cond-false}
@@ -27,7 +27,7 @@ use Rattle.range_lists.specs.ListItems.{item_at}
 use Rattle.range_lists.specs.ListPairs.{moved, effect_of, list_section, in_list, effect_by, effect_at, pairs_from, list_pairs}
 use Rattle.range_lists.specs.EntryRanges.{addresses_for, list_bytes, list_place, list_from, list_of, pairs_by, pairs_of, pairs_at, told_place, place_of_list, listed_at}
 
--- the second is the first, wherever that has no fault
+-- The second result is equal to the first, if the first is no fault.
 abbrev Alike : {A F : Type 0} → Result A F → Result A F → Type 0
 Alike (Ok x) other = other ≡ Ok x
 Alike (Err fault) other = Prim.Unit {0}
@@ -43,7 +43,7 @@ then_alike (Err fault) other next after same later = tt
 read_alike : {A F : Type 0} (one other : Result A F) (x : A) → Alike one other → one ≡ Ok x → other ≡ Ok x
 read_alike one other x same is = subst (λ (r : Result _ _). Alike r other) is same
 
--- a place, and the number there
+-- A place, and the number at it.
 past_alike : (past : Bool) (fault later : Located DwarfKind) (c : Ahead) → Alike {A = Ahead} (cond past (Err fault) (Ok c)) (cond past (Err later) (Ok c))
 past_alike true fault later c = tt
 past_alike false fault later c = refl
@@ -59,7 +59,7 @@ number_alike section width bytes at other place =
     (λ c. read_in section (fixed_at width c) >>= λ number. Ok number.0) (λ c. read_in section (fixed_at width c) >>= λ number. Ok number.0)
     (ahead_alike bytes at other place) (λ c. same_alike (read_in section (fixed_at width c) >>= λ number. Ok number.0))
 
--- the addresses by their number, as the entry at a place asks for them
+-- The table in which the entry at a place finds addresses by index.
 abbrev asked : List ℕ → Option ℕ → ℕ → AddressTable
 asked bytes base at = record { bytes = bytes; base = base; at = at }
 
@@ -68,7 +68,7 @@ unfolding address_at
 address_alike bytes None at other index = tt
 address_alike bytes (Some base) at other index = number_alike section.Addr 8 bytes at other (base + 8 * index)
 
--- what an item does
+-- What an item does.
 effect_alike : (bytes : List ℕ) (base : Option ℕ) (at other : ℕ) (found : RangeItem) → Alike (effect_of (asked bytes base at) found) (effect_of (asked bytes base other) found)
 unfolding effect_of
 effect_alike bytes base at other (item.BaseAddressx index) =
@@ -101,7 +101,7 @@ ahead_does_alike version bytes base at other c =
     (λ found. effect_by (asked bytes base at) found.0 found.1) (λ found. effect_by (asked bytes base other) found.0 found.1)
     (same_alike (in_list (list_section version) (item_at version c))) (λ found. by_alike bytes base at other found.0 found.1)
 
--- lists, where each reading of the one is that of the other
+-- Two lists whose readings are alike are alike.
 first_alike : {A E : Type 0} (first : Option A) (c : Ahead) (one other : Result (List A × Ahead) E) → Alike one other → Alike (list_by first c one) (list_by first c other)
 first_alike None c one other same = refl
 first_alike (Some member) c one other same =
@@ -125,7 +125,7 @@ pairs_alike version bytes base at other from c =
     (λ effects. Ok (pairs_from from effects.0)) (λ effects. Ok (pairs_from from effects.0))
     (lists_alike (effect_at version (asked bytes base at)) (effect_at version (asked bytes base other)) (ahead_does_alike version bytes base at other) c) (λ effects. refl)
 
--- the pairs of an entry whose list stands at a place
+-- The pairs of an entry, given the place of its list.
 told_is : (told : Result (Option ℕ) (Located DwarfKind)) (place : ℕ) → told_place told ≡ Some place → told ≡ Ok (Some place)
 told_is (Ok found) place is = ap Ok is
 told_is (Err fault) place is = absurd (cc)
@@ -167,7 +167,7 @@ one_place sections unit root base place (Some one) (Some other) pairs first seco
     ∙ read_alike (pairs_there sections unit root base place one.at) (pairs_there sections unit root base place other.at) pairs
     (there_alike sections unit root base place one.at other.at) (sym (pairs_listed sections unit root base place one first) ∙ gives)
 
--- an entry that does not count gives nothing
+-- An entry that does not count gives no pairs.
 not_counted : (sections : DebugSections) (unit : Unit) (root : RootFields) (base : ℕ) (die : DieFields) → counts die ≡ false → pairs_of sections unit root base die ≡ Ok []
 unfolding pairs_of
 not_counted sections unit root base die none = cond-false _ _ _ none

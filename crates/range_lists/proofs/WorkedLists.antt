@@ -1,4 +1,4 @@
--- Worked rows: the pairs that range lists give (DWARF 5, 2.17.3 and 7.25; DWARF 4, 2.17.3).
+-- Worked examples: the pairs that range lists give (DWARF 5, 2.17.3 and 7.25; DWARF 4, 2.17.3).
 use Rattle.std.proofs.Common.{◌≡◌, ℕ, List, [], ◌∷◌, Some, None, Result, Ok, Err, refl}
 use Prim.Native.String.{String}
 use Rattle.sym_edges.proofs.Hex.{hex}
@@ -11,12 +11,13 @@ use Rattle.range_lists.specs.AddressTable.{AddressTable}
 use Rattle.range_lists.specs.ListPairs.{list_pairs}
 use Rattle.range_lists.proofs.Computing.{range_lists_computes}
 
--- the addresses 0x5000 and 0x6000 after a header of eight bytes, and three bytes of another; the entry stands at 0x2a
+-- The addresses 0x5000 and 0x6000 after a header of eight bytes, and three bytes of a third
+-- address. The entry is at 0x2a.
 unfoldable addresses : AddressTable
 unfolding hex
 addresses = record { bytes = hex "14000000 05000800 0050000000000000 0060000000000000 000000"; base = Some 8; at = 0x2a }
 
--- a list of version 5, and one of version 4, that stands at 0xc and counts from 0x1000
+-- A list of version 5 at the place 0xc, with the base 0x1000; and a list of version 4.
 unfoldable listed : String → Result (List Range) (Located DwarfKind)
 unfolding hex
 listed list = list_pairs 5 addresses 0x1000 (record { bytes = hex list; at = 0xc })
@@ -34,7 +35,7 @@ ends at = record { kind = is.Ends; section = section.Rnglists; at = at }
 abbrev pair_ends : ℕ → Located DwarfKind
 pair_ends at = record { kind = is.Ends; section = section.Ranges; at = at }
 
--- DW_RLE_end_of_list: an empty list, and none
+-- DW_RLE_end_of_list: an empty list, and a list without an end.
 an_empty_list : listed "00" ≡ Ok []
 unfolding range_lists_computes listed addresses
 an_empty_list = refl
@@ -43,12 +44,12 @@ no_list : listed "" ≡ Err (ends 0xc)
 unfolding range_lists_computes listed addresses
 no_list = refl
 
--- bytes after the end are not read
+-- Bytes after the end of the list are not read.
 behind_the_end : listed "00 08" ≡ Ok []
 unfolding range_lists_computes listed addresses
 behind_the_end = refl
 
--- a kind that the standard does not have
+-- A kind that the standard does not have.
 an_unknown_kind : listed "08" ≡ Err (record { kind = is.RangeKind; section = section.Rnglists; at = 0xc })
 unfolding range_lists_computes listed addresses
 an_unknown_kind = refl
@@ -93,7 +94,7 @@ offset_pair : listed "04 10 20 00" ≡ Ok (pair 0x1010 0x1020 ∷ [])
 unfolding range_lists_computes listed addresses
 offset_pair = refl
 
--- from the last address on, offsets lead around to the first ones
+-- Sums with the base are modulo 2^64, also if the base is the last address.
 offset_pair_that_wraps : list_pairs 5 addresses 0xffffffffffffffff (record { bytes = hex "04 10 20 00"; at = 0xc }) ≡ Ok (pair 0xf 0x1f ∷ [])
 unfolding range_lists_computes addresses
 offset_pair_that_wraps = refl
@@ -129,12 +130,13 @@ start_length_one_short : listed "07 0020000000000000" ≡ Err (ends 0x15)
 unfolding range_lists_computes listed addresses
 start_length_one_short = refl
 
--- each base counts up to the next; a base is set and not added to the one before, and absolute items leave it as it is
+-- Each base holds up to the next one. It replaces the one before, and is not added to it. Items
+-- with addresses do not change it.
 several_bases : listed "04 00 01 05 0000020000000000 04 10 20 02 00 01 04 30 40 05 0000040000000000 04 50 60 01 00 04 00 01 00" ≡ Ok (pair 0x1000 0x1001 ∷ pair 0x20010 0x20020 ∷ pair 0x5000 0x6000 ∷ pair 0x20030 0x20040 ∷ pair 0x40050 0x40060 ∷ pair 0x5000 0x5001 ∷ [])
 unfolding range_lists_computes listed addresses
 several_bases = refl
 
--- sums are modulo 2^64
+-- Sums are modulo 2^64.
 offsets_that_wrap : listed "05 f0ffffffffffffff 04 08 20 00" ≡ Ok (pair 0xfffffffffffffff8 0x10 ∷ [])
 unfolding range_lists_computes listed addresses
 offsets_that_wrap = refl
@@ -143,7 +145,8 @@ a_length_that_wraps : listed "07 f0ffffffffffffff 20 00" ≡ Ok (pair 0xffffffff
 unfolding range_lists_computes listed addresses
 a_length_that_wraps = refl
 
--- the last number whose address is there, the next one, whose bytes are cut, and one after the end of the section
+-- An index whose address is cut off, and indices whose addresses would be after the end of the
+-- section.
 a_cut_address : listed "01 02 00" ≡ Err (record { kind = is.Ends; section = section.Addr; at = 0x18 })
 unfolding range_lists_computes listed addresses
 a_cut_address = refl
@@ -156,7 +159,8 @@ a_second_address_outside : listed "02 00 03 00" ≡ Err (record { kind = is.Offs
 unfolding range_lists_computes listed addresses
 a_second_address_outside = refl
 
--- both operands are read before the first address is looked up; then the first counts first
+-- Both operands are read before the first address is looked up. The first address is looked up
+-- before the second.
 operands_before_addresses : listed "02 03" ≡ Err (ends 0xe)
 unfolding range_lists_computes listed addresses
 operands_before_addresses = refl
@@ -165,17 +169,19 @@ the_first_address_first : listed "02 02 03 00" ≡ Err (record { kind = is.Ends;
 unfolding range_lists_computes listed addresses
 the_first_address_first = refl
 
--- an address that is not there counts before items after it, and one that is not read does not count
+-- The fault of an address comes before faults of later items; items that are not read have no
+-- fault.
 a_fault_before_those_behind : listed "01 03 08" ≡ Err (record { kind = is.OffsetOutside; section = section.Info; at = 0x2a })
 unfolding range_lists_computes listed addresses
 a_fault_before_those_behind = refl
 
--- without an addr_base
+-- The unit has no addr_base.
 startx_without_a_base : list_pairs 5 (record addresses { base = None }) 0x1000 (record { bytes = hex "03 00 10 00"; at = 0xc }) ≡ Err (record { kind = is.NoBase; section = section.Info; at = 0x2a })
 unfolding range_lists_computes addresses
 startx_without_a_base = refl
 
--- `.debug_ranges`: 0 and 0 end the list, a first member of all ones sets the base, all other pairs are offsets
+-- In `.debug_ranges` the pair 0 and 0 ends the list, a first number of all ones sets the base, and
+-- all other pairs are offsets.
 an_empty_list_of_pairs : paired "0000000000000000 0000000000000000" ≡ Ok []
 unfolding range_lists_computes paired addresses
 an_empty_list_of_pairs = refl

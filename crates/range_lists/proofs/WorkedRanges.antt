@@ -1,4 +1,4 @@
--- Worked rows: the addresses of entries (DWARF 5, 2.17; DWARF 4, 2.17).
+-- Worked examples: the addresses of entries (DWARF 5, 2.17; DWARF 4, 2.17).
 use Rattle.std.proofs.Common.{◌≡◌, ℕ, Bool, true, false, pos, negsuc, List, [], ◌∷◌, map, Option, Some, None, Result, Ok, Err, refl}
 use Rattle.sym_edges.proofs.Hex.{hex}
 use Rattle.sym_edges.specs.Addresses.{Range}
@@ -15,8 +15,10 @@ use Rattle.die_walk.specs.EntryTable.{DieFields, RootFields}
 use Rattle.range_lists.specs.EntryRanges.{unit_base, pairs_of, in_ranges, place_of_list}
 use Rattle.range_lists.proofs.Computing.{range_lists_computes}
 
--- the address 0x5000 after a header of eight bytes, then seven bytes of another; two lists of version 5 after a header of twelve
--- bytes and the places of both, counted from there, as two numbers of four bytes or as one of eight; a list of version 4
+-- `.debug_addr` has a header of eight bytes, the address 0x5000 and seven bytes of another address.
+-- `.debug_rnglists` has a header of twelve bytes, then the offsets of two lists, counted from
+-- there, as two numbers of four bytes or as one number of eight, and then the lists.
+-- `.debug_ranges` has a list of version 4.
 unfoldable sections : DebugSections
 unfolding hex
 sections = record {
@@ -47,7 +49,7 @@ root = record {
   rnglists_base = Some 12;
 }
 
--- a subprogram with these attributes, and no others
+-- A subprogram with these attributes and no others.
 unfoldable die : Option Value → Option Value → Option Value → DieFields
 die low high ranges = record {
   at = 0x2a;
@@ -66,7 +68,7 @@ die low high ranges = record {
   call_line = 0;
 }
 
--- the pairs of an entry of a unit of version 5, and of version 4
+-- The pairs of an entry in a unit of version 5, and in a unit of version 4.
 unfoldable pairs_5 : DieFields → Result (List Range) (Located DwarfKind)
 pairs_5 d = pairs_of sections (unit 5 false) root 0x1000 d
 
@@ -82,7 +84,8 @@ outside = record { kind = is.OffsetOutside; section = section.Info; at = 0x2a }
 abbrev no_base : Located DwarfKind
 no_base = record { kind = is.NoBase; section = section.Info; at = 0x2a }
 
--- low_pc, and high_pc as an address, as the number of one, as a length, as a length with a sign
+-- low_pc, and high_pc as an address, as the index of an address, as a length, and as a signed
+-- length.
 an_address : pairs_5 (die (Some (value.Addr 0x1000)) (Some (value.Addr 0x1010)) None) ≡ Ok (pair 0x1000 0x1010 ∷ [])
 unfolding range_lists_computes pairs_5 unit root die sections
 an_address = refl
@@ -119,7 +122,7 @@ low_by_its_number : pairs_5 (die (Some (value.AddrIndex 0)) (Some (value.Num 0x1
 unfolding range_lists_computes pairs_5 unit root die sections
 low_by_its_number = refl
 
--- where one of the two is missing, the other is not looked up
+-- If one of the two is missing, the other is not looked up.
 low_alone : pairs_5 (die (Some (value.AddrIndex 9)) None None) ≡ Ok []
 unfolding range_lists_computes pairs_5 unit root die sections
 low_alone = refl
@@ -132,7 +135,7 @@ neither : pairs_5 (die None None None) ≡ Ok []
 unfolding range_lists_computes pairs_5 unit root die sections
 neither = refl
 
--- low_pc is looked up before high_pc
+-- low_pc is looked up before high_pc.
 low_outside : pairs_5 (die (Some (value.AddrIndex 3)) (Some (value.AddrIndex 1)) None) ≡ Err outside
 unfolding range_lists_computes pairs_5 unit root die sections
 low_outside = refl
@@ -149,7 +152,7 @@ low_without_a_base : pairs_of sections (unit 5 false) (record root { addr_base =
 unfolding range_lists_computes unit root die sections
 low_without_a_base = refl
 
--- a place at the end of the section is inside, and has no bytes
+-- A place at the end of the section is no fault of the entry, but there are no bytes at it.
 a_number_at_the_end : pairs_of sections (unit 5 false) (record root { addr_base = Some 23 }) 0x1000 (die (Some (value.AddrIndex 0)) (Some (value.Num 0x10)) None) ≡ Err (record { kind = is.Ends; section = section.Addr; at = 23 })
 unfolding range_lists_computes unit root die sections
 a_number_at_the_end = refl
@@ -158,12 +161,12 @@ a_number_behind_the_end : pairs_of sections (unit 5 false) (record root { addr_b
 unfolding range_lists_computes unit root die sections
 a_number_behind_the_end = refl
 
--- places are whole numbers: they do not come round
+-- Places are not computed modulo 2^64.
 a_number_far_behind_the_end : pairs_of sections (unit 5 false) (record root { addr_base = Some 0xfffffffffffffff8 }) 0x1000 (die (Some (value.AddrIndex 2)) (Some (value.Num 0x10)) None) ≡ Err outside
 unfolding range_lists_computes unit root die sections
 a_number_far_behind_the_end = refl
 
--- a list by its place; low_pc and high_pc do not count where there is a list, and are not looked up
+-- A list by its place. If there is a list, low_pc and high_pc are ignored.
 a_list : pairs_5 (die None None (Some (value.SecOffset 20))) ≡ Ok (pair 0x1010 0x1020 ∷ [])
 unfolding range_lists_computes pairs_5 unit root die sections
 a_list = refl
@@ -180,7 +183,7 @@ a_list_and_bounds : pairs_5 (die (Some (value.AddrIndex 9)) (Some (value.Num 0x1
 unfolding range_lists_computes pairs_5 unit root die sections
 a_list_and_bounds = refl
 
--- the end of the section is inside, and has no list
+-- A place at the end of the section is no fault of the entry, but there is no list at it.
 a_list_at_the_end : pairs_5 (die None None (Some (value.SecOffset 28))) ≡ Err (record { kind = is.Ends; section = section.Rnglists; at = 28 })
 unfolding range_lists_computes pairs_5 unit root die sections
 a_list_at_the_end = refl
@@ -197,7 +200,7 @@ a_list_of_version_4_behind_the_end : pairs_4 (die None None (Some (value.SecOffs
 unfolding range_lists_computes pairs_4 unit root die sections
 a_list_of_version_4_behind_the_end = refl
 
--- a list by its number
+-- A list by its index.
 a_first_list : pairs_5 (die None None (Some (value.ListIndex 0))) ≡ Ok (pair 0x1010 0x1020 ∷ [])
 unfolding range_lists_computes pairs_5 unit root die sections
 a_first_list = refl
@@ -206,7 +209,7 @@ a_second_list : pairs_5 (die None None (Some (value.ListIndex 1))) ≡ Ok (pair 
 unfolding range_lists_computes pairs_5 unit root die sections
 a_second_list = refl
 
--- before version 5 lists have no numbers: low_pc and high_pc count
+-- Before version 5 a list cannot be given by index, so low_pc and high_pc count.
 a_number_of_version_4 : pairs_4 (die (Some (value.Addr 0x1000)) (Some (value.Num 0x10)) (Some (value.ListIndex 0))) ≡ Ok (pair 0x1000 0x1010 ∷ [])
 unfolding range_lists_computes pairs_4 unit root die sections
 a_number_of_version_4 = refl
@@ -223,12 +226,12 @@ a_number_of_a_list_outside : pairs_5 (die None None (Some (value.ListIndex 5))) 
 unfolding range_lists_computes pairs_5 unit root die sections
 a_number_of_a_list_outside = refl
 
--- the place that stands there leads after the end
+-- The offset at the index leads after the end of the section.
 a_list_by_its_number_outside : pairs_5 (die None None (Some (value.ListIndex 2))) ≡ Err outside
 unfolding range_lists_computes pairs_5 unit root die sections
 a_list_by_its_number_outside = refl
 
--- in the 64-bit format places have eight bytes
+-- In the 64-bit format offsets have eight bytes.
 a_list_of_a_wide_unit : pairs_of (record sections { rnglists = hex "000000000000000000000000 0800000000000000 04 10 20 00" }) (unit 5 true) root 0x1000 (die None None (Some (value.ListIndex 0))) ≡ Ok (pair 0x1010 0x1020 ∷ [])
 unfolding range_lists_computes unit root die sections
 a_list_of_a_wide_unit = refl
@@ -237,12 +240,12 @@ a_number_of_a_wide_unit_that_is_cut : pairs_of (record sections { rnglists = hex
 unfolding range_lists_computes unit root die sections
 a_number_of_a_wide_unit_that_is_cut = refl
 
--- addresses have eight bytes in every unit
+-- Addresses have eight bytes in every unit.
 an_address_of_a_wide_unit : pairs_of sections (unit 5 true) root 0x1000 (die (Some (value.AddrIndex 0)) (Some (value.Num 0x10)) None) ≡ Ok (pair 0x5000 0x5010 ∷ [])
 unfolding range_lists_computes unit root die sections
 an_address_of_a_wide_unit = refl
 
--- entries that do not count give no addresses and no fault
+-- Entries that do not count give no addresses and no fault.
 a_declaration : pairs_5 (record (die (Some (value.AddrIndex 9)) (Some (value.Num 0x10)) (Some (value.SecOffset 29))) { declaration = true }) ≡ Ok []
 unfolding range_lists_computes pairs_5 unit root die sections
 a_declaration = refl
@@ -255,12 +258,12 @@ a_unit : pairs_5 (record (die None None (Some (value.SecOffset 29))) { tag = 0x1
 unfolding range_lists_computes pairs_5 unit root die sections
 a_unit = refl
 
--- a declaration among inlined subroutines counts
+-- An inlined subroutine counts, also with DW_AT_declaration.
 an_inlined_subroutine : pairs_5 (record (die None None (Some (value.SecOffset 20))) { tag = 0x1d; declaration = true }) ≡ Ok (pair 0x1010 0x1020 ∷ [])
 unfolding range_lists_computes pairs_5 unit root die sections
 an_inlined_subroutine = refl
 
--- the base of a unit
+-- The base of a unit.
 base_that_is_given : unit_base sections root ≡ Ok 0x1000
 unfolding range_lists_computes root sections
 base_that_is_given = refl
@@ -285,11 +288,12 @@ base_without_a_base : unit_base sections (record root { low = Some (value.AddrIn
 unfolding range_lists_computes root sections
 base_without_a_base = refl
 
--- which of some addresses pairs give, where code reaches from 0x1000 to 0x2000 and from there to 0x3000
+-- Which addresses the pairs give, if the code has the ranges from 0x1000 to 0x2000 and from 0x2000
+-- to 0x3000.
 unfoldable given : List Range → List ℕ → List (Result Bool (Located DwarfKind))
 given pairs addresses = map (in_ranges (pair 0x1000 0x2000 ∷ pair 0x2000 0x3000 ∷ []) (Ok pairs)) addresses
 
--- from the start on, and below the end
+-- A pair gives the addresses from its start on and below its end.
 one_pair : given (pair 0x1010 0x1020 ∷ []) (0x100f ∷ 0x1010 ∷ 0x101f ∷ 0x1020 ∷ []) ≡ Ok false ∷ Ok true ∷ Ok true ∷ Ok false ∷ []
 unfolding range_lists_computes given
 one_pair = refl
@@ -302,12 +306,12 @@ a_pair_that_wraps : given (pair 0xffffffffffffffff 0x1f ∷ pair 0xf 0x1f ∷ []
 unfolding range_lists_computes given
 a_pair_that_wraps = refl
 
--- a pair that reaches out of a range of code, or across two, gives nothing, and the others stay
+-- A pair that leaves a range of code, or reaches across two, gives nothing; the other pairs count.
 pairs_outside_code : given (pair 0xfff 0x1010 ∷ pair 0x1ff0 0x2010 ∷ pair 0x2ff0 0x3001 ∷ pair 0x1000 0x2000 ∷ []) (0xfff ∷ 0x1000 ∷ 0x1fff ∷ 0x2000 ∷ 0x2ff0 ∷ []) ≡ Ok false ∷ Ok true ∷ Ok true ∷ Ok false ∷ Ok false ∷ []
 unfolding range_lists_computes given
 pairs_outside_code = refl
 
--- pairs that touch, overlap, or stand in falling order
+-- Pairs that touch, that overlap, or that are in descending order.
 pairs_that_touch : given (pair 0x1000 0x1010 ∷ pair 0x1010 0x1020 ∷ []) (0xfff ∷ 0x1000 ∷ 0x100f ∷ 0x1010 ∷ 0x101f ∷ 0x1020 ∷ []) ≡ Ok false ∷ Ok true ∷ Ok true ∷ Ok true ∷ Ok true ∷ Ok false ∷ []
 unfolding range_lists_computes given
 pairs_that_touch = refl
@@ -320,7 +324,7 @@ pairs_in_falling_order : given (pair 0x2000 0x2010 ∷ pair 0x1000 0x1010 ∷ []
 unfolding range_lists_computes given
 pairs_in_falling_order = refl
 
--- where lists stand: by their place, by their number, and nowhere
+-- The place of a list: given by place, given by index, and missing.
 stands_at_its_place : place_of_list sections (unit 5 false) root (die None None (Some (value.SecOffset 20))) ≡ Some 20
 unfolding range_lists_computes unit root die sections
 stands_at_its_place = refl

@@ -94,7 +94,7 @@ pairs_of sections unit root base die =
     then (list_of sections unit root die.at die.ranges >>= λ list. pairs_by (addresses_for sections root die.at) unit.version base die list)
     else Ok []
 
--- a pair is code if it is not empty and one range of the code encloses it
+-- a pair of addresses is code if it is not empty and one range of the code encloses it
 abbrev pub is_code : List Range → Range → Bool
 is_code code pair = nat_lt pair.start pair.end && encloses code pair.start pair.end
 
@@ -103,11 +103,13 @@ abbrev pub in_pairs : List Range → List Range → ℕ → Bool
 in_pairs code [] a = false
 in_pairs code (pair ∷ pairs) a = (is_code code pair && holds pair a) || in_pairs code pairs a
 
--- whether an address is in one of the pairs that are code; if the pairs could not be read, their fault
+-- whether an address is in one of the pairs that are code; if the pairs could not be read, the
+-- fault of that
 abbrev pub in_ranges : List Range → Result (List Range) (Located DwarfKind) → ℕ → Result Bool (Located DwarfKind)
 in_ranges code given a = given >>= λ pairs. Ok (in_pairs code pairs a)
 
--- a result is the set of all addresses in the given pairs that are code, or the fault of these pairs; out of memory promises nothing
+-- a result is the set of all addresses in the given pairs that are code, or the fault with which
+-- the pairs could not be read; if memory ran out, nothing is promised
 abbrev pub IsRanges : List Range → Result (List Range) (Stop (Located DwarfKind)) → Result (List Range) (Located DwarfKind) → Type 0
 IsRanges code (Ok set) given = (a : ℕ) → in_ranges code given a ≡ Ok (holds_any set a)
 IsRanges code (Err (Fault fault)) given = given ≡ Err fault
@@ -129,12 +131,13 @@ abbrev pub HasNoList : Option DieFields → Type 0
 HasNoList None = Prim.Unit {0}
 HasNoList (Some die) = die.ranges ≡ None
 
--- a place that was found without a fault
+-- the place, if it was found without a fault
 abbrev pub told_place : Result (Option ℕ) (Located DwarfKind) → Option ℕ
 told_place (Ok place) = place
 told_place (Err fault) = None
 
--- the place of an entry's list in its section. There is no place if the entry does not count, has no list, or if finding the place gives a fault
+-- the place of an entry's list in its section; none if the entry does not count, has no list, or if
+-- finding the place gives a fault
 unfoldable pub place_of_list : DebugSections → Unit → RootFields → DieFields → Option ℕ
 place_of_list sections unit root die =
     if counts die then told_place (list_place sections unit root die.at die.ranges) else None

@@ -10,8 +10,9 @@ use Rattle.range_lists.specs.declared.item.RangeItem.TheVariants as item
 use Rattle.range_lists.specs.declared.item.ItemFault.{ItemFault}
 use Rattle.range_lists.specs.declared.item.ItemFault.TheVariants as fault
 
--- the item that a pair of `.debug_ranges` is. The pair 0 and 0 ends the list. If the first number has all bits set, the second is the new base. Any
--- other pair has two offsets from the base
+-- the item that a pair of numbers in `.debug_ranges` stands for. The pair 0 and 0 ends the list. If
+-- the first number has all bits set, the second is the new base. Any other pair has two offsets
+-- from the base
 abbrev pub item_of_pair : ℕ → ℕ → Option RangeItem
 item_of_pair first second =
     if first == 0 && second == 0 then None else
@@ -24,12 +25,12 @@ pair_at c =
     fixed_at 8 first.1 >>= λ second.
     Ok (item_of_pair first.0 second.0, second.1)
 
--- a reading whose fault is made a fault of an item
+-- a reading whose fault becomes the fault of an item
 abbrev pub as_item : {A : Type 0} → Result A CursorFault → Result A ItemFault
 as_item (Ok x) = Ok x
 as_item (Err f) = Err (fault.Cursor f)
 
--- an item with one operand, and an item with two
+-- an item with one operand, and an item with two operands
 abbrev pub item_with : (ℕ → RangeItem) → Result (ℕ × Ahead) CursorFault → Result (Option RangeItem × Ahead) ItemFault
 item_with make operand = as_item operand >>= λ x. Ok (Some (make x.0), x.1)
 

@@ -24,8 +24,8 @@ use Rattle.range_lists.specs.ListItems.{item_at}
 abbrev pub moved : ℕ → ℕ → ℕ
 moved address offset = (address + offset) % 2 ^ 64
 
--- what an item does: it sets the base, or gives a pair of addresses or a pair of offsets from the base. Addresses that it gives by index are looked
--- up in order, so the first fault counts
+-- what an item does: it sets the base, or gives a pair of addresses or a pair of offsets from the
+-- base. If it gives both addresses by index, the first is looked up before the second
 unfoldable pub effect_of : AddressTable → RangeItem → Result Effect (Located DwarfKind)
 effect_of table (item.BaseAddressx index) = address_at table index >>= λ address. Ok (effect.SetBase address)
 effect_of table (item.StartxEndx first last) =
@@ -54,7 +54,7 @@ abbrev pub effect_by : AddressTable → Option RangeItem → Ahead → Result (O
 effect_by table None c = Ok (None, c)
 effect_by table (Some found) c = effect_of table found >>= λ does. Ok (Some does, c)
 
--- what the next item does
+-- what the next item does; none if the list ends
 unfoldable pub effect_at : ℕ → AddressTable → Ahead → Result (Option Effect × Ahead) (Located DwarfKind)
 effect_at version table c = in_list (list_section version) (item_at version c) >>= λ found. effect_by table found.0 found.1
 

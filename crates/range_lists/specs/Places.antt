@@ -22,12 +22,13 @@ entry_fault kind at = record { kind = kind; section = section.Info; at = at }
 unfoldable pub ahead_in : List ℕ → ℕ → ℕ → Result Ahead (Located DwarfKind)
 ahead_in bytes at place = if nat_lt (length bytes) place then Err (entry_fault is.OffsetOutside at) else Ok (ahead_from place bytes)
 
--- the number of `width` bytes at such a place
+-- the number of `width` bytes at a place to which the entry at `at` refers
 unfoldable pub number_there : Sect → ℕ → List ℕ → ℕ → ℕ → Result ℕ (Located DwarfKind)
 number_there section width bytes at place =
     ahead_in bytes at place >>= λ c. read_in section (fixed_at width c) >>= λ number. Ok number.0
 
--- the address at an index: from addr_base on, each address has eight bytes (DWARF 5, 7.27). Without an addr_base it is a fault of the entry
+-- the address at an index: from addr_base on, each address has eight bytes (DWARF 5, 7.27). If
+-- there is no addr_base, that is a fault of the entry
 abbrev pub address_by : AddressTable → Option ℕ → ℕ → Result ℕ (Located DwarfKind)
 address_by table None index = Err (entry_fault is.NoBase table.at)
 address_by table (Some base) index = number_there section.Addr 8 table.bytes table.at (base + 8 * index)

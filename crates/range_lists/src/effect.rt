@@ -9,8 +9,8 @@ use abbrev_units::{DwarfFault, DwarfKind, in_section};
 use leb_cursor::Cursor;
 use sym_edges::{Located, Sect};
 
-/// What an item does: it sets the base, or gives a pair of addresses or a pair of offsets from the base. The addresses that the item gives by index
-/// are looked up already.
+/// What an item does: it sets the base, or gives a pair of addresses or a pair of offsets from the
+/// base. Addresses that the item gives by index have been looked up.
 #[derive(Clone, Copy, PartialEq, Eq, Debug)]
 pub enum Effect {
     SetBase { address: u64 },
@@ -18,7 +18,7 @@ pub enum Effect {
     Relative { start: u64, end: u64 },
 }
 
-/// The effect of an item.
+/// What an item does; addresses by index are looked up.
 #[tactic(auto, unfolding(crate::specs::ListPairs::effect_of))]
 fn effect_of(addresses: &Addresses<'_>, item: RangeItem) -> Result<Effect, DwarfFault>
     ensures { result ≡ effect_of addresses.now item }

@@ -27,9 +27,11 @@ fn addresses_for<'a>(sections: &Sections<'a>, root: &Root<'_>, at: usize) -> Add
     }
 }
 
-/// The base of a unit, from which the offsets in its range lists count (DWARF 5, 3.1.1): the low address of its root, or 0. Allocates no memory. If
-/// the address is given by index, there are these faults: in `.debug_info` at the root `NoBase` if the unit has no addr_base, and `OffsetOutside` if
-/// the index leads after the end of `.debug_addr`; in `.debug_addr` `Ends` if not all bytes of the address are there.
+/// The base of a unit, from which the offsets in its range lists count (DWARF 5, 3.1.1): the low
+/// address of its root, or 0. Allocates no memory. If the address is given by index, there are
+/// three faults. `NoBase` is in `.debug_info` at the root, if the unit has no addr_base.
+/// `OffsetOutside` is there too, if the index leads after the end of `.debug_addr`. `Ends` is in
+/// `.debug_addr`, if not all bytes of the address are there.
 #[tactic(auto, unfolding(crate::specs::EntryRanges::unit_base))]
 pub fn unit_base(
     sections: &Sections<'_>,
@@ -157,7 +159,7 @@ fn ranges_of_bounds(
     }
 }
 
-/// Whether an entry counts.
+/// Whether the addresses of an entry count: it is a function or an inlined copy.
 #[inline]
 #[tactic(auto, unfolding(die_walk::specs::EntryKinds::counts))]
 fn counts(die: &Die<'_, '_>) -> bool
@@ -192,11 +194,15 @@ fn ranges_of_die(
     }
 }
 
-/// The addresses of the entry at an index of the table (DWARF 5, 2.17); an index after the last entry has none. `base` is the unit's base, as
-/// [`unit_base`] gives it. Faults of the entry are in `.debug_info`, at the entry: `NoBase` if an address or a list is given by index and the unit
-/// has no base for it, `OffsetOutside` if the place of a list or of an index is after the end of its section. Faults of a list are in the section of
-/// the list: `Ends` and `LebLong` at the field, `RangeKind` at the byte of the kind. If a number at an index is cut off, `Ends` is at the place of
-/// the number, in `.debug_addr` or `.debug_rnglists`. For an entry without a list no memory is allocated.
+/// The addresses of the entry at an index of the table (DWARF 5, 2.17); an index after the last
+/// entry has none. `base` is the unit's base, as [`unit_base`] gives it.
+///
+/// Faults of the entry are in `.debug_info`, at the entry: `NoBase` if an address or a list is
+/// given by index and the unit has no base for it, `OffsetOutside` if the place of a list or of an
+/// index is after the end of its section. Faults of a list are in the section of the list: `Ends`
+/// and `LebLong` at the field, `RangeKind` at the byte of the kind. If a number at an index is cut
+/// off, `Ends` is at the place of the number, in `.debug_addr` or `.debug_rnglists`. For an entry
+/// without a list no memory is allocated.
 pub fn ranges_of(
     alloc: Global,
     sections: &Sections<'_>,
@@ -235,7 +241,9 @@ fn place_of_list(
     }
 }
 
-/// Whether the entry at an index of the table counts; an index after the last entry does not count. An entry that does not count gives no addresses.
+/// Whether the entry at an index of the table counts, which means that it is a function or an
+/// inlined copy. An index after the last entry does not count. An entry that does not count gives
+/// no addresses.
 #[inline]
 pub fn counts_at(table: &DieTable<'_>, entry: u32) -> bool
     ensures { result ≡ false → (sections : DebugSections) (unit : UnitHead) (base : ℕ) → pairs_at sections unit table.now.root base (slice_get table.now.dies entry) ≡ Ok [] }
@@ -246,8 +254,9 @@ pub fn counts_at(table: &DieTable<'_>, entry: u32) -> bool
     }
 }
 
-/// The place of an entry's list in its section, given the index of the entry in the table. It is `None` if the entry does not count, has no list, or
-/// if finding the place gives a fault; and after the last entry. Entries of one unit with lists at the same place have the same set:
+/// The place of an entry's list in its section, given the index of the entry in the table. It is
+/// `None` if there is no such entry, if the entry does not count or has no list, or if finding the
+/// place gives a fault. Entries of one unit with lists at the same place have the same set:
 /// [`lists_at_one_place`](crate::laws::lists_at_one_place).
 #[inline(always)]
 pub fn listed_at(

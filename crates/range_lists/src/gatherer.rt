@@ -29,7 +29,7 @@ impl Model for Gathering {
     ghost view = { λ g. g.done.items ++ option_to_list g.last };
 }
 
-/// One range for two ranges, if they touch or overlap.
+/// One range with the addresses of two ranges, if they touch or overlap.
 #[inline]
 fn joined(last: Span, span: Span) -> Option<Span>
     ensures { IfSome result (λ both. (a : ℕ) → holds both a ≡ (holds last a || holds span a)) }

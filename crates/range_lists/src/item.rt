@@ -53,7 +53,7 @@ const DW_RLE_start_end: u8 = 6;
 
 const DW_RLE_start_length: u8 = 7;
 
-/// The item of `.debug_ranges` that a pair is.
+/// The item that a pair of numbers in `.debug_ranges` stands for.
 #[inline]
 fn item_of_pair(first: u64, second: u64) -> Option<RangeItem>
     ensures { result ≡ item_of_pair first second }

@@ -15,7 +15,8 @@
 //! A list is read once, item by item, and only its ranges are kept. No memory is allocated for an entry without a list, or for a list in which each
 //! range touches or overlaps the one before.
 //!
-//! To read: `entry` first, then `list` and `gatherer`, then `effect`, `item` and `places`.
+//! The modules are best read in this order: `entry`, `list`, `gatherer`, `effect`, `item`,
+//! `places`.
 #![tactic(auto)]
 
 mod effect;

@@ -41,7 +41,7 @@ pub fn numbered_place(base: u64, wide: bool, index: u64) -> u128
     u128::from(base) + width * u128::from(index)
 }
 
-/// Reads the number at such a place, to which the entry at `at` refers.
+/// Reads the number at a place to which the entry at `at` refers.
 #[inline]
 #[tactic(auto, unfolding(crate::specs::Places::number_there))]
 pub fn number_there(

@@ -1,4 +1,4 @@
--- What a proof unfolds to compute the definitions of this crate where the input is written out.
+-- The definitions of this crate that a proof unfolds to compute a result from given bytes.
 use Rattle.std.specs.Prelude.{⊤}
 use Rattle.idna.specs.Punycode.{digit_value, scale, adapt, read_integer, insert_all, decode}
 use Rattle.std.specs.Char.{encode_utf8}

@@ -1,4 +1,4 @@
--- Constants by a value (read_known_leaf).
+-- Constants that are given by a value, for `read_known_leaf`.
 use Rattle.std.proofs.Common.{◌≡◌, ℕ, true, List, Option, Some, None, ap}
 use Rattle.std.specs.Option.{option_map, option_and_then}
 use Rattle.rust_names.specs.declared.grammar.Leaf.{Leaf}
@@ -12,7 +12,7 @@ use Rattle.rust_names.specs.internal.Passing.{is_constant}
 abbrev shown_of : Scope → List ℕ → Option (Option (List ℕ) × List ℕ) → Option (List ℕ × List ℕ)
 shown_of scope text o = option_and_then (λ x. option_map (λ t. (x.1, t)) (shown_on scope.visible text x.0)) o
 
--- one without digits
+-- A constant without digits cannot be read.
 pub no_constant : (a : Leaf) (scope : Scope) (bytes text : List ℕ) → is_constant a ≡ true → hex_digits bytes ≡ None → read_leaf a scope bytes text ≡ None
 unfolding read_leaf leaf_of
 no_constant leaf.Number scope bytes text is none = ap (λ o. shown_of scope text (option_map (λ (x : List ℕ × List ℕ). (Some (integer_text x.0), x.1)) o)) none

@@ -1,4 +1,4 @@
--- The length in front of a part (count_digits, number_upto, cut_of).
+-- The length at the start of a part, for `count_digits`, `number_upto` and `cut_of`.
 use Rattle.std.proofs.Common.{◌≡◌, ◌≢◌, ℕ, ◌+◌, ◌-◌, ◌*◌, ◌<◌, ◌≤◌, ◌==◌, ◌&&◌, cond, zero, suc, true, false, not, List, [], ◌∷◌, length, take, drop, get_or, Option, Some, None, nat_lt, nat_le, refl, sym, ◌∙◌, ap, arith}
 use Rattle.std.specs.List.{list_all}
 use Rattle.std.specs.Char.{digit_value}
@@ -34,7 +34,7 @@ digits_more bytes i count within digit is = omega (arith, is, at_drop_more (λ x
 pub digits_end : (bytes : List ℕ) (i count : ℕ) → length bytes ≤ i → i ≤ length bytes → count ≡ i + length (digits_in_front (drop i bytes)) → length bytes ≡ count
 digits_end bytes i count past within is = omega (arith, is, ap (λ xs. length (digits_in_front xs)) (at_drop_all (λ xs. xs) bytes i past), at_end)
 
--- the number that digits write
+-- The number that digits write.
 
 number_if : ℕ → List ℕ → Option ℕ
 number_if most digits = cond (nat_le (digits_value 10 digits) most) (Some (digits_value 10 digits)) None
@@ -97,9 +97,9 @@ number_is most n i digits past is all some first within =
     let value : n ≡ digits_value 10 digits = is ∙ ap (digits_value 10) whole in
     ap Some value ∙ sym (number_by most digits (first_some digits (ap (list_all is_digit) (sym whole) ∙ all) some first) (omega (arith, value)))
 
--- the part in front
+-- The part at the start of the bytes.
 
--- the digits in front are a front
+-- The digits at the start of the bytes are a prefix.
 pub front_digits : (bytes : List ℕ) → take (length (digits_in_front bytes)) bytes ≡ digits_in_front bytes
 unfolding digits_in_front
 front_digits [] = refl
@@ -120,7 +120,7 @@ cut_some bytes n size is some = sym (cut_at bytes n is ∙ ap (cut_by (drop n by
 pub some_is : {A : Type 0} {x y : A} → ◌≡◌ {A = Option A} (Some x) (Some y) → x ≡ y
 some_is is = cc
 
--- what is known of the number
+-- What is known of a number that was read.
 pub number_known : (most n : ℕ) (digits : List ℕ) → number_upto most digits ≡ Some n → (is_number digits ≡ true) × (digits_value 10 digits ≡ n) × (n ≤ most)
 unfolding number_upto
 number_known most n digits is =

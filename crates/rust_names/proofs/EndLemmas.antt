@@ -1,4 +1,4 @@
--- What stands after a symbol is what the bytes in front of it end with.
+-- The bytes that are left after a symbol is read are a suffix of the bytes before it.
 use Rattle.std.proofs.Common.{◌≡◌, ℕ, zero, suc, ◌+◌, ◌-◌, ◌≤◌, ◌==◌, cond, nat_le, Bool, true, false, List, [], ◌∷◌, ◌++◌, length, take, drop, not, ◌&&◌, nat_lt, Option, Some, None, IfSome, refl, sym, ◌∙◌, ap, arith, subst, ⊎_elim}
 use Rattle.std.specs.Borrow.{Bor}
 use Rattle.std.specs.Option.{option_map, option_and_then}
@@ -59,7 +59,7 @@ behind_own : {A B : Type 0} (a b : List ℕ) (o : Option (A × B × List ℕ)) �
 behind_own a b None is follows = tt
 behind_own a b (Some x) is follows = beyond a b x.2 is follows
 
--- by a test
+-- The result of a test.
 record Chain {A : Type 0} (bytes : List ℕ) (o : Option (A × List ℕ)) : Type 0 where
   ends : Follow bytes o
 
@@ -81,7 +81,7 @@ chained : {A B : Type 0} (f : A × List ℕ → Option (B × List ℕ)) → ((x 
 chained f each bytes None follows = tt
 chained f each bytes (Some x) follows = behind bytes x.1 (f x) follows (each x)
 
--- numbers
+-- Numbers.
 
 front_ends : (bytes : List ℕ) → Follow bytes (front bytes)
 unfolding front
@@ -152,7 +152,7 @@ unfolding hex_digits
 hex_ends [] = tt
 hex_ends (b ∷ bytes) = hex_ends_by b bytes (b == 95) (hex_ends bytes)
 
--- identifiers
+-- Identifiers.
 
 separator_by : (bytes : List ℕ) (o : Option (List ℕ)) → Ends bytes o → IsEnd bytes (or_all bytes o)
 separator_by bytes None is = here bytes
@@ -191,7 +191,7 @@ identifier_ends : (bytes : List ℕ) → Follows bytes (identifier bytes)
 unfolding identifier
 identifier_ends bytes = identifier_or bytes (eat 117 bytes) (eat_ends 117 bytes)
 
--- leaves
+-- Leaves.
 
 named_ends : (bytes : List ℕ) (o : Option (Bool × List ℕ × List ℕ)) → Follows bytes o → Follow bytes (option_and_then named_by o)
 named_ends bytes None is = tt
@@ -225,7 +225,7 @@ leaf_ends bound bytes leaf.End =
     let found : Chain bytes (leaf_of leaf.End bound bytes) = search (either, stay, stop) in
     found.ends
 
--- what is left in front of a text
+-- The bytes that are left, if a text is found.
 abbrev Leads : List ℕ → Option (List ℕ × List ℕ) → Type 0
 Leads bytes None = Unit {0}
 Leads bytes (Some x) = IsEnd bytes x.0
@@ -267,7 +267,7 @@ named_by_ends scope bytes text (Some x) is = led bytes x.1 (name_read scope (eat
 named_read_ends : (scope : Scope) (bytes text : List ℕ) → Leads bytes (named_read scope bytes text)
 named_read_ends scope bytes text = named_by_ends scope bytes text (after_letter 115 bytes) (after_letter_ends 115 bytes)
 
--- levels
+-- Levels.
 
 space_ends : (outer : Kind) (x : ℕ × List ℕ) → Follow x.1 (nested_by outer x)
 space_ends outer x =
@@ -292,7 +292,7 @@ trait_ends : (b : ℕ) (bytes : List ℕ) → Chain bytes (trait_parts b bytes)
 unfolding trait_parts
 trait_ends b bytes = search (either, stay, closed_ends)
 
--- the same of bytes that begin with another byte
+-- The same for bytes that have another byte in front.
 after_byte : {A : Type 0} {bytes whole : List ℕ} {o : Option (A × List ℕ)} → IsEnd whole bytes → Chain bytes o → Chain whole o
 after_byte {A} {bytes} {whole} {o} is found = record { ends = behind whole bytes o is found.ends }
 
@@ -353,7 +353,7 @@ back_ends : (size : ℕ) (k : Kind) (visible : Bool) (bytes : List ℕ) → Foll
 unfolding back_parts
 back_ends size k visible bytes = chained (back_by size k visible bytes) (λ x. (back_by_ends size k visible bytes x).ends) bytes (base_62 bytes) (base_62_ends bytes)
 
--- symbols within a level
+-- Symbols within a level.
 
 abbrev type_or : List ℕ → List ℕ → Option Word → List Part × List ℕ
 type_or bytes after o = elim o [ None ↦ (Deep kind.Type ∷ [], bytes) | Some w ↦ (say w ∷ [], after) ]
@@ -447,7 +447,7 @@ phrase_ends opened bytes phrase.Returned = returned_by_ends bytes (eat 117 bytes
 phrase_ends opened bytes phrase.Fields = chained fields_by (λ x. (fields_by_ends x).ends) bytes (front bytes) (front_ends bytes)
 phrase_ends opened bytes phrase.Sign = part_after_ends 110 (sign 45) bytes
 
--- symbols with a scope of their own
+-- Symbols with a scope of their own.
 
 bound_ends : (n : ℕ) (parts : List Part) (bytes rest : List ℕ) (o : Option Scope) → IsEnd bytes rest → Follows bytes (option_map (with_lifetimes n parts rest) o)
 bound_ends n parts bytes rest None is = tt
@@ -468,7 +468,7 @@ inner_ends scope bytes inner.Instance = instance_ends (begins_path (front bytes)
 inner_ends scope bytes inner.Function = binder_by_ends function_parts scope bytes (after_letter 71 bytes) (after_letter_ends 71 bytes)
 inner_ends scope bytes inner.Object = binder_by_ends (list_of item.Bound ∷ []) scope bytes (after_letter 71 bytes) (after_letter_ends 71 bytes)
 
--- frames
+-- Frames.
 
 own_ends : (levels width : ℕ) (bytes : List ℕ) (o : Option (List Part × Scope × List ℕ)) → Follows bytes o → Follow bytes (option_map (in_own_scope levels width) o)
 own_ends levels width bytes None is = tt
@@ -512,7 +512,7 @@ expanded_by_end : (old new : List Frame) (bytes after : List ℕ) (o : Option (L
 expanded_by_end old new bytes after None follows is = absurd is
 expanded_by_end old new bytes after (Some x) follows is = subst (IsEnd bytes) is.2 follows
 
--- what is left of a name
+-- What is left of a name.
 
 left : (name bytes more : List ℕ) (o : Option (Bor (List ℕ))) → IsEnd name bytes → Leads bytes (option_map (λ (a : Bor (List ℕ)). (a.now, more)) o) → IfSome o (λ a. IsEnd name a.now)
 left name bytes more None ends leads = tt
@@ -538,7 +538,7 @@ back_end bytes after begins = subst (λ r. IsEnd r after) (sym begins) (next 66 
 pub expanded_end : (size : ℕ) (frame : Frame) (opened : Bool) (old new : List Frame) (name bytes after : List ℕ) → IsEnd name bytes → Expanded old new (expand size frame opened bytes) (Some after) → IsEnd name after
 expanded_end size frame opened old new name bytes after ends is = beyond name bytes after ends (expanded_by_end old new bytes after (expand size frame opened bytes) (expand_ends size frame opened bytes) is)
 
--- what is left stands at a place
+-- A suffix begins at a place of the name.
 
 pub shorter : (bytes rest : List ℕ) → IsEnd bytes rest → length rest ≤ length bytes
 shorter bytes rest is = omega (arith, length-drop is.place bytes, ap length is.is)

@@ -1,4 +1,4 @@
--- A checker finds the same in records with other names (names_alone_change).
+-- A checker finds the same in records with other names, for `names_alone_change`.
 use Rattle.std.proofs.Common.{◌≡◌, ℕ, ◌+◌, ◌||◌, not, Bool, false, List, [], ◌∷◌, ◌++◌, map, refl, ◌∙◌, ap}
 use Rattle.std.specs.List.{list_any, flat_map}
 use Rattle.std.specs.Option.{option_map, option_map_or}

@@ -1,4 +1,5 @@
--- Frames and what they are made of: the reading of a frame is that of its parts (step), and the parts weigh less (lighter).
+-- Frames and the parts they are made of. Reading a frame is reading its parts (`step`), and the
+-- parts together weigh less than the frame (`lighter`).
 use Rattle.std.proofs.Common.{◌≡◌, ◌≢◌, ℕ, zero, suc, ◌+◌, ◌-◌, ◌*◌, ◌<◌, ◌≤◌, Bool, true, List, [], ◌∷◌, ◌++◌, length, map, reverse, Option, Some, None, refl, sym, ◌∙◌, ap, arith, subst, append_assoc, length-append}
 use Rattle.std.specs.Option.{option_map, option_and_then}
 use Rattle.std.proofs.lemmas.List.{append-nil, map-append, length-reverse, reverse-append, reverse-reverse}
@@ -20,7 +21,7 @@ inside_length : (scope : Scope) (levels width : ℕ) (ps : List Part) → length
 inside_length scope levels width [] = refl
 inside_length scope levels width (p ∷ ps) = ap suc (inside_length scope levels width ps)
 
--- parts of a frame are read in turn
+-- The parts of a frame are read one after the other.
 
 run_onto : List ℕ → List Frame → Option State → Option State
 run_onto name frames o = option_and_then (run name frames) o
@@ -50,7 +51,7 @@ run_parts name scope levels width (p ∷ ps) fs s =
     ∙ ap (option_and_then (run name (map (inside scope levels width) ps ++ fs))) (run_in name scope levels width p s)
     ∙ then_parts name scope levels width ps fs (read_within (read_level name levels) name width scope p s) (λ t. run_parts name scope levels width ps fs t)
 
--- what frames give, where a frame is made of others
+-- What reading a frame gives, if it is made of other frames.
 
 abbrev pub after_frames : List ℕ → List Frame → State → Option (List Frame × List ℕ) → Option State
 after_frames name fs s None = None
@@ -82,7 +83,7 @@ pub step : (name : List ℕ) (f : Frame) (fs : List Frame) (s : State) → is_ma
 unfolding expand read_frame
 step name f fs s is = run_one name f fs s ∙ step_by name f.scope f.levels f.width f.part fs s is
 
--- parts that are put onto a stack
+-- Parts that are put onto a stack.
 
 pub onto_none : (stack : List Frame) (nest : Nest) → onto stack nest [] ≡ stack
 onto_none stack nest = append-nil stack
@@ -92,12 +93,12 @@ onto_both stack nest ps qs =
     let one = inside nest.scope nest.levels nest.width in
     ap (λ fs. stack ++ reverse fs) (map-append one ps qs) ∙ ap (λ fs. stack ++ fs) (reverse-append (map one ps) (map one qs)) ∙ sym (append_assoc stack (reverse (map one qs)) (reverse (map one ps)))
 
--- a part behind those that were found
+-- A part after those that were found.
 pub onto_last : (stack new : List Frame) (nest : Nest) (p : Part) (o : Option (List Part × List ℕ)) (found : Option (List Frame × List ℕ)) → new ≡ stack ++ inside nest.scope nest.levels nest.width p ∷ [] → pushed new nest o ≡ found → pushed stack nest (option_map (λ (x : List Part × List ℕ). (x.0 ++ p ∷ [], x.1)) o) ≡ found
 onto_last stack new nest p None found is pushes = pushes
 onto_last stack new nest p (Some x) found is pushes = ap (λ fs. Some (fs, x.1)) (onto_both stack nest x.0 (p ∷ []) ∙ ap (λ fs. onto fs nest x.0) (sym is)) ∙ pushes
 
--- a constant in braces
+-- A constant in braces.
 braces : (stack : List Frame) (nest : Nest) (ps : List Part) → onto stack nest (say word.OpenBrace ∷ ps ++ say word.CloseBrace ∷ []) ≡ onto (stack ++ inside nest.scope nest.levels nest.width (say word.CloseBrace) ∷ []) nest ps ++ inside nest.scope nest.levels nest.width (say word.OpenBrace) ∷ []
 braces stack nest ps =
     onto_both stack nest (say word.OpenBrace ∷ []) (ps ++ say word.CloseBrace ∷ []) ∙ ap (λ fs. fs ++ inside nest.scope nest.levels nest.width (say word.OpenBrace) ∷ []) (onto_both stack nest ps (say word.CloseBrace ∷ []))
@@ -141,7 +142,7 @@ own_none : (old new : List Frame) (nest : Nest) (o : Option (List Part × Scope 
 own_none old new nest None is = tt
 own_none old new nest (Some x) is = cc
 
--- how levels and symbols nest
+-- How many levels and symbols may still nest.
 
 level_at : (size : ℕ) (scope : Scope) (p : Part) (bytes : List ℕ) (levels : ℕ) → levels ≢ 0 → level_in size scope p bytes levels ≡ option_map (in_scope scope (levels - 1) (size + 8)) (level_by size scope p bytes)
 level_at size scope p bytes zero some = absurd (some refl)
@@ -188,7 +189,7 @@ pub inner_some : (p : Inner) (f : Frame) (bytes : List ℕ) (old new : List Fram
 inner_some p f bytes old new after some is few =
     subst (λ o. Expanded old new o (Some after)) (sym (inner_at p f.scope f.levels bytes f.width some)) (own_some old new (record { scope = f.scope; levels = f.levels; width = f.width - 1 }) (inner_parts p f.scope bytes) after is few)
 
--- what the parts of a frame weigh
+-- The weight of a frame's parts.
 
 some_weight : (c width : ℕ) → 1 ≤ within_weight c width
 unfolding within_weight
@@ -227,7 +228,7 @@ few_parts size levels width scope ps few =
     let all_of = most_parts size levels width scope most ps (λ p. most_part size levels width scope p) in
     omega (arith, all_of, mul-le-mul_left most few)
 
--- so they weigh less than it
+-- The parts weigh less than the frame.
 
 abbrev pub Lighter : ℕ → ℕ → Option (List Frame × List ℕ) → Type 0
 Lighter size most None = Unit {0}
@@ -259,7 +260,7 @@ lighter_by size levels width scope opened bytes (Read p) is few = cc
 lighter_by size levels width scope opened bytes (Goto q) is few = cc
 lighter_by size levels width scope opened bytes (Opened b) is few = cc
 
--- the weight of a stack
+-- The weight of a stack.
 
 reverse_weight : (f : Frame → ℕ) (xs : List Frame) → total f (reverse xs) ≡ total f xs
 reverse_weight f [] = refl
@@ -268,7 +269,7 @@ reverse_weight f (x ∷ xs) =
     let turned : total f (reverse (x ∷ xs)) ≡ total f (reverse xs ++ x ∷ []) = ap (total f) (reverse-append (x ∷ []) xs) in
     omega (arith, last, turned, total_one f x xs, total_both f (reverse xs) (x ∷ []), reverse_weight f xs)
 
--- the stack of a loop: the frames on top are those of the frame that was there
+-- If the frame on top is replaced by the frames it is made of, the stack gets lighter.
 pub lighter : (size : ℕ) (f : Frame) (below new : List Frame) (frames : List Frame) (opened : Bool) (bytes after : List ℕ) → is_made f.part ≡ true → expand size f opened bytes ≡ Some (frames, after) → length frames ≤ 10 → new ≡ below ++ reverse frames → weight size new < weight size (below ++ f ∷ [])
 unfolding expand weight frame_weight
 lighter size f below new frames opened bytes after made is few grows =
@@ -298,7 +299,7 @@ pub light : (size : ℕ) (f : Frame) (below : List Frame) → weight size below 
 unfolding frame_weight
 light size f below = popped size f below (some_part size f.levels f.width f.part)
 
--- a stack is read from its top
+-- A stack is read from its top.
 
 pub top : (f : Frame) (below old : List Frame) → old ≡ below ++ f ∷ [] → reverse old ≡ f ∷ reverse below
 top f below old is = ap reverse is ∙ reverse-append below (f ∷ [])

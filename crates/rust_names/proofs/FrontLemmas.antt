@@ -1,4 +1,4 @@
--- The piece that bytes begin with, and its bytes (sign_of, code_of, piece_of).
+-- The piece at the start of the bytes, and its bytes, for `sign_of`, `code_of` and `piece_of`.
 use Rattle.std.proofs.Common.{◌≡◌, ◌≢◌, ℕ, ◌+◌, ◌*◌, ◌/◌, ◌%◌, ◌<◌, ◌==◌, ◌&&◌, cond, Bool, true, false, not, List, [], ◌∷◌, ◌++◌, length, drop, get_or, codes, Option, Some, None, nat_lt, nat_le, nat_eq, refl, sym, ◌∙◌, ap, arith, subst, zero, suc, take}
 use Rattle.std.specs.List.{list_all, starts_with}
 use Rattle.std.proofs.lemmas.Bool.{leb-true}
@@ -11,11 +11,11 @@ use Rattle.rust_names.specs.Legacy.{low_hex, written, begins_with_dot, is_piece}
 use Rattle.rust_names.specs.V0Numbers.{hex_digit}
 use Rattle.rust_names.specs.internal.Reading.{sign_of, byte_of, code_of, or_code, plain_piece, front_piece, piece_of}
 
--- bytes that begin with some, and those after them
+-- Bytes with a given prefix are the prefix and the bytes after it.
 pub begins : (bytes front : List ℕ) → starts_with nat_eq bytes front ≡ true → bytes ≡ front ++ drop (length front) bytes
 begins bytes front is = (starts_is Decides-eqb bytes front (starts_with nat_eq bytes front) refl).0 is
 
--- the piece is at the front of bytes
+-- The piece is a prefix of the bytes.
 abbrev pub IsFront : List ℕ → Piece → Type 0
 IsFront bytes p = (bytes ≡ written p ++ drop (length (written p)) bytes) × (is_piece p (drop (length (written p)) bytes) ≡ true)
 
@@ -23,7 +23,7 @@ chosen_is : {A : Type 0} (Q : A → Type 0) (t : Bool) (q p : A) (x : Option A) 
 chosen_is Q true q p x here later is = let same : q ≡ p = cc in subst Q same (here refl)
 chosen_is Q false q p x here later is = later is
 
--- an escape that stands for a sign
+-- An escape that stands for a sign.
 sign_front : (bytes : List ℕ) (p : Piece) → sign_of bytes ≡ Some p → IsFront bytes p
 unfolding sign_of
 sign_front bytes p is =
@@ -37,7 +37,7 @@ sign_front bytes p is =
     chosen_is Q (starts_with nat_eq bytes (codes "$RP$")) Closing p _ (λ t. (begins bytes (codes "$RP$") t, refl)) (λ is.
     chosen_is Q (starts_with nat_eq bytes (codes "$C$")) Comma p None (λ t. (begins bytes (codes "$C$") t, refl)) (λ is. cc) is) is) is) is) is) is) is) is
 
--- digits
+-- Hexadecimal digits.
 
 hex_is : (b v : ℕ) → hex_digit b ≡ Some v → (low_hex v ≡ b) × (v < 16)
 hex_is b v is = grind (arith, nat_tests)
@@ -48,7 +48,7 @@ value_is v small = grind (arith, nat_tests)
 parts_of_byte : (high low : ℕ) → low < 16 → ((high * 16 + low) / 16 ≡ high) × ((high * 16 + low) % 16 ≡ low)
 parts_of_byte high low small = (omega arith, omega arith)
 
--- the code of a byte
+-- An escape that gives the code of a byte.
 byte_front : (bytes after : List ℕ) (h l : ℕ) (high low : Option ℕ) (p : Piece) → bytes ≡ 36 ∷ 117 ∷ h ∷ l ∷ 36 ∷ after → hex_digit h ≡ high → hex_digit l ≡ low → byte_of high low ≡ Some p → IsFront bytes p
 byte_front bytes after h l None low p is is_high is_low found = cc
 byte_front bytes after h l (Some high) None p is is_high is_low found = cc
@@ -92,7 +92,7 @@ dots_are b (c ∷ bytes) is =
     let second : c ≡ 46 = grind (arith, nat_tests) in
     cc
 
--- the piece that is found is the front of the bytes
+-- The piece that is found is a prefix of the bytes.
 pub piece_front : (bytes : List ℕ) (p : Piece) → piece_of bytes ≡ Some p → IsFront bytes p
 unfolding piece_of
 piece_front [] p is = cc
@@ -107,7 +107,7 @@ piece_front (b ∷ bytes) p is =
     found)
     is
 
--- for piece_of
+-- Lemmas for `piece_of`.
 pub piece_none : (bytes : List ℕ) → length bytes ≡ 0 → None ≡ piece_of bytes
 unfolding piece_of
 piece_none [] none = refl
@@ -124,7 +124,7 @@ code_here h l after =
     let long : nat_lt (length (36 ∷ 117 ∷ h ∷ l ∷ 36 ∷ after)) 5 ≡ false = grind (arith, nat_tests) in
     ap (λ t. cond t None (byte_of (hex_digit h) (hex_digit l))) long
 
--- a piece in front of bytes is the one that is found
+-- If bytes begin with a piece, this piece is found.
 pub found_piece : (p : Piece) (after : List ℕ) → is_piece p after ≡ true → piece_of (written p ++ after) ≡ Some p
 unfolding piece_of sign_of
 found_piece At after is = refl
@@ -151,14 +151,14 @@ found_piece (Plain b) after is =
     ∙ ap (λ t. cond t (Some Scope) (cond (nat_le 33 b && nat_le b 126) (Some (Plain b)) None)) (not_true first.1)
     ∙ ap (λ t. cond t (Some (Plain b)) None) second.0
 
--- what a test says of a list's length
+-- A test of a list's length.
 pub not_empty : {A : Type 0} {b : Bool} (xs : List A) → b ≡ (length xs == 0) → b ≡ false → length xs ≢ 0
 not_empty xs is none = grind (arith, nat_tests)
 
 pub is_empty : {A : Type 0} {b : Bool} (xs : List A) → b ≡ (length xs == 0) → b ≡ true → length xs ≡ 0
 is_empty xs is none = grind (arith, nat_tests)
 
--- a byte that is neither `$` nor the first of two dots
+-- A byte that is neither `$` nor the first of two dots.
 pub piece_plain : (bytes : List ℕ) → length bytes ≢ 0 → get_or bytes 0 0 ≢ 36 → (get_or bytes 0 0 == 46 && begins_with_dot (drop 1 bytes)) ≡ false → plain_piece (get_or bytes 0 0) ≡ piece_of bytes
 piece_plain bytes some other none =
     let first : (get_or bytes 0 0 == 36) ≡ false = grind (arith, nat_tests) in
@@ -173,7 +173,7 @@ no_dots false b none = refl
 pub no_dot : (a : ℕ) (b : Bool) → a ≢ 46 → (a == 46 && b) ≡ false
 no_dot a b other = let none : (a == 46) ≡ false = grind (arith, nat_tests) in ap (λ t. t && b) none
 
--- one more of those that pass a test
+-- How many bytes at the start pass a test, with one byte more.
 plus : (i : ℕ) → suc i + 1 ≡ suc (i + 1)
 plus i = omega arith
 

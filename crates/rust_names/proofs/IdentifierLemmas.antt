@@ -1,4 +1,5 @@
--- The length in front of an identifier, and its bytes (short_length, any_length, are_identifier_bytes).
+-- The length at the start of an identifier, and its bytes, for `short_length`, `any_length` and
+-- `are_identifier_bytes`.
 use Rattle.std.proofs.Common.{◌≡◌, ℕ, ◌-◌, ◌≤◌, ◌==◌, suc, cond, true, false, List, [], ◌∷◌, length, take, drop, get_or, Option, Some, None, refl, sym, ◌∙◌, ap, arith, ◌+◌, ◌<◌, ◌&&◌, Bool, zero}
 use Rattle.std.specs.List.{list_all}
 use Rattle.std.specs.Option.{option_map}
@@ -24,7 +25,7 @@ pub length_found : (bytes digits after : List ℕ) (n : ℕ) (found : Option ℕ
 length_found bytes digits after n found none is front back number =
     ap (λ o. option_map (λ k. (k, after)) o) (number ∙ ap (number_upto (length bytes)) front) ∙ ap (λ xs. option_map (λ k. (k, xs)) (number_upto (length bytes) (take n bytes))) back ∙ sym (length_at bytes n none is)
 
--- one digit alone
+-- A length of one digit.
 
 no_zero : (a : ℕ) (bytes : List ℕ) → 49 ≤ a → None ≡ eat 48 (a ∷ bytes)
 unfolding eat front
@@ -46,7 +47,7 @@ one_digit_length (a ∷ b ∷ bytes) n some low high other is within =
     (sym (one_digit a (b ∷ bytes) digit ∙ ap suc (no_digits b bytes other))) refl refl
     (ap Some value ∙ sym (number_by (length (a ∷ b ∷ bytes)) (a ∷ []) (let e : is_number (a ∷ []) ≡ true = grind (arith, nat_tests) in e) (omega (arith, value, within))))
 
--- its bytes
+-- The bytes of an identifier.
 
 other_by : (p : ℕ → Bool) (bytes : List ℕ) (i : ℕ) → i < length bytes → p (get_or bytes i 0) ≡ false → list_all p bytes ≡ false
 other_by p [] i within other = absurd (omega arith)

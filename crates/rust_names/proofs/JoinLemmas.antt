@@ -1,4 +1,4 @@
--- Names of both manglings (shown, names_are_shown).
+-- Names of both manglings, for `shown` and `names_are_shown`.
 use Rattle.std.proofs.Common.{◌≡◌, ℕ, ◌≤◌, ◌&&◌, cond, Bool, true, false, inl, inr, List, codes, length, drop, Option, Some, None, nat_eq, nat_le, refl, sym, ◌∙◌, ap, MatchOption}
 use Rattle.std.specs.List.{starts_with}
 use Rattle.std.specs.Option.{option_and_then}
@@ -44,7 +44,7 @@ pub exact_text : (name : List ℕ) (text : Option (List ℕ)) → text ≡ shown
 exact_text name None none = shown_none name none
 exact_text name (Some text) is = shown_found name text is
 
--- the text is a name that a record may carry
+-- A text that is found may be a name in a record.
 fits_by : (b : Bool) (found text : List ℕ) → cond b (Some found) None ≡ Some text → (b ≡ true) × (found ≡ text)
 fits_by true found text is = (refl, some_is is)
 fits_by false found text is = cc

@@ -1,4 +1,4 @@
--- The values of constants (bytes_of).
+-- The values of constants, for `bytes_of`.
 use Rattle.std.proofs.Common.{◌≡◌, ℕ, ◌+◌, ◌*◌, nat_eq, cond, Bool, true, false, List, [], ◌∷◌, ◌++◌, IsUtf8, chars, Option, Some, None, refl, sym, ◌∙◌, ap, append_assoc}
 use Rattle.std.specs.Option.{option_map}
 use Rattle.std.specs.Str.{is_utf8}
@@ -41,7 +41,7 @@ no_high a b digits after is none = at_front a b digits after is ∙ ap (λ h. by
 pub no_low : (a b high : ℕ) (digits after : List ℕ) → Some (b, after) ≡ front digits → Some high ≡ hex_digit a → None ≡ hex_digit b → bytes_of (a ∷ digits) ≡ None
 no_low a b high digits after is first none = at_front a b digits after is ∙ ap (λ h. byte_by h (hex_digit b) (bytes_of after)) (sym first) ∙ ap (λ l. byte_by (Some high) l (bytes_of after)) (sym none)
 
--- the bytes so far, and those to come
+-- The bytes that were read, and those still to be read.
 
 abbrev pub onto : List ℕ → Option (List ℕ) → Option (List ℕ)
 onto front later = option_map (λ ys. front ++ ys) later
@@ -60,7 +60,7 @@ bytes_none digits rest more held a so_far is none = sym (so_far ∙ ap (onto hel
 pub bytes_end : (digits rest held : List ℕ) → bytes_of digits ≡ onto held (bytes_of rest) → None ≡ front rest → Some held ≡ bytes_of digits
 bytes_end digits rest held so_far ends = sym (so_far ∙ ap (onto held) (ap bytes_of (front_end rest ends) ∙ none_is) ∙ ap Some (append-nil held))
 
--- a suffix
+-- Suffixes of names.
 
 pub end_some : (bytes after : List ℕ) (b : ℕ) → Some (b, after) ≡ front bytes → nat_eq b 46 ≡ is_end bytes
 end_some bytes after b is = sym (ap is_end (front_is b after bytes is))
@@ -68,7 +68,7 @@ end_some bytes after b is = sym (ap is_end (front_is b after bytes is))
 pub end_none : (bytes : List ℕ) → None ≡ front bytes → true ≡ is_end bytes
 end_none bytes is = sym (ap is_end (front_end bytes is))
 
--- UTF-8
+-- Texts in UTF-8.
 
 not_utf8 : (bytes : List ℕ) (b : Bool) → is_utf8 bytes ≡ b → (IsUtf8 bytes → ⊥) → is_utf8 bytes ≡ false
 not_utf8 bytes true is isnt = absurd (isnt (IsUtf8-from_is_utf8 bytes is))

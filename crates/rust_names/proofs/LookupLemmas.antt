@@ -1,4 +1,4 @@
--- Look-ups over records with other names (names_alone_change).
+-- Look-ups over records with other names, for `names_alone_change`.
 use Rattle.std.proofs.Common.{◌≡◌, ℕ, nat_le, cond, Bool, true, false, List, [], ◌∷◌, ◌++◌, map, Option, Some, None, refl, ◌∙◌, ap}
 use Rattle.std.specs.List.{find}
 use Rattle.std.specs.Option.{option_map, option_map_or, option_and_then}
@@ -12,7 +12,8 @@ use Rattle.cfi_eval.specs.TextValue.{frame_of, text_frame}
 use Rattle.sym_meaning.specs.TextNames.{Found, is_func_at, text_func, func_name, text_owner, under, is_file, file_name, text_path, path_and_line, line_under, text_line, is_line_at, is_origin, origin_name, text_origin, call_of, level_count, inlines_from, inlines_under, text_chain}
 use Rattle.rust_names.specs.ShownRecords.{renamed, renamed_found, renamed_call}
 
--- what holds of each record with another name and itself: of a FUNC, of an INLINE_ORIGIN, of a PUBLIC, and of any other, which stays
+-- What holds for the record with another name in place of a FUNC, an INLINE_ORIGIN, a PUBLIC and
+-- any other record, holds for all records.
 pub each_record : (f : List ℕ → List ℕ) (s : SymLine) (P : SymLine → SymLine → Type 0)
     → ((many : Bool) (address size params : ℕ) (name : List ℕ) → P (Func many address size params (f name)) (Func many address size params name))
     → ((number : ℕ) (name : List ℕ) → P (Origin number (f name)) (Origin number name))
@@ -23,7 +24,7 @@ each_record f (Func many address size params name) P func origin public stays = 
 each_record f (Public many address params name) P func origin public stays = public many address params name
 each_record f s P func origin public stays = stays s
 
--- the FUNC at an address
+-- The FUNC at an address.
 
 func_at : (f : List ℕ → List ℕ) (x : ℕ) (s : SymLine) → is_func_at x (renamed f s) ≡ is_func_at x s
 func_at f x s = each_record f s (λ a b. is_func_at x a ≡ is_func_at x b) (λ _ _ _ _ _. refl) (λ _ _. refl) (λ _ _ _ _. refl) (λ _. refl)
@@ -39,9 +40,9 @@ same_func f (s ∷ lines) x =
     ∙ ap (λ r. cond (is_func_at x s) (Some (renamed_found f (record { func = s; behind = lines }))) r) (same_func f lines x)
     ∙ found_by f (is_func_at x s) (record { func = s; behind = lines }) (text_func lines x)
 
--- only a FUNC is found
+-- Only a FUNC is found.
 
--- the records under it
+-- The records under the FUNC.
 
 same_under : (f : List ℕ → List ℕ) (lines : List SymLine) → under (map (renamed f) lines) ≡ under lines
 same_under f [] = refl
@@ -49,7 +50,7 @@ same_under f (Inline level line file origin ranges ∷ lines) = ap (λ rest. Inl
 same_under f (Line address size line file ∷ lines) = ap (λ rest. Line address size line file ∷ rest) (same_under f lines)
 same_under f (s ∷ lines) = refl
 
--- the name of the FUNC: what is found is one
+-- The name of the FUNC.
 
 abbrev is_func : SymLine → Bool
 is_func (Func many address size params name) = true
@@ -76,7 +77,7 @@ pub same_owner : (f : List ℕ → List ℕ) (lines : List SymLine) (x : ℕ) �
 unfolding text_owner
 same_owner f lines x = ap (option_map (λ (a : Found). func_name a.func)) (same_func f lines x) ∙ owner_by f lines x
 
--- the path of a FILE, and the name of an INLINE_ORIGIN
+-- The path of a FILE, and the name of an INLINE_ORIGIN.
 
 pub file_at : (f : List ℕ → List ℕ) (n : ℕ) (s : SymLine) → is_file n (renamed f s) ≡ is_file n s
 file_at f n s = each_record f s (λ a b. is_file n a ≡ is_file n b) (λ _ _ _ _ _. refl) (λ _ _. refl) (λ _ _ _ _. refl) (λ _. refl)
@@ -106,7 +107,7 @@ same_origin f (s ∷ lines) n =
     ∙ elim_bool (is_origin n s) (λ t. is_origin n s ≡ t → option_map origin_name (cond t (Some (renamed f s)) (find (is_origin n) (map (renamed f) lines))) ≡ option_map f (option_map origin_name (cond t (Some s) (find (is_origin n) lines))))
     (λ is _. ap Some (origin_is f n s is)) (λ _ _. same_origin f lines n) refl
 
--- the line
+-- The line.
 
 says_line : (f : List ℕ → List ℕ) (lines : List SymLine) (s : SymLine) → path_and_line (map (renamed f) lines) s ≡ path_and_line lines s
 says_line f lines (Line address size line file) = ap (λ path. (path, line)) (same_path f lines file)
@@ -125,7 +126,7 @@ pub same_line : (f : List ℕ → List ℕ) (lines : List SymLine) (x : ℕ) →
 unfolding text_line
 same_line f lines x = ap (λ o. option_map (path_and_line (map (renamed f) lines)) (option_and_then (line_under x) o)) (same_func f lines x) ∙ line_by f lines x (text_func lines x)
 
--- the chain
+-- The chain.
 
 says_call : (f : List ℕ → List ℕ) (lines : List SymLine) (s : SymLine) → call_of (map (renamed f) lines) s ≡ renamed_call f (call_of lines s)
 says_call f lines (Inline level line file origin ranges) =
@@ -148,7 +149,7 @@ same_chain f lines x =
     ∙ ap (map (call_of (map (renamed f) lines))) (inlines_by f x (text_func lines x))
     ∙ calls_by f lines (option_map_or (inlines_under x) (text_func lines x) [])
 
--- frames
+-- Frame rules.
 
 same_changes : (f : List ℕ → List ℕ) (x : ℕ) (lines : List SymLine) → changes_until x (map (renamed f) lines) ≡ changes_until x lines
 unfolding changes_until

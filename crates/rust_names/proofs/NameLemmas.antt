@@ -1,4 +1,4 @@
--- What stands between `_ZN` and the hash, and what it shows (text_of).
+-- The bytes between `_ZN` and the hash, and what they show, for `text_of`.
 use Rattle.std.proofs.Common.{◌≡◌, ℕ, Bool, true, false, cond, List, [], ◌++◌, Option, Some, None, refl, sym, ◌∙◌, ap}
 use Rattle.std.specs.Option.{option_map, option_and_then}
 use Rattle.rust_names.specs.Legacy.{is_shown_text}
@@ -29,6 +29,6 @@ no_text name middle text is found unfit = sym (of_middle name middle is ∙ ap (
 pub some_text : (name middle text : List ℕ) → middle_of name ≡ Some middle → option_map (λ t. [] ++ t) (parts_text middle) ≡ Some text → is_shown_text text ≡ true → Some text ≡ legacy_of name
 some_text name middle text is found fits = sym (of_middle name middle is ∙ ap (option_and_then text_if) (kept_some (parts_text middle) text found) ∙ ap (λ t. cond t (Some text) None) fits)
 
--- what was added to a new text
+-- What was added to an empty text.
 pub filled : {front : List ℕ} (middle new : List ℕ) (all whole : Bool) → front ≡ [] → option_map (λ t. front ++ t) (parts_text middle) ≡ kept all new → all ≡ whole → option_map (λ t. [] ++ t) (parts_text middle) ≡ kept whole new
 filled middle new all whole empty is which = ap (λ (xs : List ℕ). option_map (λ t. xs ++ t) (parts_text middle)) (sym empty) ∙ is ∙ ap (λ b. kept b new) which

@@ -37,7 +37,7 @@ same a b is = grind (arith, nat_tests)
 other : (a b : ℕ) → a ≢ b → (a == b) ≡ false
 other a b isnt = grind (arith, nat_tests)
 
--- digits of base 62
+-- Digits of base 62.
 
 abbrev pub base_by : ℕ → ℕ → List ℕ → Bool → Option (ℕ × List ℕ)
 base_by value b bytes t = elim t [
@@ -68,7 +68,7 @@ base_over value = refl
 pub base_end : (bytes : List ℕ) (i value : ℕ) → length bytes ≤ i → base_62_from value (drop i bytes) ≡ None
 base_end bytes i value past = at_drop_all (base_62_from value) bytes i past ∙ base_over value
 
--- zeros in front
+-- Leading zeros.
 
 zero_first : (bytes : List ℕ) → base_62_from 0 (48 ∷ bytes) ≡ base_62_from 0 bytes
 unfolding base_62_from
@@ -83,7 +83,7 @@ pub zeros_front : (bytes block after : List ℕ) (n : ℕ) → block ≡ take n 
 zeros_front bytes block after n front back all =
     ap (base_62_from 0) back ∙ sym (zeros_before (take n bytes) (drop n bytes) (ap (list_all (λ b. b == 48)) (sym front) ∙ all)) ∙ ap (base_62_from 0) (take-append-drop n bytes)
 
--- hexadecimal digits
+-- Hexadecimal digits.
 
 abbrev pub after_digits : List ℕ → Option (List ℕ × List ℕ) → Option (List ℕ × List ℕ)
 after_digits digits found = option_map (λ x. (digits ++ x.0, x.1)) found
@@ -132,7 +132,7 @@ hex_over = refl
 pub hex_end : (bytes : List ℕ) (i : ℕ) → length bytes ≤ i → hex_digits bytes ≡ after_digits (take i bytes) (hex_digits (drop i bytes)) → None ≡ hex_digits bytes
 hex_end bytes i past so_far = sym (so_far ∙ ap (after_digits (take i bytes)) (at_drop_all hex_digits bytes i past ∙ hex_over))
 
--- their value
+-- The value of hexadecimal digits.
 
 value_is : (value b : ℕ) (digits : List ℕ) → hex_from value (b ∷ digits) ≡ option_and_then (λ more. hex_from more digits) (next_hex value (hex_digit b))
 unfolding hex_from

@@ -1,4 +1,4 @@
--- Bytes as parts, and what they show (add_later_parts, add_parts).
+-- Bytes as parts, and what they show, for `add_later_parts` and `add_parts`.
 use Rattle.std.proofs.Common.{◌≡◌, ◌≢◌, ℕ, ◌+◌, ◌-◌, ◌<◌, ◌≤◌, zero, suc, Bool, true, List, [], ◌∷◌, ◌++◌, length, take, drop, codes, Option, Some, None, refl, sym, ◌∙◌, ap, arith, length-take, length-drop, append-nil}
 use Rattle.std.specs.List.{flat_map}
 use Rattle.std.specs.Option.{option_map, option_and_then}
@@ -9,7 +9,7 @@ use Rattle.rust_names.specs.internal.Reading.{digits_in_front, number_upto, cut_
 use Rattle.rust_names.proofs.DigitLemmas.{front_digits, number_known, some_is}
 use Rattle.rust_names.proofs.PieceLemmas.{dropped}
 
--- where there is a part in front: its digits, their number, and what stands after them
+-- Bytes with a part at their start: the digits, their number, and the bytes after the part.
 pub record Cut (bytes part later : List ℕ) : Type 0 where
   pub size : ℕ
   pub number : number_upto (length (drop (length (digits_in_front bytes)) bytes)) (digits_in_front bytes) ≡ Some size
@@ -31,7 +31,7 @@ some_number : (digits : List ℕ) → is_number digits ≡ true → 0 < length d
 some_number [] is = cc
 some_number (d ∷ digits) is = omega arith
 
--- a part and what it takes
+-- A part, and its pieces.
 abbrev pub part_at : List ℕ → List ℕ → List Piece → Part
 part_at bytes part pieces = record { number = digits_in_front bytes; bytes = part; pieces = pieces }
 
@@ -61,7 +61,7 @@ skipped zero bytes within = refl
 skipped (suc k) [] within = absurd (omega arith)
 skipped (suc k) (b ∷ bytes) within = skipped k bytes (omega arith)
 
--- the first of the parts
+-- The first part and the later ones.
 pub parts_step : (bytes part later : List ℕ) → cut_of bytes ≡ Some (part, later) → parts_of bytes ≡ option_and_then (λ ps. option_map (λ rest. part_at bytes part ps ∷ rest) (parts_of later)) (pieces_of (undashed part))
 unfolding parts_of parts_from part_of
 parts_step [] part later is = no_part part later is
@@ -74,13 +74,13 @@ parts_step (b ∷ bytes) part later is =
     ap (λ o. option_and_then (λ (p : Part). option_map (λ ps. p ∷ ps) (parts_from (part_length p - 1) bytes)) (part_by (digits_in_front (b ∷ bytes)) o)) is
     ∙ step_by (b ∷ bytes) part (λ (p : Part). parts_from (part_length p - 1) bytes) (parts_of later) (pieces_of (undashed part)) (λ ps. next)
 
--- without a part in front there are none
+-- If no part is at the start, the bytes are no parts.
 pub parts_stop : (bytes : List ℕ) → length bytes ≢ 0 → cut_of bytes ≡ None → parts_of bytes ≡ None
 unfolding parts_of parts_from part_of
 parts_stop [] some none = absurd (some refl)
 parts_stop (b ∷ bytes) some none = ap (λ o. option_and_then (λ (p : Part). option_map (λ ps. p ∷ ps) (parts_from (part_length p - 1) bytes)) (part_by (digits_in_front (b ∷ bytes)) o)) none
 
--- what the parts show
+-- What the parts show.
 later_by : (bytes part : List ℕ) (r : Option (List Part)) (o : Option (List Piece)) →
     option_map (flat_map (λ (q : Part). codes "::" ++ flat_map shown q.pieces)) (option_and_then (λ ps. option_map (λ rest. part_at bytes part ps ∷ rest) r) o)
     ≡ option_and_then (λ t. option_map (λ u. (codes "::" ++ t) ++ u) (option_map (flat_map (λ (q : Part). codes "::" ++ flat_map shown q.pieces)) r)) (option_map (flat_map shown) o)
@@ -104,7 +104,7 @@ joined_step : (bytes part later : List ℕ) → cut_of bytes ≡ Some (part, lat
 unfolding later_text parts_text pieces_text
 joined_step bytes part later is = ap (option_and_then some_joined) (parts_step bytes part later is) ∙ joined_by bytes part (parts_of later) (pieces_of (undashed part))
 
--- for add_later_parts
+-- Lemmas for `add_later_parts`.
 
 pub later_end : (bytes text : List ℕ) (whole : Option (List ℕ)) → length bytes ≡ 0 → whole ≡ option_map (λ t. text ++ t) (later_text bytes) → whole ≡ Some text
 unfolding later_text parts_of parts_from
@@ -132,7 +132,7 @@ pub later_more : (bytes text part later new : List ℕ) (whole : Option (List �
 later_more bytes text part later new whole cut found is =
     is ∙ ap (option_map (λ t. text ++ t)) (later_step bytes part later cut) ∙ more_by text (codes "::") new (later_text later) (pieces_text (undashed part)) found
 
--- for add_parts
+-- Lemmas for `add_parts`.
 
 pub parts_none : (bytes text : List ℕ) → cut_of bytes ≡ None → option_map (λ t. text ++ t) (parts_text bytes) ≡ None
 unfolding parts_text parts_of parts_from
@@ -150,7 +150,7 @@ some_by text new (Some u) (Some t) is = ap Some (sym (append_assoc text t u) ∙
 pub parts_some : (bytes text part later new : List ℕ) → cut_of bytes ≡ Some (part, later) → option_map (λ t. text ++ t) (pieces_text (undashed part)) ≡ Some new → option_map (λ t. text ++ t) (parts_text bytes) ≡ option_map (λ t. new ++ t) (later_text later)
 parts_some bytes text part later new cut found = ap (option_map (λ t. text ++ t)) (joined_step bytes part later cut) ∙ some_by text new (later_text later) (pieces_text (undashed part)) found
 
--- what was added of a part's bytes
+-- What was added of the bytes of a part.
 pub added : {text front bytes plain : List ℕ} (new : List ℕ) (all whole : Bool) → front ≡ text → bytes ≡ plain → option_map (λ t. front ++ t) (pieces_text bytes) ≡ kept all new → all ≡ whole → option_map (λ t. text ++ t) (pieces_text plain) ≡ kept whole new
 added {front = front} {plain = plain} new all whole same plainly is which =
     ap (λ (xs : List ℕ). option_map (λ t. xs ++ t) (pieces_text plain)) (sym same) ∙ ap (λ u. option_map (λ t. front ++ t) (pieces_text u)) (sym plainly) ∙ is ∙ ap (λ b. kept b new) which

@@ -1,4 +1,5 @@
--- Parts that are not shown: reading them does the same whatever was shown before, and wherever at least as many levels may nest.
+-- Reading parts that are not shown does the same whatever was shown before, and if more levels may
+-- nest.
 use Rattle.std.proofs.Common.{◌≡◌, ◌≢◌, ℕ, zero, suc, ◌-◌, ◌≤◌, cond, Bool, true, false, List, [], ◌∷◌, ◌++◌, length, drop, reverse, Option, Some, None, refl, sym, ◌∙◌, ap, arith}
 use Rattle.std.specs.Option.{option_map, option_and_then}
 use Rattle.rust_names.specs.declared.grammar.Inner.{Inner}
@@ -25,11 +26,11 @@ use Rattle.rust_names.proofs.FrameLemmas.{run_one}
 some_one : {A : Type 0} {x y : A} → Some x ≡ Some y → x ≡ y
 some_one is = cc
 
--- the state with another text
+-- The state with another text.
 abbrev showing : List ℕ → State → State
 showing text s = record s { text = text }
 
--- a leaf
+-- A leaf.
 
 abbrev leaf_text : List ℕ → List ℕ → List ℕ × List ℕ
 leaf_text after text = (after, text)
@@ -60,7 +61,7 @@ leaf_after : (s t : State) (text : List ℕ) (o p : Option (List ℕ × List ℕ
 leaf_after s t text None p same is = cc
 leaf_after s t text (Some x) p same is = ap (option_map (after_leaf (showing text s))) (same x refl) ∙ ap (λ (u : State). Some (showing text u)) (some_one is)
 
--- parts in turn
+-- Parts that are read one after the other.
 
 abbrev pub SameDark : (Part → State → Option State) → (Part → State → Option State) → Type 0
 SameDark f g = (p : Part) (s t : State) (text : List ℕ) → f p s ≡ Some t → g p (showing text s) ≡ Some (showing text t)
@@ -80,7 +81,7 @@ parts_dark : (f g : Part → State → Option State) → SameDark f g → (s t :
 parts_dark f g same s t text None is = cc
 parts_dark f g same s t text (Some x) is = all_dark f g same (record s { rest = x.1 }) t text x.0 is
 
--- a symbol with a scope of its own has none in the dark
+-- A symbol with a scope of its own is read in a scope in which nothing is shown.
 
 pub record DarkParts (m n : ℕ) (x : List Part × Scope × List ℕ) (o : Option (List Part × Scope × List ℕ)) : Type 0 where
   pub own : x.1 ≡ dark m
@@ -116,7 +117,7 @@ own_dark f g m n same s t text (Some x) p parts is =
     ap (option_and_then (λ (y : List Part × Scope × List ℕ). all (g y.1) y.0 (record s { rest = y.2; text = text }))) found.same
     ∙ all_dark (f (dark m)) (g (dark n)) same (record s { rest = x.2 }) t text x.0 (ap (λ scope. all (f scope) x.0 (record s { rest = x.2 })) (sym found.own) ∙ is)
 
--- a symbol within a level
+-- A symbol within a level.
 
 pub within_dark : (name : List ℕ) (d e : Part → Scope → State → Option State) (m n : ℕ) → ((p : Part) (s t : State) (text : List ℕ) → d p (dark m) s ≡ Some t → e p (dark n) (showing text s) ≡ Some (showing text t))
     → (a b : ℕ) → a ≤ b → SameDark (read_within d name a (dark m)) (read_within e name b (dark n))
@@ -135,7 +136,7 @@ within_dark name d e m n down (suc a) (suc b) fits (Made p) s t text is =
 within_dark name d e m n down (suc a) (suc b) fits (Within p) s t text is =
     own_dark (read_within d name a) (read_within e name b) m n (within_dark name d e m n down a b (omega (arith, fits))) s t text (inner_parts p (dark m) s.rest) (inner_parts p (dark n) s.rest) (λ x parts. inner_dark m n s.rest x p parts) is
 
--- a level
+-- A level.
 
 level_parts_dark : (name : List ℕ) (m n : ℕ) (bytes : List ℕ) (p : Part) → level_parts name p (dark m) bytes ≡ level_parts name p (dark n) bytes
 level_parts_dark name m n bytes (Deep k) = refl
@@ -162,7 +163,7 @@ level_by name levels m n p s text (Some t) is none = absurd (let e : None ≡ So
 pub level_none : (name : List ℕ) (levels m n : ℕ) (p : Part) (s : State) (text : List ℕ) → read_level name levels p (dark m) s ≡ None → read_level name levels p (dark n) (showing text s) ≡ None
 level_none name levels m n p s text none = level_by name levels m n p s text (read_level name levels p (dark n) (showing text s)) refl none
 
--- a path that is not shown, as a frame of its own
+-- A path that is not shown, as the only frame of a stack.
 
 only_frame : (name : List ℕ) (o : Option State) → option_and_then (run name []) o ≡ o
 unfolding run
@@ -182,18 +183,18 @@ path_by : (name : List ℕ) (levels bound : ℕ) (rest text : List ℕ) (opened 
 path_by name levels bound rest text opened None is = level_none name levels 0 bound (Deep kind.Path) (at rest [] opened) text is
 path_by name levels bound rest text opened (Some t) is = level_dark name levels levels 0 bound (omega arith) (Deep kind.Path) (at rest [] opened) t text is
 
--- what a path does that was read once
+-- Reading a path that was read from a stack.
 pub path_read : (name : List ℕ) (levels bound : ℕ) (below frames : List Frame) (rest text shown : List ℕ) (opened : Bool) (o : Option State) → below ≡ [] → frames ≡ below ++ inside (dark 0) levels 0 (Deep kind.Path) ∷ [] → shown ≡ [] → run name (reverse frames) (at rest shown opened) ≡ o
     → read_level name levels (Deep kind.Path) (dark bound) (at rest text opened) ≡ option_map (showing text) o
 path_read name levels bound below frames rest text shown opened o none is empty reads =
     path_by name levels bound rest text opened o (sym (path_run name levels frames (at rest [] opened) (is ∙ ap (λ fs. fs ++ inside (dark 0) levels 0 (Deep kind.Path) ∷ []) none)) ∙ ap (λ ts. run name (reverse frames) (at rest ts opened)) (sym empty) ∙ reads)
 
--- what one does that was passed by steps
+-- Reading a path that was passed by steps.
 pub steps_read : (name : List ℕ) (levels : ℕ) (rest after : List ℕ) (opened : Bool) (end : Reached) → IsEnd name rest → Passes name (Deep kind.Path) (length name - length rest) opened end → end.levels ≤ levels → after ≡ drop end.place name → Reads name levels rest opened after end.opened
 steps_read name levels rest after opened end ends passes fits is = λ bound text.
     ap (λ r. read_level name levels (Deep kind.Path) (dark bound) (at r text opened)) (placed name rest ends) ∙ passes levels end.width bound text fits (omega arith) ∙ ap (λ r. Some (at r text end.opened)) (sym is)
 
--- the path of an impl
+-- The path of an impl.
 
 hidden_part : (p : Part) → is_hidden p ≡ true → p ≡ Within inner.ImplPath
 hidden_part (Within inner.ImplPath) is = refl

@@ -1,4 +1,5 @@
--- Paths that are read at once: what nested paths put onto the stack, and what a crate and the name of a nested path read.
+-- Paths that are read at once: what nested paths put onto the stack, and what is read of a crate
+-- and of the name of a nested path.
 use Rattle.std.proofs.Common.{◌≡◌, ◌≢◌, ℕ, zero, suc, ◌+◌, ◌-◌, ◌<◌, ◌≤◌, cond, nat_le, Bool, true, false, List, [], ◌∷◌, ◌++◌, length, reverse, Option, Some, None, refl, sym, ◌∙◌, ap, arith, subst, append_assoc, ◌⊎◌, ⊎_elim}
 use Rattle.std.specs.Borrow.{Bor}
 use Rattle.std.specs.Option.{option_map, option_and_then}
@@ -34,7 +35,7 @@ path_made (Read p) is = cc
 path_made (Goto q) is = cc
 path_made (Opened b) is = cc
 
--- nested paths
+-- Nested paths.
 
 pub begins : (b letter : ℕ) (after bytes : List ℕ) → Some (b, after) ≡ front bytes → b ≡ letter → bytes ≡ letter ∷ after
 begins b letter after bytes is same = front_is b after bytes is ∙ ap (λ x. x ∷ after) same
@@ -77,7 +78,7 @@ entered_lighter size f first below pushed space bytes after some is named begins
           (entered size f below pushed false space bytes after some is named begins pushes),
     )
 
--- a path as any type
+-- A type that is a path.
 
 any_in : (size : ℕ) (scope : Scope) (levels width : ℕ) (opened : Bool) (b : ℕ) (after : List ℕ) → basic_type b ≡ None → expand size (inside scope levels (suc width) (Made phrase.AnyType)) opened (b ∷ after) ≡ Some (inside scope levels width (Deep kind.Type) ∷ [], b ∷ after)
 unfolding expand phrase_parts any_type_parts front
@@ -130,7 +131,7 @@ type_lighter size f path below bytes is =
       made_lighter size type below (below ++ path ∷ []) false bytes bytes refl (type_expanded size f path below false bytes is),
     )
 
--- a frame that was made that of a path, or left as it is
+-- A frame that was made that of a path, or that was not changed.
 pub record Entered (name : List ℕ) (f path : Frame) (below : List Frame) (bytes : List ℕ) : Type 0 where
   pub same : SameRun name (below ++ f ∷ []) bytes (below ++ path ∷ []) bytes
   pub lighter : weight (length name) (below ++ path ∷ []) ≤ weight (length name) (below ++ f ∷ [])
@@ -149,7 +150,7 @@ type_so name f path below bytes is = record {
 pub type_entered : (name : List ℕ) (f path : Frame) (below : List Frame) (bytes : List ℕ) → is_made f.part ≡ true → (path ≡ f) ⊎ IsTypePath (length name) f path bytes → Entered name f path below bytes
 type_entered name f path below bytes made is = ⊎_elim (left_so name f path below bytes made) (type_so name f path below bytes) is
 
--- a path that is a backreference
+-- A path that is a backreference.
 
 back_at : (size : ℕ) (scope : Scope) (levels width : ℕ) (p : Part) (opened : Bool) (after : List ℕ) → is_path p ≡ true → expand size (inside scope (suc levels) width p) opened (66 ∷ after) ≡ Some (inside scope levels (size + 8) (back_of p) ∷ [], after)
 unfolding expand deep_parts deep_by path_parts front
@@ -176,7 +177,7 @@ back_made (Read p) is = cc
 back_made (Goto q) is = cc
 back_made (Opened b) is = cc
 
--- a frame that was made that of a backreference, or left as it is
+-- A frame that was made that of a backreference, or that was not changed.
 pub record Backed (name : List ℕ) (f back : Frame) (below : List Frame) (bytes after : List ℕ) : Type 0 where
   pub same : SameRun name (below ++ f ∷ []) bytes (below ++ back ∷ []) after
   pub lighter : weight (length name) (below ++ back ∷ []) ≤ weight (length name) (below ++ f ∷ [])
@@ -199,7 +200,7 @@ back_so name f back below bytes after is = record {
 pub backed : (name : List ℕ) (f back : Frame) (below : List Frame) (bytes after : List ℕ) → is_made f.part ≡ true → ((back ≡ f) × (after ≡ bytes)) ⊎ IsBackPath (length name) f back bytes after → Backed name f back below bytes after
 backed name f back below bytes after made is = ⊎_elim (not_back name f back below bytes after made) (back_so name f back below bytes after) is
 
--- leaves one after the other
+-- Leaves that are read one after the other.
 
 one_by : (down : Part → Scope → State → Option State) (name : List ℕ) (width : ℕ) (scope : Scope) (rest text : List ℕ) (opened : Bool) (o : Option (List ℕ × List ℕ)) → option_and_then (all (read_within down name width scope) []) (option_map (after_leaf (at rest text opened)) o) ≡ option_map (λ (x : List ℕ × List ℕ). at x.0 x.1 opened) o
 one_by down name width scope rest text opened None = refl
@@ -219,7 +220,7 @@ mapped_twice : (text : List ℕ) (opened : Bool) (o : Option (Bor (List ℕ))) �
 mapped_twice text opened None = refl
 mapped_twice text opened (Some a) = refl
 
--- a crate
+-- A crate.
 
 crate_at : (name : List ℕ) (scope : Scope) (levels width : ℕ) (p : Part) (after text : List ℕ) (opened : Bool) → is_path p ≡ true → read_frame name (inside scope (suc levels) width p) (at (67 ∷ after) text opened) ≡ option_map (λ (x : List ℕ × List ℕ). at x.0 x.1 opened) (crate_read scope after text)
 unfolding read_frame read_level deep_parts deep_by path_parts front
@@ -241,7 +242,7 @@ pub crate_turn : (name : List ℕ) (f : Frame) (below : List Frame) (rest after 
 crate_turn name f below rest after text more opened o some is ends begins reads =
     plain_turn name f below (at rest text opened) more opened o (crate_frame name f rest after text more opened o some is begins reads) (crate_end f.scope name rest after text more o ends begins reads)
 
--- the name of a nested path, in lower case
+-- The name of a nested path in a namespace in lower case.
 
 name_at : (down : Part → Scope → State → Option State) (name : List ℕ) (width : ℕ) (scope : Scope) (rest text : List ℕ) (opened : Bool) (o : Option (List ℕ)) → all (read_within down name width scope) (unless_empty (say word.Scope) o ++ Read leaf.Identifier ∷ []) (at rest text opened) ≡ option_map (λ (x : List ℕ × List ℕ). at x.0 x.1 opened) (name_read scope o rest text)
 name_at down name width scope rest text opened None = two_leaves down name width scope (leaf.Say word.Scope) leaf.Identifier rest text opened

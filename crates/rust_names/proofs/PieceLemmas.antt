@@ -1,4 +1,4 @@
--- Bytes as pieces (piece_of, add_pieces).
+-- Bytes as pieces, for `piece_of` and `add_pieces`.
 use Rattle.std.proofs.Common.{◌≡◌, ◌≢◌, ℕ, ◌-◌, ◌<◌, ◌≤◌, zero, suc, true, false, List, [], ◌∷◌, ◌++◌, length, drop, Option, Some, None, refl, sym, ◌∙◌, ap, arith, length-append, append-nil, nat_le, ◌==◌, ◌&&◌, not, ◌+◌, take, get_or}
 use Rattle.std.specs.List.{flat_map, list_all}
 use Rattle.std.specs.Option.{option_map, option_and_then}
@@ -13,7 +13,7 @@ use Rattle.rust_names.proofs.FrontLemmas.{piece_front, found_piece, every_more}
 pub piece_within : (bytes : List ℕ) (p : Piece) → piece_of bytes ≡ Some p → length (written p) ≤ length bytes
 piece_within bytes p is = omega (arith, ap length (piece_front bytes p is).0, length-append (written p) (drop (length (written p)) bytes))
 
--- a piece has one byte at least
+-- A piece has at least one byte.
 pub some_written : (p : Piece) → 0 < length (written p)
 some_written At = omega arith
 some_written Star = omega arith
@@ -37,7 +37,7 @@ pub dropped : (n b : ℕ) (bytes : List ℕ) → 0 < n → drop n (b ∷ bytes) 
 dropped zero b bytes some = absurd (omega arith)
 dropped (suc n) b bytes some = ap (λ k. drop k bytes) (omega arith)
 
--- the first of the pieces
+-- The first piece and the later ones.
 pub pieces_step : (bytes : List ℕ) (p : Piece) → piece_of bytes ≡ Some p → pieces_of bytes ≡ option_map (λ ps. p ∷ ps) (pieces_of (drop (length (written p)) bytes))
 unfolding pieces_of pieces_from piece_of
 pieces_step [] p is = cc
@@ -45,13 +45,13 @@ pieces_step (b ∷ bytes) p is =
     ap (option_and_then (λ q. option_map (λ ps. q ∷ ps) (pieces_from (length (written q) - 1) bytes))) is
     ∙ ap (option_map (λ ps. p ∷ ps)) (skipped (length (written p) - 1) bytes (omega (arith, piece_within (b ∷ bytes) p is)) ∙ ap pieces_of (sym (dropped (length (written p)) b bytes (some_written p))))
 
--- without one there are none
+-- If no piece is at the start, the bytes are no pieces.
 pub pieces_stop : (bytes : List ℕ) → length bytes ≢ 0 → piece_of bytes ≡ None → pieces_of bytes ≡ None
 unfolding pieces_of pieces_from
 pieces_stop [] some none = absurd (some refl)
 pieces_stop (b ∷ bytes) some none = ap (option_and_then (λ q. option_map (λ ps. q ∷ ps) (pieces_from (length (written q) - 1) bytes))) none
 
--- for add_pieces
+-- Lemmas for `add_pieces`.
 
 pub pieces_end : (bytes text : List ℕ) (whole : Option (List ℕ)) → length bytes ≡ 0 → whole ≡ option_map (λ t. text ++ t) (pieces_text bytes) → whole ≡ kept true text
 unfolding pieces_text pieces_of pieces_from
@@ -71,7 +71,7 @@ unfolding pieces_text
 pieces_more bytes text p whole found is =
     is ∙ ap (λ o. option_map (λ t. text ++ t) (option_map (flat_map shown) o)) (pieces_step bytes p (sym found)) ∙ shown_first text p (pieces_of (drop (length (written p)) bytes))
 
--- bytes that stand for themselves
+-- Bytes that stand for themselves.
 
 plain_step : (b : ℕ) (bytes text : List ℕ) (whole : Option (List ℕ)) → is_plain b ≡ true → whole ≡ option_map (λ t. text ++ t) (pieces_text (b ∷ bytes)) → whole ≡ option_map (λ t. (text ++ b ∷ []) ++ t) (pieces_text bytes)
 plain_step b bytes text whole plain is =
@@ -89,7 +89,7 @@ plain_more (b ∷ run) bytes text whole plain is =
 pub plain_front : (bytes : List ℕ) (i : ℕ) → i < length bytes → list_all is_plain (take i bytes) ≡ true → is_plain (get_or bytes i 0) ≡ true → list_all is_plain (take (i + 1) bytes) ≡ true
 plain_front = every_more is_plain
 
--- what is left after they were added
+-- The bytes that are left after bytes that stand for themselves.
 pub plain_added : (rest plain after text new : List ℕ) (n : ℕ) (whole : Option (List ℕ)) → plain ≡ take n rest → after ≡ drop n rest → list_all is_plain (take n rest) ≡ true → new ≡ text ++ plain → whole ≡ option_map (λ t. text ++ t) (pieces_text rest) → whole ≡ option_map (λ t. new ++ t) (pieces_text after)
 plain_added rest plain after text new n whole front back all added is =
     plain_more (take n rest) (drop n rest) text whole all (is ∙ ap (λ xs. option_map (λ t. text ++ t) (pieces_text xs)) (sym (take-append-drop n rest)))

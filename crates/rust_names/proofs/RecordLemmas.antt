@@ -1,4 +1,4 @@
--- Records with other names are as valid as before (show_all).
+-- Records with other names are as valid as before, for `show_all`.
 use Rattle.std.proofs.Common.{◌≡◌, ℕ, ◌+◌, ◌^◌, ◌≤◌, ◌&&◌, inl, inr, cond, Bool, true, List, [], ◌∷◌, ◌++◌, length, map, take, drop, append-nil, Option, Some, None, nat_lt, refl, sym, ◌∙◌, ap, arith}
 use Rattle.std.specs.Option.{option_map_or}
 use Rattle.std.proofs.lemmas.Bool.{ltb-true}
@@ -85,12 +85,12 @@ shown_good lines valid = still_good named lines name_for (valid_none lines valid
 pub shown_all : (lines new : List SymLine) → new ≡ map (renamed named) lines → HaveShownNames lines new
 shown_all lines new is = record { names = named; shown = name_for; all = is }
 
--- all records are written
+-- All records are replaced.
 pub all_written : (lines new : List SymLine) (i : ℕ) → length lines ≤ i → new ≡ map (renamed named) (take i lines) ++ drop i lines → new ≡ map (renamed named) lines
 all_written lines new i past is =
     is ∙ ap (λ xs. map (renamed named) (take i lines) ++ xs) (drop_all i lines past) ∙ append-nil (map (renamed named) (take i lines)) ∙ ap (map (renamed named)) (take_all i lines past)
 
--- a name has one name
+-- A name is replaced by only one name.
 
 same_name : (name a b : List ℕ) → IsNameFor name a → IsNameFor name b → a ≡ b
 same_name name a b (inl first) (inl second) = one_text name a b first second

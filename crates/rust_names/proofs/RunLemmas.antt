@@ -1,4 +1,4 @@
--- The turns of the loop over frames (read_frames).
+-- The turns of the loop over frames, for `read_frames`.
 use Rattle.std.proofs.Common.{◌≡◌, ℕ, ◌+◌, ◌<◌, ◌≤◌, Bool, true, false, List, [], ◌∷◌, ◌++◌, length, map, reverse, Option, Some, None, IfSome, MatchOption, refl, sym, ◌∙◌, ap, arith}
 use Rattle.std.specs.Borrow.{Bor}
 use Rattle.std.specs.Option.{option_map, option_and_then, option_copied, option_to_list}
@@ -31,7 +31,7 @@ lighter_of size f below new opened bytes after (Some x) made is expanded = light
 pub made_lighter : (size : ℕ) (f : Frame) (below new : List Frame) (opened : Bool) (bytes after : List ℕ) → is_made f.part ≡ true → Expanded below new (expand size f opened bytes) (Some after) → weight size new < weight size (below ++ f ∷ [])
 made_lighter size f below new opened bytes after made is = lighter_of size f below new opened bytes after (expand size f opened bytes) made refl is
 
--- a turn with a frame that is made of others, and with another
+-- A turn with a frame that is made of others, and one with any other frame.
 
 pub made_turn : (name : List ℕ) (f : Frame) (below new : List Frame) (rest text : List ℕ) (opened : Bool) (o : Option (Bor (List ℕ))) → is_made f.part ≡ true → IsEnd name rest → Expanded below new (expand (length name) f opened rest) (option_copied o) → Turned name (below ++ f ∷ []) (at rest text opened) new text opened o
 made_turn name f below new rest text opened None made ends is = record {
@@ -54,16 +54,14 @@ pub plain_turn : (name : List ℕ) (f : Frame) (below : List Frame) (s : State) 
 plain_turn name f below s text opened None is ends = record { same = plain_run name f below s None is; lighter = tt; ends = tt }
 plain_turn name f below s text opened (Some a) is ends = record { same = plain_run name f below s (Some (at a.now text opened)) is; lighter = light (length name) f below; ends = ends }
 
--- the same from frames that read the same
+-- The same turn from other frames that read the same.
 pub turn_from : (name : List ℕ) (old mid new : List Frame) (before rest text more : List ℕ) (opened leaves : Bool) (o : Option (Bor (List ℕ))) → SameRun name old before mid rest → weight (length name) mid ≤ weight (length name) old → Turned name mid (at rest text opened) new more leaves o → Turned name old (at before text opened) new more leaves o
 turn_from name old mid new before rest text more opened leaves None same fits turned = record { same = same text opened ∙ turned.same; lighter = tt; ends = tt }
 turn_from name old mid new before rest text more opened leaves (Some a) same fits turned = record { same = same text opened ∙ turned.same; lighter = omega (arith, turned.lighter, fits); ends = turned.ends }
 
--- turns up to a stop
+-- Several turns, up to a stop.
 
--- turns up to a stop
-
--- where it is not to stop it does not
+-- If the loop is not to stop at the path of an impl, it does not.
 none_by : (below : List Frame) (hidden : Option Frame) → MatchOption hidden (below ≡ []) (λ f. (false ≡ true) × (is_hidden f.part ≡ true)) → hidden ≡ None
 none_by below None is = refl
 none_by below (Some f) is = let e : false ≡ true = is.0 in cc
@@ -75,12 +73,12 @@ all_by : (stops : Bool) (below : List Frame) (hidden : Option Frame) → MatchOp
 all_by stops below None is none = ap (λ fs. fs ++ []) is
 all_by stops below (Some f) is none = cc
 
--- then all is read
+-- If the loop ends at the end, all is read.
 pub ended : (name : List ℕ) (old new : List Frame) (s : State) (stops : Bool) (text : List ℕ) (opened : Bool) (stop : Stop) → Stopped name old s stops new text opened stop → stop.hidden ≡ None → run name (reverse old) s ≡ Some (at stop.rest.now text opened)
 ended name old new s stops text opened stop is none =
     is.same ∙ ap (λ fs. run name (reverse fs) (at stop.rest.now text opened)) (all_by stops new stop.hidden is.hidden none) ∙ run_none name (at stop.rest.now text opened)
 
--- one frame alone
+-- A single frame.
 
 all_of : (name : List ℕ) (o : Option State) → option_and_then (run name []) o ≡ o
 all_of name None = refl
@@ -90,7 +88,7 @@ pub alone : (name : List ℕ) (f : Frame) (cleared pushed new : List Frame) (s :
 alone name f cleared pushed new s text opened stop none pushes is =
     sym (ap (λ fs. run name (reverse fs) s) (pushes ∙ ap (λ fs. fs ++ f ∷ []) none) ∙ plain_run name f [] s (read_frame name f s) refl ∙ all_of name (read_frame name f s)) ∙ ended name pushed new s false text opened stop is (none_hidden name pushed new s text opened stop is)
 
--- and else what follows is read behind the path
+-- If the loop stops at the path of an impl, the rest is read after the path.
 pub passed : (name : List ℕ) (old new : List Frame) (s : State) (stops : Bool) (text : List ℕ) (opened : Bool) (stop : Stop) (f : Frame) (o : Option State) → Stopped name old s stops new text opened stop → stop.hidden ≡ Some f → read_frame name f (at stop.rest.now text opened) ≡ o → run name (reverse old) s ≡ option_and_then (run name (reverse new)) o
 passed name old new s stops text opened stop f o is some reads =
     is.same ∙ ap (λ h. run name (reverse (new ++ option_to_list h)) (at stop.rest.now text opened)) some ∙ plain_run name f new (at stop.rest.now text opened) o reads

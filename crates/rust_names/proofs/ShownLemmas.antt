@@ -1,4 +1,5 @@
--- The reading of a name finds what the name shows, and nothing else (shown, shown_texts_are_one).
+-- The reading of a name finds what the name shows, and nothing else, for `shown` and
+-- `shown_texts_are_one`.
 use Rattle.std.proofs.Common.{◌≡◌, ℕ, ◌+◌, ◌-◌, ◌<◌, ◌≤◌, ◌==◌, cond, zero, suc, true, false, not, List, [], ◌∷◌, ◌++◌, length, take, drop, Option, Some, None, refl, sym, ◌∙◌, ap, arith, subst, length-append}
 use Rattle.std.specs.List.{flat_map, list_all}
 use Rattle.std.specs.Option.{option_map, option_and_then}
@@ -24,7 +25,7 @@ pub then_some : {A B : Type 0} (f : A → Option B) (o : Option A) (y : B) → o
 then_some f None y is = cc
 then_some f (Some x) y is = (x, refl, is)
 
--- pieces
+-- Pieces.
 
 record Read (k : ℕ) (bytes : List ℕ) (ps : List Piece) : Type 0 where
   pub within : k ≤ length bytes
@@ -58,7 +59,7 @@ pieces_found (p ∷ ps) are =
     ∙ ap (λ xs. option_map (λ qs. p ∷ qs) (pieces_of xs)) (drop-append_seam (written p) (flat_map written ps))
     ∙ ap (option_map (λ qs. p ∷ qs)) (pieces_found ps are.1)
 
--- parts
+-- Parts.
 
 begins_take : (n : ℕ) (xs : List ℕ) → begins_with_digit xs ≡ false → begins_with_digit (take n xs) ≡ false
 begins_take zero xs none = refl
@@ -96,7 +97,7 @@ pub record ReadParts (k : ℕ) (bytes : List ℕ) (parts : List Part) : Type 0 w
   pub are : drop k bytes ≡ flat_map part_written parts
   pub good : AreParts parts
 
--- the part that is found, and what stands after it
+-- The part that is found, and the bytes after it.
 record Found (bytes : List ℕ) (p : Part) : Type 0 where
   part : List ℕ
   later : List ℕ
@@ -139,7 +140,7 @@ parts_read zero (b ∷ bytes) parts is =
     let rest = map_some (λ qs. first.0 ∷ qs) (parts_from (part_length first.0 - 1) bytes) parts first.2 in
     front_part b bytes first.0 rest.0 parts (part_found (b ∷ bytes) first.0 first.1) (parts_read (part_length first.0 - 1) bytes rest.0 rest.1) rest.2
 
--- a number is above 0, so a part has bytes
+-- A length is above 0, so a part has bytes.
 some_value : (number : List ℕ) → is_number number ≡ true → 0 < digits_value 10 number
 some_value [] is = cc
 some_value (d ∷ digits) is =

@@ -1,4 +1,4 @@
--- Parts that are not shown, by steps (do_step).
+-- Reading parts that are not shown by steps, for `do_step`.
 use Rattle.std.proofs.Common.{◌≡◌, ℕ, zero, suc, ◌+◌, ◌-◌, ◌<◌, ◌≤◌, Bool, true, false, List, [], ◌∷◌, ◌++◌, length, map, drop, reverse, Option, Some, None, IfSome, refl, sym, ◌∙◌, ap, arith, subst, ⊎_elim, append_assoc}
 use Rattle.std.specs.BTreeMap.{BTreeMap, Updates, get, is_at}
 use Rattle.std.specs.Ordering.{nat_cmp}
@@ -22,7 +22,7 @@ use Rattle.rust_names.proofs.EndLemmas.{placed}
 use Rattle.rust_names.proofs.PassingLemmas.{inner_dark, level_dark, within_dark}
 use Rattle.rust_names.specs.internal.Stepping.{AreHidden, Begins, CanEnd, Fits, IsJoined, Passes, Waits, coded, inner_levels, inner_width, key, one_reads, read_of, reads, stands}
 
--- what is known
+-- What is known of parts.
 
 one_place : (p q c d : ℕ) (a b : Bool) → c < 16 → d < 16 → key p c a ≡ key q d b → p ≡ q
 one_place p q c d true true first second is = omega (arith, is, first, second)
@@ -57,7 +57,7 @@ kept_part name old new n place code opened part r is small codes are updates pas
     (same_passes name place q code d opened b r (one_place place q code d opened b small within keys) (one_code place q code d opened b small within keys) (one_opened place q code d opened b small within keys) known))
     (λ apart. subst (λ o. IfSome o (Passes name (coded d) q b)) (sym (updates.2 (key q d b) (other_key n (key q d b) apart))) (are q d b within)) (cases_eq n (key q d b))
 
--- a part that is passed
+-- A part that is passed.
 
 same_stand : (name : List ℕ) (now end r : Reached) (text : List ℕ) → IsJoined now end r → stands name end.place end.opened text ≡ stands name r.place r.opened text
 same_stand name now end r text is = ap (λ p. stands name p end.opened text) (sym is.place) ∙ ap (λ b. stands name r.place b text) (sym is.opened)
@@ -79,7 +79,7 @@ moved name first [] part parts now end r passes is waits = λ levels width bound
 moved name first (Read p ∷ steps) part parts now end r passes is waits = moved name first steps part (parts ++ p ∷ []) now end r passes is waits
 moved name first (End b ∷ steps) part parts now end r passes is waits = (begins_passed name b part parts now end r passes is waits.0, waits.1)
 
--- a part by itself
+-- A part that is not made of others.
 
 pub alone_passes : (name : List ℕ) (part : Part) (place : ℕ) (opened leaves : Bool) (rest after text shown : List ℕ) → rest ≡ drop place name → IsEnd name after → read_frame name (inside (dark 0) 0 1 part) (at rest text opened) ≡ Some (at after shown leaves)
     → Passes name part place opened (record { place = length name - length after; opened = leaves; levels = 0; width = 1 })
@@ -89,7 +89,7 @@ alone_passes name part place opened leaves rest after text shown is ends found =
     ∙ within_dark name (read_level name 0) (read_level name levels) 0 bound (λ p s t other goes. level_dark name 0 levels 0 bound (omega arith) p s t other goes) 1 width wide part (at rest text opened) (at after shown leaves) more found
     ∙ ap (λ r. Some (at r more leaves)) (placed name after ends)
 
--- a part that is made of others
+-- A part that is made of others.
 
 some_one : {A : Type 0} {x y : A} → Some x ≡ Some y → x ≡ y
 some_one is = cc
@@ -145,7 +145,7 @@ begun_reads name (Leafed a) rest text opened x levels width bound made is fits =
 begun_reads name (Goto q) rest text opened x levels width bound made is fits = cc
 begun_reads name (Opened b) rest text opened x levels width bound made is fits = cc
 
--- the steps then
+-- The steps on the stack.
 
 map_reverse : {A B : Type 0} (f : A → B) (xs : List A) → map f (reverse xs) ≡ reverse (map f xs)
 map_reverse f [] = refl
@@ -176,7 +176,7 @@ begun_waits name first old mid new below stack part now rest after (Some x) made
     subst (λ steps. Waits name first steps [] r) (sym (turned old mid new b below stack x.0 none expanded.0 first_step second))
     (read_waits name first x.0 (End b ∷ reverse old) [] r (begins, waits))
 
--- the loop
+-- The loop.
 
 pub steps_top : (step : Step) (below old : List Step) → old ≡ below ++ step ∷ [] → reverse old ≡ step ∷ reverse below
 steps_top step below old is = ap reverse is ∙ reverse-append below (step ∷ [])

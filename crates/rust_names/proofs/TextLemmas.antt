@@ -44,7 +44,7 @@ pub say_stop : (text xs ys mid : List ℕ) (b : Bool) → say text xs ≡ kept b
 say_stop text xs ys mid false stops is = said_stop text xs ys stops
 say_stop text xs ys mid true stops is = cc
 
--- a lifetime
+-- A lifetime.
 
 pub unbound : (bound n : ℕ) → n ≢ 0 → bound < n → lifetime_text bound n ≡ None
 unbound bound n some over = ap (λ b. cond b (Some (codes "'_")) (cond (nat_le n bound) (Some (lifetime_name (bound - n))) None)) (let t : (n == 0) ≡ false = grind (arith, nat_tests) in t) ∙ ap (λ b. cond b (Some (lifetime_name (bound - n))) None) (lt-leb n bound over)
@@ -55,7 +55,7 @@ nameless bound n none = ap (λ b. cond b (Some (codes "'_")) (cond (nat_le n bou
 pub bound_so : (bound n : ℕ) → n ≢ 0 → n ≤ bound → lifetime_text bound n ≡ Some (lifetime_name (bound - n))
 bound_so bound n some within = ap (λ b. cond b (Some (codes "'_")) (cond (nat_le n bound) (Some (lifetime_name (bound - n))) None)) (let t : (n == 0) ≡ false = grind (arith, nat_tests) in t) ∙ ap (λ b. cond b (Some (lifetime_name (bound - n))) None) (le-leb n bound within)
 
--- lists that are said one after the other
+-- Several texts that are added one after the other.
 
 pub lifetimes_more : (count i depth : ℕ) → i < count → lifetimes_from (count - i) (depth + i) ≡ next_lifetime (depth + i) ++ lifetimes_from (count - (i + 1)) (depth + (i + 1))
 lifetimes_more count i depth within =

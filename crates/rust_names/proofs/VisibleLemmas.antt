@@ -1,4 +1,4 @@
--- A shown text is a name that a record may carry (shown, show_all).
+-- What a name shows may be a name in a record, for `shown` and `show_all`.
 use Rattle.std.proofs.Common.{◌≡◌, ℕ, ◌≤◌, ◌==◌, ◌&&◌, true, not, List, [], ◌∷◌, ◌++◌, length, codes, nat_le, refl, ◌∙◌, ap, arith}
 use Rattle.std.specs.List.{flat_map, list_all}
 use Rattle.std.proofs.lemmas.Bool.{leb-true, le-leb}

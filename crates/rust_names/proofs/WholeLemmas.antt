@@ -1,4 +1,5 @@
--- A whole name: what stands between `_ZN` and the hash, and what it shows (shown, shown_texts_are_one).
+-- A whole legacy name: the bytes between `_ZN` and the hash, and what they show, for `shown` and
+-- `shown_texts_are_one`.
 use Rattle.std.proofs.Common.{◌≡◌, ℕ, ◌+◌, ◌-◌, ◌<◌, ◌≤◌, ◌==◌, ◌&&◌, cond, zero, suc, Bool, true, List, [], ◌∷◌, ◌++◌, length, take, drop, get_or, codes, Some, None, nat_le, nat_eq, refl, sym, ◌∙◌, ap, arith, length-append, length-take, length-drop}
 use Rattle.std.specs.List.{flat_map, list_all, starts_with}
 use Rattle.std.specs.Option.{option_and_then}
@@ -13,14 +14,14 @@ use Rattle.rust_names.proofs.FrontLemmas.{begins}
 use Rattle.rust_names.proofs.DigitLemmas.{some_is}
 use Rattle.rust_names.proofs.ShownLemmas.{then_some, parts_read, parts_found}
 
--- the bytes after `_ZN`
+-- The bytes after `_ZN`.
 front_of : (n : ℕ) (xs : List ℕ) → 3 ≤ n → take n (codes "_ZN" ++ xs) ≡ codes "_ZN" ++ drop 3 (take n (codes "_ZN" ++ xs))
 front_of zero xs some = absurd (omega arith)
 front_of (suc zero) xs some = absurd (omega arith)
 front_of (suc (suc zero)) xs some = absurd (omega arith)
 front_of (suc (suc (suc n))) xs some = refl
 
--- the last 20 bytes
+-- The last 20 bytes.
 pub record Tail (bytes : List ℕ) : Type 0 where
   pub hash : List ℕ
   pub whole : bytes ≡ codes "17h" ++ hash ++ codes "E"
@@ -52,7 +53,7 @@ tail_found hash size all =
     let middle : take 16 (drop 3 bytes) ≡ hash = ap (λ n. take n (hash ++ codes "E")) (sym size) ∙ take-append_seam hash (codes "E") in
     (omega (arith, length-append (codes "17h" ++ hash) (codes "E")), both (both refl last) (ap (list_all is_low_hex) middle ∙ all))
 
--- what stands between
+-- The bytes between `_ZN` and the last 20 bytes.
 pub record Middle (name middle : List ℕ) : Type 0 where
   pub hash : List ℕ
   pub whole : name ≡ codes "_ZN" ++ middle ++ codes "17h" ++ hash ++ codes "E"
@@ -103,7 +104,7 @@ middle_found middle hash size all =
     both (both refl (le-leb 23 (length name) (omega (arith, long, length-append (codes "_ZN") middle)))) (ap is_tail ends ∙ last.1) in
     ap (λ t. cond t (Some (drop 3 (take (length name - 20) name))) None) test ∙ ap (λ xs. Some (drop 3 xs)) begins
 
--- what is found is what the name shows
+-- What is found is what the name shows.
 
 some_parts : (parts : List Part) (text : List ℕ) → some_joined parts ≡ Some text → (0 < length parts) × (text ≡ joined parts)
 some_parts [] text is = cc

@@ -1,11 +1,11 @@
--- Worked names: what a name in Rust's legacy mangling shows, and names that show nothing else.
+-- Worked examples: what a name in Rust's legacy mangling shows, and names that show nothing.
 use Rattle.std.proofs.Common.{◌≡◌, Some, None, codes, refl}
 use Rattle.std.specs.Option.{option_map}
 use Rattle.sym_edges.proofs.Shown.{shown}
 use Rattle.rust_names.proofs.Computing.{rust_names_computes}
 use Rattle.rust_names.specs.internal.Finding.{shown_of}
 
--- a path, and one with escapes and dots
+-- A path, and one with escapes and dots.
 a_path : option_map shown (shown_of (codes "_ZN4core3fmt9Formatter9write_str17h0123456789abcdefE")) ≡ Some "core::fmt::Formatter::write_str"
 unfolding rust_names_computes shown
 a_path = refl
@@ -14,7 +14,7 @@ escapes_and_dots : option_map shown (shown_of (codes "_ZN27_$LT$u8$u20$as$u20$a.
 unfolding rust_names_computes shown
 escapes_and_dots = refl
 
--- names of other forms: another language, a digit of the hash in upper case, an escape that is none
+-- Names of other forms: another language, a digit of the hash in upper case, and an unknown escape.
 another_language : option_map shown (shown_of (codes "_Z1fv")) ≡ None
 unfolding rust_names_computes shown
 another_language = refl
@@ -27,7 +27,7 @@ no_escape : option_map shown (shown_of (codes "_ZN4$XX$17h0123456789abcdefE")) �
 unfolding rust_names_computes shown
 no_escape = refl
 
--- each escape
+-- Each escape.
 sign_sp : option_map shown (shown_of (codes "_ZN6a$SP$b17h0123456789abcdefE")) ≡ Some "a@b"
 unfolding rust_names_computes shown
 sign_sp = refl
@@ -60,7 +60,7 @@ sign_c : option_map shown (shown_of (codes "_ZN5a$C$b17h0123456789abcdefE")) ≡
 unfolding rust_names_computes shown
 sign_c = refl
 
--- a byte by its code: from 20 to 7e
+-- A byte by its code, from 20 to 7e.
 code_space : option_map shown (shown_of (codes "_ZN7a$u20$b17h0123456789abcdefE")) ≡ Some "a b"
 unfolding rust_names_computes shown
 code_space = refl
@@ -77,7 +77,7 @@ code_low : option_map shown (shown_of (codes "_ZN7a$u1f$b17h0123456789abcdefE"))
 unfolding rust_names_computes shown
 code_low = refl
 
--- its digits in upper case, and without its end
+-- A code in upper case, and one without its end.
 code_upper_case : option_map shown (shown_of (codes "_ZN7a$u2A$b17h0123456789abcdefE")) ≡ None
 unfolding rust_names_computes shown
 code_upper_case = refl
@@ -90,7 +90,7 @@ code_open : option_map shown (shown_of (codes "_ZN5a$u2017h0123456789abcdefE")) 
 unfolding rust_names_computes shown
 code_open = refl
 
--- a part of length 0, one with a leading zero, one that is longer than what is left
+-- A part of length 0, one with a leading zero, and one that is longer than what is left.
 part_of_nothing : option_map shown (shown_of (codes "_ZN01a17h0123456789abcdefE")) ≡ None
 unfolding rust_names_computes shown
 part_of_nothing = refl
@@ -103,12 +103,12 @@ too_long_a_part : option_map shown (shown_of (codes "_ZN99a17h0123456789abcdefE"
 unfolding rust_names_computes shown
 too_long_a_part = refl
 
--- a length that takes the bytes of the hash, so that its digits are the part's
+-- A part whose bytes begin with a digit is not possible, since the digit counts to the length.
 a_digit_first : option_map shown (shown_of (codes "_ZN11a17h0123456789abcdefE")) ≡ None
 unfolding rust_names_computes shown
 a_digit_first = refl
 
--- only the hash; nothing at all
+-- Only the hash, and nothing at all.
 only_the_hash : option_map shown (shown_of (codes "_ZN17h0123456789abcdefE")) ≡ None
 unfolding rust_names_computes shown
 only_the_hash = refl
@@ -117,7 +117,7 @@ nothing : option_map shown (shown_of (codes "")) ≡ None
 unfolding rust_names_computes shown
 nothing = refl
 
--- dots at a part's ends, three, and four
+-- Dots at the ends of a part, three dots, and four dots.
 dots_first : option_map shown (shown_of (codes "_ZN3..a17h0123456789abcdefE")) ≡ Some "::a"
 unfolding rust_names_computes shown
 dots_first = refl
@@ -138,7 +138,7 @@ one_dot : option_map shown (shown_of (codes "_ZN3a.b17h0123456789abcdefE")) ≡ 
 unfolding rust_names_computes shown
 one_dot = refl
 
--- `_` in front of a `$` at the start of a part, and elsewhere
+-- `_` before a `$` at the start of a part, and elsewhere.
 dash_in_front : option_map shown (shown_of (codes "_ZN6_$LT$a17h0123456789abcdefE")) ≡ Some "<a"
 unfolding rust_names_computes shown
 dash_in_front = refl
@@ -155,7 +155,7 @@ two_dashes : option_map shown (shown_of (codes "_ZN6__$LT$17h0123456789abcdefE")
 unfolding rust_names_computes shown
 two_dashes = refl
 
--- a `$` without its end, text after `E`, no `E`, a short hash, another letter
+-- A `$` without its end, text after `E`, no `E`, a short hash, and another letter for the hash.
 open_dollar : option_map shown (shown_of (codes "_ZN2a$17h0123456789abcdefE")) ≡ None
 unfolding rust_names_computes shown
 open_dollar = refl
@@ -176,7 +176,7 @@ another_letter : option_map shown (shown_of (codes "_ZN1a17g0123456789abcdefE"))
 unfolding rust_names_computes shown
 another_letter = refl
 
--- a text that would begin with a space, a space in the name, a byte above ASCII
+-- A text that would begin with a space, a space in the name, and a byte above ASCII.
 space_first : option_map shown (shown_of (codes "_ZN6$u20$a17h0123456789abcdefE")) ≡ None
 unfolding rust_names_computes shown
 space_first = refl
@@ -189,7 +189,7 @@ above_ascii : option_map shown (shown_of (codes "_ZN3aé17h0123456789abcdefE")) 
 unfolding rust_names_computes shown
 above_ascii = refl
 
--- Rust's new form, and C++
+-- A name in Rust's current mangling, and a name of C++.
 new_form : option_map shown (shown_of (codes "_RNvCs1234_7mycrate3foo")) ≡ Some "mycrate::foo"
 unfolding rust_names_computes shown
 new_form = refl

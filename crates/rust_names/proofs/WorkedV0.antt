@@ -1,13 +1,13 @@
--- Worked names: what paths and types in Rust's v0 mangling show.
+-- Worked examples: what paths and types in Rust's v0 mangling show.
 use Rattle.std.proofs.Common.{◌≡◌, Some, codes, chars, refl}
 use Rattle.std.specs.Option.{option_map}
 use Rattle.sym_edges.proofs.Shown.{shown}
 use Rattle.rust_names.proofs.Computing.{rust_names_computes}
 use Rattle.rust_names.specs.V0Names.{v0_text}
 
--- paths
+-- Paths.
 
--- a crate, with and without its disambiguator
+-- A crate, with and without its disambiguator.
 a_crate : option_map shown (v0_text (codes "_RC3foo")) ≡ Some "foo"
 unfolding rust_names_computes shown
 a_crate = refl
@@ -16,7 +16,7 @@ disambiguated : option_map shown (v0_text (codes "_RNvCs1234_7mycrate3foo")) ≡
 unfolding rust_names_computes shown
 disambiguated = refl
 
--- an identifier that begins with a digit stands behind a separator
+-- An identifier that begins with a digit comes after a separator.
 a_digit_first : option_map shown (v0_text (codes "_RNvC6_123foo3bar")) ≡ Some "123foo::bar"
 unfolding rust_names_computes shown
 a_digit_first = refl
@@ -25,12 +25,12 @@ a_separator : option_map shown (v0_text (codes "_RC2__a")) ≡ Some "_a"
 unfolding rust_names_computes shown
 a_separator = refl
 
--- Punycode
+-- Punycode.
 punycode : option_map shown (option_map chars (v0_text (codes "_RNqCs4fqI2P2rA04_11utf8_identsu30____7hkackfecea1cbdathfdh9hlq6y"))) ≡ Some "utf8_idents::საჭმელად_გემრიელი_სადილი"
 unfolding rust_names_computes shown
 punycode = refl
 
--- closures, and a backreference in the instantiating path
+-- Closures, and a backreference in the instantiating path.
 closures : option_map shown (v0_text (codes "_RNCNCNgCs6DXkGYLi8lr_2cc5spawn00B5_")) ≡ Some "cc::spawn::{closure#0}::{closure#0}"
 unfolding rust_names_computes shown
 closures = refl
@@ -39,7 +39,7 @@ named_closure : option_map shown (v0_text (codes "_RNCC1a3foo")) ≡ Some "a::{c
 unfolding rust_names_computes shown
 named_closure = refl
 
--- other namespaces
+-- Other namespaces.
 shim : option_map shown (v0_text (codes "_RNSC1a6vtable")) ≡ Some "a::{shim:vtable#0}"
 unfolding rust_names_computes shown
 shim = refl
@@ -66,7 +66,7 @@ of_a_trait : option_map shown (v0_text (codes "_RYhNtC1a1T")) ≡ Some "<u8 as a
 unfolding rust_names_computes shown
 of_a_trait = refl
 
--- generic arguments, in a value and in a type
+-- Generic arguments, in a value and in a type.
 generic : option_map shown (v0_text (codes "_RINvC1a1fhE")) ≡ Some "a::f::<u8>"
 unfolding rust_names_computes shown
 generic = refl
@@ -79,19 +79,19 @@ lifetime_argument : option_map shown (v0_text (codes "_RMC0INtC1a1SL_E")) ≡ So
 unfolding rust_names_computes shown
 lifetime_argument = refl
 
--- a backreference to a path
+-- A backreference to a path.
 back_to_a_path : option_map shown (v0_text (codes "_RINvC1a1fNvB2_1gE")) ≡ Some "a::f::<a::g>"
 unfolding rust_names_computes shown
 back_to_a_path = refl
 
--- paths in paths
+-- Paths in paths.
 iterators : option_map shown (v0_text (codes "_RNCINkXs25_NgCsbmNqQUJIY6D_4core5sliceINyB9_4IterhENuNgNoBb_4iter8iterator8Iterator9rpositionNCNgNpB9_6memchr7memrchrs_0E0Bb_")) ≡ Some "<core::slice::Iter<u8> as core::iter::iterator::Iterator>::rposition::<core::slice::memchr::memrchr::{closure#1}>::{closure#0}"
 unfolding rust_names_computes shown
 iterators = refl
 
--- what is not shown
+-- What is not shown.
 
--- in the path of an impl lifetimes are not looked at, and backreferences are not followed
+-- In the path of an impl, lifetimes are not looked up, and backreferences are not followed.
 hidden_lifetime : option_map shown (v0_text (codes "_RMINtC1a1TRL0_hEh")) ≡ Some "<u8>"
 unfolding rust_names_computes shown
 hidden_lifetime = refl
@@ -100,12 +100,12 @@ hidden_back : option_map shown (v0_text (codes "_RMB_h")) ≡ Some "<u8>"
 unfolding rust_names_computes shown
 hidden_back = refl
 
--- the instantiating path
+-- The instantiating path.
 an_instance : option_map shown (v0_text (codes "_RNvC1a1bC1c")) ≡ Some "a::b"
 unfolding rust_names_computes shown
 an_instance = refl
 
--- suffixes
+-- Suffixes.
 a_suffix : option_map shown (v0_text (codes "_RNvC9backtrace3foo.llvm.A5310EB9")) ≡ Some "backtrace::foo"
 unfolding rust_names_computes shown
 a_suffix = refl
@@ -118,9 +118,9 @@ an_instance_and_a_suffix : option_map shown (v0_text (codes "_RNvC1a1bNvC1c1d.ll
 unfolding rust_names_computes shown
 an_instance_and_a_suffix = refl
 
--- types
+-- Types.
 
--- basic types
+-- Basic types.
 basic : option_map shown (v0_text (codes "_RMC0TbceuasxlniE")) ≡ Some "<(bool, char, str, (), i8, i16, i64, i32, i128, isize)>"
 unfolding rust_names_computes shown
 basic = refl
@@ -129,7 +129,7 @@ more_basic : option_map shown (v0_text (codes "_RMC0ThtmyojfdzpvE")) ≡ Some "<
 unfolding rust_names_computes shown
 more_basic = refl
 
--- arrays and slices
+-- Arrays and slices.
 array : option_map shown (v0_text (codes "_RMC0Ahj3_")) ≡ Some "<[u8; 3]>"
 unfolding rust_names_computes shown
 array = refl
@@ -142,7 +142,7 @@ array_vec : option_map shown (v0_text (codes "_RMC0INtC8arrayvec8ArrayVechKj7b_E
 unfolding rust_names_computes shown
 array_vec = refl
 
--- tuples
+-- Tuples.
 unit : option_map shown (v0_text (codes "_RMC0TE")) ≡ Some "<()>"
 unfolding rust_names_computes shown
 unit = refl
@@ -155,7 +155,7 @@ tuple : option_map shown (v0_text (codes "_RMC0ThtE")) ≡ Some "<(u8, u16)>"
 unfolding rust_names_computes shown
 tuple = refl
 
--- references and pointers
+-- References and pointers.
 reference : option_map shown (v0_text (codes "_RMC0Rh")) ≡ Some "<&u8>"
 unfolding rust_names_computes shown
 reference = refl
@@ -172,7 +172,7 @@ pointers : option_map shown (v0_text (codes "_RMC0TPhOhE")) ≡ Some "<(*const u
 unfolding rust_names_computes shown
 pointers = refl
 
--- functions
+-- Functions.
 function : option_map shown (v0_text (codes "_RMC0FhtEm")) ≡ Some "<fn(u8, u16) -> u32>"
 unfolding rust_names_computes shown
 function = refl
@@ -193,7 +193,7 @@ extern_other : option_map shown (v0_text (codes "_RMC0FK8rust_abiEu")) ≡ Some 
 unfolding rust_names_computes shown
 extern_other = refl
 
--- binders, and lifetimes by their depth
+-- Binders, and lifetimes by their depth.
 bound : option_map shown (v0_text (codes "_RMC0FG_RL0_hEu")) ≡ Some "<for<'a> fn(&'a u8)>"
 unfolding rust_names_computes shown
 bound = refl
@@ -210,7 +210,7 @@ many_bound : option_map shown (v0_text (codes "_RMC0FGq_RL0_hRLq_hEu")) ≡ Some
 unfolding rust_names_computes shown
 many_bound = refl
 
--- dyn types
+-- Types with `dyn`.
 dyn : option_map shown (v0_text (codes "_RMC0DNtC1a1TEL_")) ≡ Some "<dyn a::T>"
 unfolding rust_names_computes shown
 dyn = refl
@@ -235,7 +235,7 @@ dyn_bound : option_map shown (v0_text (codes "_RMC0DG_INtC1a1TRL0_hEEL_")) ≡ S
 unfolding rust_names_computes shown
 dyn_bound = refl
 
--- the lifetime of a dyn type stands outside of its binder
+-- The lifetime of a `dyn` type is outside of its binder.
 dyn_outlives : option_map shown (v0_text (codes "_RMC0FG_DNtC1a1TEL0_Eu")) ≡ Some "<for<'a> fn(dyn a::T + 'a)>"
 unfolding rust_names_computes shown
 dyn_outlives = refl
@@ -244,7 +244,7 @@ dyn_box : option_map shown (v0_text (codes "_RINbNbCskIICzLVDPPb_5alloc5alloc8bo
 unfolding rust_names_computes shown
 dyn_box = refl
 
--- a backreference to a type, and six that double
+-- A backreference to a type, and six backreferences that each double the text.
 back_to_a_type : option_map shown (v0_text (codes "_RMC0TRhB3_E")) ≡ Some "<(&u8, &u8)>"
 unfolding rust_names_computes shown
 back_to_a_type = refl

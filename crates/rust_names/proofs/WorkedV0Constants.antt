@@ -1,18 +1,18 @@
--- Worked names: what constants in Rust's v0 mangling show, and names that show nothing.
+-- Worked examples: what constants in Rust's v0 mangling show, and names that show nothing.
 use Rattle.std.proofs.Common.{◌≡◌, Some, None, codes, refl}
 use Rattle.std.specs.Option.{option_map}
 use Rattle.sym_edges.proofs.Shown.{shown}
 use Rattle.rust_names.proofs.Computing.{rust_names_computes}
 use Rattle.rust_names.specs.V0Names.{v0_text, text_within}
 
--- constants
+-- Constants.
 
--- a placeholder
+-- A placeholder.
 placeholder : option_map shown (v0_text (codes "_RIC0KpE")) ≡ Some "::<_>"
 unfolding rust_names_computes shown
 placeholder = refl
 
--- integers
+-- Integers.
 unsigned : option_map shown (v0_text (codes "_RIC0Khb_E")) ≡ Some "::<11>"
 unfolding rust_names_computes shown
 unsigned = refl
@@ -33,7 +33,7 @@ no_digits : option_map shown (v0_text (codes "_RIC0Kj_E")) ≡ Some "::<0>"
 unfolding rust_names_computes shown
 no_digits = refl
 
--- bool
+-- Values of `bool`.
 is_false : option_map shown (v0_text (codes "_RIC0Kb0_E")) ≡ Some "::<false>"
 unfolding rust_names_computes shown
 is_false = refl
@@ -42,7 +42,7 @@ is_true : option_map shown (v0_text (codes "_RIC0Kb1_E")) ≡ Some "::<true>"
 unfolding rust_names_computes shown
 is_true = refl
 
--- char, with its escapes
+-- Values of `char`, with their escapes.
 letter : option_map shown (v0_text (codes "_RIC0Kc76_E")) ≡ Some "::<'v'>"
 unfolding rust_names_computes shown
 letter = refl
@@ -83,7 +83,7 @@ above_ascii : option_map shown (v0_text (codes "_RIC0Kc2202_E")) ≡ Some "::<'\
 unfolding rust_names_computes shown
 above_ascii = refl
 
--- texts
+-- Texts.
 text : option_map shown (v0_text (codes "_RIC0Ke616263_E")) ≡ Some "::<{*\"abc\"}>"
 unfolding rust_names_computes shown
 text = refl
@@ -104,7 +104,7 @@ text_reference : option_map shown (v0_text (codes "_RIC0KRe616263_E")) ≡ Some 
 unfolding rust_names_computes shown
 text_reference = refl
 
--- references
+-- References.
 reference : option_map shown (v0_text (codes "_RIC0KRh7b_E")) ≡ Some "::<{&123}>"
 unfolding rust_names_computes shown
 reference = refl
@@ -121,7 +121,7 @@ mutable : option_map shown (v0_text (codes "_RIC0KQAEE")) ≡ Some "::<{&mut []}
 unfolding rust_names_computes shown
 mutable = refl
 
--- arrays
+-- Arrays.
 array : option_map shown (v0_text (codes "_RIC0KAEE")) ≡ Some "::<{[]}>"
 unfolding rust_names_computes shown
 array = refl
@@ -134,7 +134,7 @@ arrays : option_map shown (v0_text (codes "_RIC0KAAh1_h2_EAh3_h4_EEE")) ≡ Some
 unfolding rust_names_computes shown
 arrays = refl
 
--- tuples
+-- Tuples.
 unit : option_map shown (v0_text (codes "_RIC0KTEE")) ≡ Some "::<{()}>"
 unfolding rust_names_computes shown
 unit = refl
@@ -147,7 +147,7 @@ tuple : option_map shown (v0_text (codes "_RIC0KTRe616263_c78_RAh1_h2_h3_EEE")) 
 unfolding rust_names_computes shown
 tuple = refl
 
--- values of structs and enums
+-- Values of structs and enums.
 variant : option_map shown (v0_text (codes "_RIC0KVNvINtNtC4core6option6OptionjE4NoneUE")) ≡ Some "::<{core::option::Option::<usize>::None}>"
 unfolding rust_names_computes shown
 variant = refl
@@ -160,14 +160,14 @@ fields : option_map shown (v0_text (codes "_RIC0KVNtC3foo3BarS1sRe616263_2chc78_
 unfolding rust_names_computes shown
 fields = refl
 
--- a backreference to a constant
+-- A backreference to a constant.
 back_to_a_constant : option_map shown (v0_text (codes "_RINvC1a1fKj1_KB8_E")) ≡ Some "a::f::<1, 1>"
 unfolding rust_names_computes shown
 back_to_a_constant = refl
 
--- names that show nothing
+-- Names that show nothing.
 
--- names of other forms
+-- Names of other forms.
 another_language : option_map shown (v0_text (codes "_Z1fv")) ≡ None
 unfolding rust_names_computes shown
 another_language = refl
@@ -180,7 +180,7 @@ only_the_mark : option_map shown (v0_text (codes "_R")) ≡ None
 unfolding rust_names_computes shown
 only_the_mark = refl
 
--- a number behind the mark, and letters that begin no path
+-- A number after `_R`, and letters that begin no path.
 a_version : option_map shown (v0_text (codes "_R1C1a")) ≡ None
 unfolding rust_names_computes shown
 a_version = refl
@@ -193,7 +193,7 @@ cut : option_map shown (v0_text (codes "_RNvC1a")) ≡ None
 unfolding rust_names_computes shown
 cut = refl
 
--- text behind
+-- Text after the name.
 text_behind : option_map shown (v0_text (codes "_RC1ab")) ≡ None
 unfolding rust_names_computes shown
 text_behind = refl
@@ -202,12 +202,12 @@ half_an_instance : option_map shown (v0_text (codes "_RC1aN")) ≡ None
 unfolding rust_names_computes shown
 half_an_instance = refl
 
--- no text
+-- A name that would show an empty text.
 no_text : option_map shown (v0_text (codes "_RC0")) ≡ None
 unfolding rust_names_computes shown
 no_text = refl
 
--- identifiers
+-- Identifiers.
 a_leading_zero : option_map shown (v0_text (codes "_RC01a")) ≡ None
 unfolding rust_names_computes shown
 a_leading_zero = refl
@@ -232,7 +232,7 @@ open_punycode : option_map shown (v0_text (codes "_RCu3a_9")) ≡ None
 unfolding rust_names_computes shown
 open_punycode = refl
 
--- numbers
+-- Numbers.
 upper_case_number : option_map shown (v0_text (codes "_RCs-_1a")) ≡ None
 unfolding rust_names_computes shown
 upper_case_number = refl
@@ -241,12 +241,12 @@ too_great : option_map shown (v0_text (codes "_RCszzzzzzzzzzzz_1a")) ≡ None
 unfolding rust_names_computes shown
 too_great = refl
 
--- a namespace is a letter
+-- A namespace must be a letter.
 no_namespace : option_map shown (v0_text (codes "_RN1C1a1b")) ≡ None
 unfolding rust_names_computes shown
 no_namespace = refl
 
--- backreferences lead to an earlier place
+-- Backreferences must lead to an earlier place.
 to_itself : option_map shown (v0_text (codes "_RB_")) ≡ None
 unfolding rust_names_computes shown
 to_itself = refl
@@ -259,7 +259,7 @@ to_no_type : option_map shown (v0_text (codes "_RMC0B1_")) ≡ None
 unfolding rust_names_computes shown
 to_no_type = refl
 
--- a lifetime is bound
+-- A lifetime must be bound.
 unbound : option_map shown (v0_text (codes "_RMC0RL0_h")) ≡ None
 unfolding rust_names_computes shown
 unbound = refl
@@ -268,7 +268,7 @@ bound_elsewhere : option_map shown (v0_text (codes "_RMC0TFG_EuRL0_hE")) ≡ Non
 unfolding rust_names_computes shown
 bound_elsewhere = refl
 
--- types
+-- Types.
 pattern_type : option_map shown (v0_text (codes "_RMC0WhE")) ≡ None
 unfolding rust_names_computes shown
 pattern_type = refl
@@ -281,7 +281,7 @@ dyn_without_lifetime : option_map shown (v0_text (codes "_RMC0DNtC1a1TE")) ≡ N
 unfolding rust_names_computes shown
 dyn_without_lifetime = refl
 
--- constants
+-- Constants.
 another_boolean : option_map shown (v0_text (codes "_RIC0Kb2_E")) ≡ None
 unfolding rust_names_computes shown
 another_boolean = refl
@@ -306,7 +306,8 @@ float : option_map shown (v0_text (codes "_RIC0Kf0_E")) ≡ None
 unfolding rust_names_computes shown
 float = refl
 
--- levels: a path and a constant are one each, a type that is not basic is one beside its path, and a backreference is one more
+-- Levels: a path and a constant are one level each, a type that is not basic is one level besides
+-- its path, and a backreference is one more.
 
 one_level : option_map shown (text_within 1 (codes "C1a")) ≡ Some "a"
 unfolding rust_names_computes shown

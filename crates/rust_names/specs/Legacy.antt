@@ -43,7 +43,8 @@ abbrev pub begins_with_dot : List ℕ → Bool
 begins_with_dot [] = false
 begins_with_dot (b ∷ bytes) = b == 46
 
--- A code is one of `$u20$` to `$u7e$`. A byte that stands for itself is visible, no `$`, and no dot before another dot.
+-- A code is one of `$u20$` to `$u7e$`. A byte that stands for itself is a visible ASCII character,
+-- but neither `$` nor a dot before another dot.
 abbrev pub is_piece : Piece → List ℕ → Bool
 is_piece (Code b) after = nat_le 32 b && nat_le b 126
 is_piece (Plain b) after = nat_le 33 b && nat_le b 126 && not (b == 36) && not (b == 46 && begins_with_dot after)

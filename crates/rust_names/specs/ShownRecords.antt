@@ -13,11 +13,11 @@ renamed f (Origin number name) = Origin number (f name)
 renamed f (Public many address params name) = Public many address params (f name)
 renamed f s = s
 
--- the name for `name`: its readable form or, if it has none, itself
+-- a name is replaced by its readable form or, if it has none, by itself
 abbrev pub IsNameFor : List ℕ → List ℕ → Type 0
 IsNameFor name new = IsShown name new ⊎ (IsPlainName name × (new ≡ name))
 
--- each record has the name for its name
+-- the records in which each name is replaced in this way
 pub record HaveShownNames (lines new : List SymLine) : Type 0 where
   pub names : List ℕ → List ℕ
   pub shown : (name : List ℕ) → IsNameFor name (names name)

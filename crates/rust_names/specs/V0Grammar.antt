@@ -45,7 +45,7 @@ nested_by outer x = if is_namespace x.0 then Some (Deep outer ∷ Made (phrase.N
 unfoldable pub nested_parts : Kind → List ℕ → Option (List Part × List ℕ)
 nested_parts outer bytes = option_and_then (nested_by outer) (front bytes)
 
--- <T>, and <T as Trait>; in an impl the path of the impl stands first
+-- <T>, and <T as Trait>; if these are of an impl, the impl's path comes first
 abbrev pub inherent : List Part
 inherent = Read leaf.Disambiguator ∷ Within inner.ImplPath ∷ say word.Less ∷ any_type ∷ say word.Greater ∷ []
 
@@ -118,7 +118,7 @@ is_unsigned b = b == 104 || b == 116 || b == 109 || b == 121 || b == 111 || b ==
 abbrev pub is_signed : ℕ → Bool
 is_signed b = b == 97 || b == 115 || b == 108 || b == 120 || b == 110 || b == 105
 
--- a reference to a constant: one to a text shows no `&`
+-- the parts of a reference to a constant; if the constant is a text, no `&` is shown
 abbrev pub reference_by : List ℕ → Option (List ℕ) → List Part × List ℕ
 reference_by bytes (Some after) = (Read leaf.Text ∷ [], after)
 reference_by bytes None = (say word.Ampersand ∷ Deep kind.Value ∷ [], bytes)
@@ -151,7 +151,8 @@ value_parts again b bytes =
     else if b == 66 then Some (Back again ∷ [], bytes)
     else None
 
--- the constants that stand in braces among generic arguments; an `R` reference only if it leads to no text
+-- whether a constant among generic arguments is shown in braces; a reference (R) is, unless it
+-- leads to a text
 abbrev pub is_none : Option (List ℕ) → Bool
 is_none None = true
 is_none (Some bytes) = false
@@ -165,7 +166,8 @@ braced found = option_map (λ x. (say word.OpenBrace ∷ x.0 ++ say word.CloseBr
 unfoldable pub constant_parts : ℕ → List ℕ → Option (List Part × List ℕ)
 constant_parts b bytes = if is_braced b bytes then braced (value_parts kind.Constant b bytes) else value_parts kind.Constant b bytes
 
--- what a level of nesting is made of; `b` is its first byte
+-- the parts of a level of nesting, whose first byte is `b`: a path, a type that is not basic, or a
+-- constant
 unfoldable pub deep_by : Kind → List ℕ → ℕ → List ℕ → Option (List Part × List ℕ)
 deep_by kind.Path whole b bytes = path_parts kind.Path word.Less b bytes
 deep_by kind.ValuePath whole b bytes = path_parts kind.ValuePath word.Turbofish b bytes
@@ -177,12 +179,14 @@ deep_by kind.Value whole b bytes = value_parts kind.Value b bytes
 unfoldable pub deep_parts : Kind → List ℕ → Option (List Part × List ℕ)
 deep_parts k bytes = option_and_then (λ x. deep_by k bytes x.0 x.1) (front bytes)
 
--- what is read at the place of a backreference: for a type any type, basic or not
+-- what is read at the place to which a backreference leads: what the backreference stands for; for
+-- a type it may also be a basic type
 abbrev pub target : Kind → Part
 target kind.Type = any_type
 target k = Deep k
 
--- <backref>: a place before its own `B`, counted from the first byte after `_R`. What stands there is read again, unless nothing is shown.
+-- <backref>: a place before its own `B`, counted from the first byte after `_R`. What is at that
+-- place is read again, unless nothing is shown.
 abbrev pub back_by : ℕ → Kind → Bool → List ℕ → ℕ × List ℕ → Option (List Part × List ℕ)
 back_by size k visible bytes x =
     if not (nat_lt (x.0 + 1 + length bytes) size) then None
@@ -212,12 +216,12 @@ item_parts item.Component = Deep kind.Value ∷ []
 item_parts item.Field = Read leaf.Disambiguator ∷ Read leaf.Identifier ∷ say word.FieldColon ∷ Deep kind.Value ∷ []
 item_parts item.Bound = Deep kind.TraitPath ∷ Made phrase.Bindings ∷ []
 
--- what stands between two items
+-- what is shown between two items
 abbrev pub separator : Item → Word
 separator item.Bound = word.Plus
 separator i = word.CommaSpace
 
--- what stands after the last item: in a tuple of one a comma
+-- what is shown after the last item: a comma in a tuple of one item, otherwise nothing
 unfoldable pub ending : Item → Count → List Part
 ending item.Member One = sign 44 ∷ []
 ending item.Component One = sign 44 ∷ []
@@ -250,7 +254,8 @@ argument_by bytes None = Some (argument_else bytes (eat 75 bytes))
 unfoldable pub argument_parts : List ℕ → Option (List Part × List ℕ)
 argument_parts bytes = argument_by bytes (eat 76 bytes)
 
--- <dyn-trait-assoc-binding>: `<` stands before the first if the trait's arguments are not open, and open arguments end with `>`
+-- <dyn-trait-assoc-binding>: a binding follows `, ` if the trait's arguments are open, and opens
+-- them with `<` if not. After the last binding, open arguments end with `>`
 abbrev pub binding_opening : Bool → Word
 binding_opening opened = if opened then word.CommaSpace else word.Less
 
@@ -264,7 +269,8 @@ bindings_by opened bytes None = (bindings_end opened, bytes)
 unfoldable pub bindings_parts : Bool → List ℕ → List Part × List ℕ
 bindings_parts opened bytes = bindings_by opened bytes (eat 112 bytes)
 
--- the name of a nested path: it has a number if the namespace is in upper case, and otherwise shows nothing if the identifier is empty
+-- the name of a nested path. In a namespace in upper case it is shown with its number. In another
+-- namespace an empty identifier shows nothing
 abbrev pub space_part : ℕ → Part
 space_part space = if space == 67 then say word.Closure else if space == 83 then say word.Shim else Read (leaf.Letter space)
 
@@ -310,7 +316,8 @@ convention_by bytes None = ([], bytes)
 unfoldable pub convention_parts : List ℕ → List Part × List ℕ
 convention_parts bytes = convention_by bytes (eat 75 bytes)
 
--- the fields of a value: U has none, T has them like a tuple, S with names
+-- the fields of a value: U means that there are none, T that they are shown like a tuple, and S
+-- that they have names
 abbrev pub fields_by : ℕ × List ℕ → Option (List Part × List ℕ)
 fields_by x =
     if x.0 == 85 then Some ([], x.1)
@@ -337,7 +344,8 @@ returned_by bytes None = (say word.Arrow ∷ any_type ∷ [], bytes)
 unfoldable pub returned_parts : List ℕ → List Part × List ℕ
 returned_parts bytes = returned_by bytes (eat 117 bytes)
 
--- what a symbol within a level is made of; `opened` is whether the last trait's generic arguments are open
+-- the parts of a symbol within a level; `opened` says whether the last trait's generic arguments
+-- are open
 unfoldable pub phrase_parts : Phrase → Bool → List ℕ → Option (List Part × List ℕ)
 phrase_parts phrase.AnyType opened bytes = any_type_parts bytes
 phrase_parts (phrase.Items i n) opened bytes = Some (items_parts i n bytes)
@@ -353,7 +361,8 @@ phrase_parts phrase.Returned opened bytes = Some (returned_parts bytes)
 phrase_parts phrase.Fields opened bytes = fields_parts bytes
 phrase_parts phrase.Sign opened bytes = Some (part_after 110 (sign 45) bytes)
 
--- the scope within a binder of `n` lifetimes: they are counted if they are shown (2^64 could not be shown)
+-- the scope within a binder of `n` lifetimes. If they are shown, they are counted, and their count
+-- must stay below 2^64
 abbrev pub bound_in : Scope → ℕ → Option Scope
 bound_in scope n = if scope.visible then (if nat_lt (scope.bound + n) (2 ^ 64) then Some (record scope { bound = scope.bound + n }) else None) else Some scope
 
@@ -378,7 +387,7 @@ begins_path (Some x) = nat_le 65 x.0 && nat_le x.0 90
 abbrev pub function_parts : List Part
 function_parts = Made phrase.Unsafety ∷ Made phrase.Convention ∷ say word.Fn ∷ list_of item.Parameter ∷ say word.CloseParenthesis ∷ Made phrase.Returned ∷ []
 
--- what a symbol with a scope of its own is made of
+-- the parts of a symbol with a scope of its own
 unfoldable pub inner_parts : Inner → Scope → List ℕ → Option (List Part × Scope × List ℕ)
 inner_parts inner.ImplPath scope bytes = Some (Deep kind.Path ∷ [], hidden scope, bytes)
 inner_parts inner.Instance scope bytes = if begins_path (front bytes) then Some (Deep kind.Path ∷ [], hidden scope, bytes) else Some ([], scope, bytes)

@@ -40,12 +40,13 @@ punycode_digits bytes = after_last (λ b. b == 95) bytes
 abbrev pub punycode_plain : List ℕ → List ℕ
 punycode_plain bytes = before_last (λ b. b == 95) bytes
 
--- a marked identifier has one or more digits of Punycode
+-- an identifier that is marked must have one or more digits of Punycode, and nothing else after the
+-- last `_`
 abbrev pub is_well_marked : Bool → List ℕ → Bool
 is_well_marked false bytes = true
 is_well_marked true bytes = nat_lt 0 (length (punycode_digits bytes)) && list_all is_punycode_digit (punycode_digits bytes)
 
--- bytes that may be an identifier
+-- whether bytes may be an identifier
 unfoldable pub is_identifier : Bool → List ℕ → Bool
 is_identifier marked bytes = list_all is_identifier_byte bytes && is_well_marked marked bytes
 
@@ -68,11 +69,13 @@ identifier bytes = identifier_by bytes (eat 117 bytes)
 abbrev pub hyphened : List ℕ → List ℕ
 hyphened bytes = if length (punycode_plain bytes) == 0 then punycode_digits bytes else punycode_plain bytes ++ 45 ∷ punycode_digits bytes
 
--- The characters that Punycode stands for, in UTF-8 (for 2^32 bytes of it they would not fit into a text).
+-- The characters that Punycode stands for, in UTF-8. Punycode of 2^32 bytes or more stands for none
+-- here; its characters would not fit into a text.
 abbrev pub decoded : List ℕ → Option (List ℕ)
 decoded input = if nat_lt (length input) (2 ^ 32) then option_map encode_utf8_all (decode input) else None
 
--- what an identifier shows: its bytes, or the characters of its Punycode; Punycode that is no UTF-8 stands for none
+-- what an identifier shows: its bytes, or the characters of its Punycode; Punycode that is not
+-- UTF-8 shows nothing
 unfoldable pub identifier_text : Bool → List ℕ → Option (List ℕ)
 identifier_text false bytes = Some bytes
 identifier_text true bytes = if is_utf8 (hyphened bytes) then decoded (hyphened bytes) else None

@@ -9,7 +9,8 @@ use Rattle.rust_names.specs.V0Identifiers.{identifier, identifier_text, dashed}
 use Rattle.rust_names.specs.V0Texts.{say, lifetime_text, for_all_text, integer_text, boolean_by, character_by, bytes_of, string_by}
 use Rattle.rust_names.specs.V0Words.{word_text}
 
--- an identifier; a calling convention, not empty and not marked
+-- an identifier, and the name of a calling convention, which is an identifier that is neither empty
+-- nor marked
 abbrev pub named_by : Bool × List ℕ × List ℕ → Option (Option (List ℕ) × List ℕ)
 named_by x = Some (identifier_text x.0 x.1, x.2)
 
@@ -26,7 +27,8 @@ abbrev pub is_end : List ℕ → Bool
 is_end [] = true
 is_end (b ∷ bytes) = b == 46
 
--- if bytes begin with the leaf: what it shows, if that can be shown, and the bytes after it
+-- what a leaf at the start of the bytes shows, if that can be shown, and the bytes after the leaf;
+-- `None` if the bytes do not begin with the leaf
 unfoldable pub leaf_of : Leaf → ℕ → List ℕ → Option (Option (List ℕ) × List ℕ)
 leaf_of (leaf.Say word) bound bytes = Some (Some (word_text word), bytes)
 leaf_of (leaf.Letter b) bound bytes = Some (Some (b ∷ []), bytes)

@@ -27,8 +27,9 @@ all read (part ∷ parts) state = option_and_then (all read parts) (read part st
 abbrev pub after_leaf : State → List ℕ × List ℕ → State
 after_leaf state x = record state { rest = x.0; text = x.1 }
 
--- Reads a part within a level; `down` reads a part that is a level itself. Symbols within a level nest at most `width` deep. A list is an item and
--- the list after it, so they nest no deeper than the name has bytes, and a few more.
+-- Reads a part within a level; `down` reads a part that is a level itself. Symbols within a level
+-- nest at most `width` deep. A list is an item and the list after it, so the symbols nest no deeper
+-- than about as many levels as the name has bytes.
 abbrev pub read_within : (Part → Scope → State → Option State) → List ℕ → ℕ → Scope → Part → State → Option State
 read_within down name width scope (Deep k) state = down (Deep k) scope state
 read_within down name width scope (Back k) state = down (Back k) scope state

@@ -31,7 +31,8 @@ abbrev pub next_62 : ℕ → Option ℕ → Option ℕ
 next_62 value None = None
 next_62 value (Some digit) = below_64 (value * 62 + digit)
 
--- digits up to `_`, after digits of the value `value`: one more than all these digits write, and the bytes after the `_`
+-- the digits up to `_`, where the digits before them have the value `value`: one more than the
+-- value of all these digits, and the bytes after the `_`
 unfoldable pub base_62_from : ℕ → List ℕ → Option (ℕ × List ℕ)
 base_62_from value [] = None
 base_62_from value (b ∷ bytes) = elim (b == 95) [
@@ -39,7 +40,7 @@ base_62_from value (b ∷ bytes) = elim (b == 95) [
   | false ↦ option_and_then (λ more. base_62_from more bytes) (next_62 value (base_62_digit b))
 ]
 
--- <base-62-number>: `_` is 0, and digits and `_` are one more than the digits write
+-- <base-62-number>: `_` alone is 0; digits and `_` are one more than the value of the digits
 abbrev pub base_62_by : List ℕ → Option (List ℕ) → Option (ℕ × List ℕ)
 base_62_by bytes (Some after) = Some (0, after)
 base_62_by bytes None = base_62_from 0 bytes

@@ -13,7 +13,7 @@ say text more = if nat_le (length (text ++ more)) 65536 then Some (text ++ more)
 abbrev pub lifetime_name : ℕ → List ℕ
 lifetime_name depth = if nat_lt depth 26 then 39 ∷ (97 + depth) ∷ [] else codes "'_" ++ decimal depth
 
--- <lifetime>: 0 is `'_`, and 1 is the innermost of the bound ones
+-- the text of a <lifetime>: number 0 is `'_`, and number 1 is the innermost bound lifetime
 abbrev pub lifetime_text : ℕ → ℕ → Option (List ℕ)
 lifetime_text bound n =
     if n == 0 then Some (codes "'_")
@@ -28,7 +28,7 @@ abbrev pub lifetimes_from : ℕ → ℕ → List ℕ
 lifetimes_from zero depth = []
 lifetimes_from (suc n) depth = next_lifetime depth ++ lifetimes_from n (depth + 1)
 
--- the lifetimes bound last, given their number
+-- the `for<..>` of the lifetimes that were bound last, given how many they are
 abbrev pub for_all_text : ℕ → ℕ → List ℕ
 for_all_text bound zero = []
 for_all_text bound (suc n) = codes "for<" ++ lifetime_name (bound - (n + 1)) ++ lifetimes_from n (bound - n) ++ codes "> "
@@ -73,7 +73,7 @@ abbrev pub character_by : Option ℕ → Option (List ℕ)
 character_by None = None
 character_by (Some c) = if is_scalar c then Some (quoted 39 (c ∷ [])) else None
 
--- the bytes that digits write, two digits each
+-- the bytes that hexadecimal digits write, two digits for each byte
 abbrev pub byte_by : Option ℕ → Option ℕ → Option (List ℕ) → Option (List ℕ)
 byte_by (Some high) (Some low) (Some later) = Some ((high * 16 + low) ∷ later)
 byte_by high low later = None

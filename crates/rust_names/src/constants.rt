@@ -1,5 +1,7 @@
-//! Constants of v0 names that are given by a value: integers, `bool` and `char`. Backreferences may lead to the same constant many times. If it has
-//! many digits, it is read once and then known by its place: only leading zeros are read without being shown.
+//! Constants of v0 names that are given by a value: integers, `bool` and `char`. Backreferences may
+//! lead to the same constant many times. If it has many digits, it is read once and then known by
+//! its place. Leading zeros are read without adding to the text, so the limit of the text does not
+//! bound them.
 ghost use Rattle.std.specs.Prelude.{◌≡◌, ◌<◌, [], ◌∷◌, length, take, true, None, IfOk, OnOk, IfSome, MatchOption};
 ghost use Rattle.std.specs.Option.{option_map};
 ghost use Rattle.std.specs.Ordering.{nat_cmp};
@@ -16,7 +18,7 @@ use crate::texts::{add_integer, add_quoted, after_if, character, show};
 use std::collections::BTreeMap;
 use sym_edges::OutOfMemory;
 
-/// The number of digits up to which a constant is read anew each time.
+/// A constant of at most this many digits is read anew each time.
 const SHORT: usize = 64;
 
 /// What is known of a constant.
@@ -28,7 +30,7 @@ pub struct Constant {
     pub value: Option<u64>,
 }
 
-/// The constant with whose digits bytes begin.
+/// The constant at the start of the bytes.
 pub(crate) fn constant_of(bytes: &[u8]) -> Option<Constant>
     ensures { MatchOption result (hex_digits bytes.now ≡ None) (IsConstant bytes.now) }
 {
@@ -51,7 +53,8 @@ fn find(known: &BTreeMap<u64, Constant>, place: usize) -> Option<Constant>
     }
 }
 
-/// The constant whose digits stand at a place of a name. If it has many digits, it is known from then on.
+/// The constant whose digits are at a place of a name. If it has many digits, it is known from then
+/// on.
 #[tactic(auto, using(crate::proofs::EndLemmas::shorter))]
 pub(crate) fn constant_at(
     known: &mut BTreeMap<u64, Constant>,
@@ -76,7 +79,7 @@ pub(crate) fn constant_at(
     Ok(Some(constant))
 }
 
-/// Whether a leaf is a constant given by a value.
+/// Whether a leaf is a constant that is given by a value.
 pub(crate) fn is_constant(leaf: Leaf) -> bool
     ensures { result ≡ is_constant leaf }
 {
@@ -97,7 +100,7 @@ fn boolean(value: Option<u64>) -> Option<&'static [u8]>
     }
 }
 
-/// The character of a code.
+/// The character with a code.
 fn character_of(code: Option<u64>) -> Option<char>
     ensures { shows.character_by code ≡ option_map (λ c. shows.quoted 39 (c ∷ [])) result }
 {

@@ -12,7 +12,7 @@ use crate::productions::{back_parts, deep_parts, list_of, push, push_parts, say}
 use crate::words::Word;
 use sym_edges::OutOfMemory;
 
-/// The scope of what a binder binds lifetimes in.
+/// The scope of the parts in which a binder binds this many lifetimes.
 fn bound_in(scope: Scope, count: u64) -> Option<Scope>
     ensures { result ≡ v0.bound_in scope count }
 {
@@ -28,7 +28,7 @@ fn bound_in(scope: Scope, count: u64) -> Option<Scope>
     }
 }
 
-/// Whether a path begins.
+/// Whether the bytes begin a path.
 fn begins_path(bytes: &[u8]) -> bool
     ensures { result ≡ v0.begins_path (number.front bytes.now) }
 {
@@ -38,7 +38,7 @@ fn begins_path(bytes: &[u8]) -> bool
     }
 }
 
-/// How parts nest if they are not shown.
+/// The same nesting for parts that are not shown.
 fn hidden(nest: &Nest) -> Nest
     ensures { result ≡ record nest.now { scope = v0.hidden nest.now.scope } }
 {
@@ -52,7 +52,7 @@ fn hidden(nest: &Nest) -> Nest
     }
 }
 
-/// A binder, and parts within it.
+/// Puts the parts that are within a binder onto the stack, and before them the binder's lifetimes.
 #[tactic(auto, unfolding(crate::specs::V0Grammar::binder_parts), using(crate::proofs::FrameLemmas::onto_both))]
 fn binder_parts<'a>(
     stack: &mut Vec<Frame>,
@@ -137,7 +137,8 @@ fn level_parts<'a>(
     }
 }
 
-/// Puts the frames that a level is made of onto the stack, and returns the bytes after its first ones.
+/// Puts the frames that a level is made of onto the stack, and returns the bytes at which they
+/// begin.
 #[tactic(auto, using(crate::proofs::FrameLemmas::level_over, crate::proofs::FrameLemmas::level_none, crate::proofs::FrameLemmas::level_some))]
 #[inline(always)]
 fn expand_level<'a>(
@@ -163,7 +164,8 @@ fn expand_level<'a>(
     }
 }
 
-/// The same for a symbol within a level.
+/// Puts the frames that a symbol within a level is made of onto the stack, and returns the bytes at
+/// which they begin.
 #[tactic(auto, using(crate::proofs::FrameLemmas::phrase_over, crate::proofs::FrameLemmas::phrase_none, crate::proofs::FrameLemmas::phrase_some))]
 #[inline(always)]
 fn expand_phrase<'a>(
@@ -189,7 +191,8 @@ fn expand_phrase<'a>(
     }
 }
 
-/// The same for a symbol with a scope of its own.
+/// Puts the frames that a symbol with a scope of its own is made of onto the stack, and returns the
+/// bytes at which they begin.
 #[tactic(auto, using(crate::proofs::FrameLemmas::inner_over, crate::proofs::FrameLemmas::inner_none, crate::proofs::FrameLemmas::inner_some))]
 #[inline(always)]
 fn expand_inner<'a>(
@@ -214,7 +217,8 @@ fn expand_inner<'a>(
     }
 }
 
-/// Puts the frames that a frame is made of onto the stack, and returns the bytes after its first ones.
+/// Puts the frames that a frame is made of onto the stack, and returns the bytes at which they
+/// begin.
 #[tactic(auto, unfolding(crate::specs::internal::Running::expand))]
 #[inline(always)]
 pub(crate) fn expand<'a>(

@@ -92,15 +92,15 @@ pub enum Inner {
 /// A symbol that is made of bytes alone.
 #[derive(Clone, Copy)]
 pub enum Leaf {
-    /// No bytes, and a word.
+    /// A word; no bytes are read.
     Say(Word),
-    /// No bytes, and a letter.
+    /// A letter; no bytes are read.
     Letter(u8),
-    /// No bytes, and a number.
+    /// A number; no bytes are read.
     Index(u64),
-    /// No bytes, and a lifetime.
+    /// A lifetime; no bytes are read.
     Lifetime(u64),
-    /// No bytes, and this many of the lifetimes bound last.
+    /// The `for<..>` of this many lifetimes, those that were bound last; no bytes are read.
     ForAll(u64),
     /// A disambiguator, which is not shown.
     Disambiguator,
@@ -130,7 +130,7 @@ pub enum Part {
     Phrase(Phrase),
     Inner(Inner),
     Leaf(Leaf),
-    /// What follows is read from this place on.
+    /// The parts after this one are read from this place on.
     Goto(usize),
     /// Whether the arguments of the last trait are open.
     Opened(bool),
@@ -152,7 +152,7 @@ pub struct Frame {
     pub width: usize,
 }
 
-/// How parts nest in a frame.
+/// How parts may nest in a frame.
 #[derive(Clone, Copy)]
 pub struct Nest {
     pub scope: Scope,

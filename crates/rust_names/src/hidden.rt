@@ -1,5 +1,6 @@
-//! Paths of v0 names that are not shown: the paths of impls. Backreferences may lead to the same path many times, and to other places of its lists.
-//! Once such paths have taken a few times as many bytes as the name has, each part is read only once.
+//! Paths of v0 names that are not shown: the paths of impls. Backreferences may lead to the same
+//! path many times, and also into the middle of its lists. Once such paths have taken a few times
+//! as many bytes as the name has, each part is read only once.
 ghost use Rattle.std.specs.Prelude.{◌≡◌, ℕ, true, List, IfOk, OnOk, IfSome};
 ghost use Rattle.std.specs.Option.{option_map};
 ghost use Rattle.rust_names.specs.declared.grammar.Kind.TheVariants as kind;
@@ -15,17 +16,17 @@ use crate::turns::{Room, from_place, read_frames};
 use std::alloc::Global;
 use sym_edges::OutOfMemory;
 
-/// How many times the bytes of a name are read anew.
+/// Steps are used after more bytes were read anew than about this many times the name's length.
 const TIMES: usize = 4;
 
-/// What is still to be read, and whether the last trait's arguments are left open.
+/// The bytes that are left, and whether the last trait's arguments are left open.
 #[derive(Clone, Copy)]
 pub(crate) struct Ahead<'a> {
     pub(crate) rest: &'a [u8],
     pub(crate) opened: bool,
 }
 
-/// Room for the paths of a name that are not shown.
+/// Memory for the paths of a name that are not shown.
 #[derive(Drop)]
 pub(crate) struct HiddenPaths {
     parts: HiddenParts,
@@ -84,7 +85,7 @@ fn read_hidden<'a>(
     }
 }
 
-/// Passes a path by steps. Returns none if it is no path, and may do so if it is one.
+/// Passes a path by steps. Returns `None` if there is no path; it may also do so if there is one.
 #[tactic(auto, using(crate::proofs::EndLemmas::shorter))]
 fn pass_steps<'a>(
     alloc: Global,

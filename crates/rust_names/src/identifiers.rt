@@ -27,7 +27,8 @@ fn is_identifier_byte(b: u8) -> bool
     (b'0' <= b && b <= b'9') || (b'A' <= b && b <= b'Z') || b == b'_'
 }
 
-/// Whether many bytes are letters, digits and `_`. All are looked at, since a loop without an early exit handles many at once.
+/// Whether many bytes are letters, digits and `_`. All are looked at, since a loop without an early
+/// exit can be vectorized.
 #[inline(never)]
 fn are_many_identifier_bytes(bytes: &[u8]) -> bool
     ensures { result ≡ list_all v0.is_identifier_byte bytes.now }
@@ -99,7 +100,7 @@ fn is_identifier(marked: bool, bytes: &[u8]) -> bool
     !digits.is_empty() && are_punycode_digits(digits)
 }
 
-/// A length of one digit, as most are. May return none although there is a length.
+/// A length of one digit; most lengths have only one. May return `None` although there is a length.
 #[tactic(auto, using(crate::proofs::IdentifierLemmas::one_digit_length))]
 #[inline(always)]
 fn short_length(bytes: &[u8]) -> Option<usize>
@@ -208,7 +209,7 @@ fn hyphened(alloc: Global, bytes: &[u8]) -> Result<Vec<u8>, OutOfMemory>
     Ok(text)
 }
 
-/// Adds the characters that Punycode stands for; false if it stands for none.
+/// Adds the characters that Punycode stands for; returns false if it stands for none.
 fn add_decoded(alloc: Global, text: &mut Vec<u8>, input: &str) -> Result<bool, OutOfMemory>
     ensures { IfOk result (λ said. shown_on true text.old.items (v0.decoded input.now) ≡ kept said text.new.items) }
 {
@@ -222,7 +223,7 @@ fn add_decoded(alloc: Global, text: &mut Vec<u8>, input: &str) -> Result<bool, O
     }
 }
 
-/// Adds what an identifier shows; false if that cannot be shown.
+/// Adds what an identifier shows; returns false if that cannot be shown.
 #[tactic(auto, unfolding(crate::specs::V0Identifiers::identifier_text))]
 #[inline(always)]
 pub(crate) fn add_identifier(

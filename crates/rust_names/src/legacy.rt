@@ -10,7 +10,7 @@ use std::alloc::Global;
 use sym_edges::OutOfMemory;
 use sym_records::ByteText;
 
-/// The most bytes that a name has.
+/// How many bytes a name may have at most.
 const NAME_LIMIT: usize = 65_536;
 
 fn are_low_hex(bytes: &[u8]) -> bool
@@ -31,7 +31,7 @@ fn is_tail(bytes: &[u8]) -> bool
     are_low_hex(bytes.split_at(3).1.split_at(16).0)
 }
 
-/// What stands between `_ZN` and the hash.
+/// The bytes between `_ZN` and the hash.
 #[tactic(auto, unfolding(crate::specs::internal::Reading::middle_of))]
 fn middle_of(name: &[u8]) -> Option<&[u8]>
     ensures { option_copied result ≡ middle_of name.now }

@@ -11,7 +11,7 @@ use std::alloc::Global;
 use sym_edges::OutOfMemory;
 use sym_records::ByteText;
 
-/// The bytes as a name of their own.
+/// A copy of the bytes, as a name.
 fn name_of(alloc: Global, bytes: &[u8]) -> Result<ByteText, OutOfMemory>
     ensures { IfOk result (λ text. text ≡ bytes.now) }
 {
@@ -48,7 +48,7 @@ pub fn shown(alloc: Global, name: &[u8]) -> Result<Option<ByteText>, OutOfMemory
     Ok(text)
 }
 
-/// Puts what a name shows in its place.
+/// Replaces a name by what it shows, if it shows anything.
 #[tactic(auto, unfolding(crate::specs::Named::named))]
 pub(crate) fn show_name(
     alloc: Global,

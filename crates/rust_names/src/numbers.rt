@@ -63,7 +63,7 @@ fn below_64(number: u128) -> Option<u64>
     None
 }
 
-/// One more, if that fits.
+/// The number plus one, if that is below 2^64.
 fn raise(number: u64) -> Option<u64>
     ensures { result ≡ below_64 (number + 1) }
 {
@@ -85,7 +85,8 @@ fn next_62(value: u64, b: u8) -> Option<u64>
     }
 }
 
-/// Whether all bytes are zeros. All are looked at, since a loop without an early exit handles many at once.
+/// Whether all bytes are zeros. All are looked at, since a loop without an early exit can be
+/// vectorized.
 #[inline(always)]
 fn are_zeros(bytes: &[u8]) -> bool
     ensures { result ≡ list_all (λ b. b == 48) bytes.now }
@@ -97,7 +98,7 @@ fn are_zeros(bytes: &[u8]) -> bool
     zeros
 }
 
-/// The digits without many leading zeros.
+/// The digits without their leading zeros, if these are many.
 #[inline(always)]
 fn without_zeros(bytes: &[u8]) -> &[u8]
     ensures same { base_62_from 0 result.now ≡ base_62_from 0 bytes.now }
@@ -193,7 +194,7 @@ pub(crate) fn hex_digit(b: u8) -> Option<u8>
     }
 }
 
-/// How many hexadecimal digits stand before a `_`.
+/// How many hexadecimal digits come before a `_`.
 pub(crate) fn count_hex(bytes: &[u8]) -> Option<usize>
     ensures digits { option_map (λ n. (take n bytes.now, drop (n + 1) bytes.now)) result ≡ hex_digits bytes.now }
     ensures within { IfSome result (λ n. n < length bytes.now) }

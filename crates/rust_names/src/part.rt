@@ -15,7 +15,7 @@ pub(crate) fn is_digit(b: u8) -> bool
     b'0' <= b && b <= b'9'
 }
 
-/// How many digits bytes begin with.
+/// How many decimal digits there are at the start of the bytes.
 #[tactic(auto, using(crate::proofs::DigitLemmas::digits_stop, crate::proofs::DigitLemmas::digits_more, crate::proofs::DigitLemmas::digits_end))]
 #[inline(always)]
 pub(crate) fn count_digits(bytes: &[u8]) -> usize
@@ -80,7 +80,7 @@ fn undashed(bytes: &[u8]) -> &[u8]
     bytes
 }
 
-/// Whether a byte stands for itself, whatever follows.
+/// Whether a byte stands for itself, whatever follows it.
 #[inline]
 fn is_plain(b: u8) -> bool
     ensures { result ≡ is_plain b }
@@ -88,7 +88,7 @@ fn is_plain(b: u8) -> bool
     b'!' <= b && b <= b'~' && b != b'$' && b != b'.'
 }
 
-/// How many such bytes come first.
+/// How many bytes at the start stand for themselves, whatever follows them.
 #[tactic(auto, using(crate::proofs::PieceLemmas::plain_front))]
 fn count_plain(bytes: &[u8]) -> usize
     ensures within { result ≤ length bytes.now }
@@ -102,7 +102,7 @@ fn count_plain(bytes: &[u8]) -> usize
     bytes.len()
 }
 
-/// Adds what bytes show; false if they are no pieces.
+/// Adds what bytes show as pieces; returns false if they are no pieces.
 fn add_pieces(text: &mut Vec<u8>, bytes: &[u8]) -> Result<bool, OutOfMemory>
     ensures { IfOk result (λ added. option_map (λ t. text.old.items ++ t) (pieces_text bytes.now) ≡ kept added text.new.items) }
 {
@@ -124,7 +124,7 @@ fn add_pieces(text: &mut Vec<u8>, bytes: &[u8]) -> Result<bool, OutOfMemory>
     Ok(true)
 }
 
-/// Adds what the bytes of parts show, each after `::`; false if they are no parts.
+/// Adds what bytes show as parts, with `::` before each; returns false if they are no parts.
 fn add_later_parts(text: &mut Vec<u8>, bytes: &[u8]) -> Result<bool, OutOfMemory>
     ensures { IfOk result (λ added. option_map (λ t. text.old.items ++ t) (later_text bytes.now) ≡ kept added text.new.items) }
 {
@@ -144,7 +144,8 @@ fn add_later_parts(text: &mut Vec<u8>, bytes: &[u8]) -> Result<bool, OutOfMemory
     Ok(true)
 }
 
-/// Adds what the bytes of one or more parts show, with `::` between them; false if they are no parts.
+/// Adds what bytes show as one or more parts, with `::` between them; returns false if they are no
+/// parts.
 pub(crate) fn add_parts(text: &mut Vec<u8>, bytes: &[u8]) -> Result<bool, OutOfMemory>
     ensures { IfOk result (λ added. option_map (λ t. text.old.items ++ t) (parts_text bytes.now) ≡ kept added text.new.items) }
 {

@@ -1,5 +1,6 @@
-//! Parts of v0 names that are not shown. Each is read only once, by steps on a stack. A part that was read is then known by its place, with how many
-//! levels and symbols are enough for it.
+//! Parts of v0 names that are not shown. Each is read only once, by steps on a stack. A part that
+//! was read is then known by its place, with the numbers of levels and symbols that are enough to
+//! read it.
 ghost use Rattle.std.specs.Prelude.{◌≡◌, ◌≤◌, ◌<◌, ◌∷◌, ◌++◌, ◌^◌, [], ℕ, true, false, reverse, map, IfOk, OnOk, IfSome};
 ghost use Rattle.std.specs.Ordering.{nat_cmp};
 ghost use Rattle.std.specs.BTreeMap.{get};
@@ -19,7 +20,7 @@ use std::alloc::Global;
 use std::collections::BTreeMap;
 use sym_edges::OutOfMemory;
 
-/// The length in bytes up to which a part is read anew each time.
+/// A part of at most this many bytes is read anew each time.
 const SHORT: usize = 64;
 
 /// How far a name is read.
@@ -50,7 +51,7 @@ pub enum Step {
     End(Begun),
 }
 
-/// Room for the parts of a name that are not shown.
+/// Memory for the parts of a name that are not shown.
 #[derive(Drop)]
 pub(crate) struct HiddenParts {
     pub(crate) room: Room,
@@ -70,7 +71,7 @@ impl HiddenParts {
     }
 }
 
-/// The number of a kind of level.
+/// The number that stands for a kind of level.
 fn level_code(kind: Kind) -> u64
     ensures coded { coded result ≡ Deep kind }
     ensures small { result < 16 }
@@ -85,7 +86,7 @@ fn level_code(kind: Kind) -> u64
     }
 }
 
-/// The number of the later items of a list.
+/// The number that stands for the items of a list after two or more items.
 fn list_code(item: Item) -> u64
     ensures coded { coded result ≡ Made (phrase.Items item Many) }
     ensures small { result < 16 }
@@ -101,7 +102,7 @@ fn list_code(item: Item) -> u64
     }
 }
 
-/// The number of a part that may be long.
+/// The number that stands for a part, if parts of its kind may be long.
 fn code(part: Part) -> Option<u64>
     ensures coded { IfSome result (λ k. coded k ≡ part) }
     ensures small { IfSome result (λ k. k < 16) }
@@ -114,7 +115,8 @@ fn code(part: Part) -> Option<u64>
     }
 }
 
-/// What a part is known by: its place, its number, and whether the last trait's arguments are open before it.
+/// The key of what is known of a part: its place, its number, and whether the last trait's
+/// arguments are open before it.
 fn key(place: usize, code: u64, opened: bool) -> u64
     requires place { place < 2 ^ 58 }
     requires code { code < 16 }
@@ -164,7 +166,7 @@ fn keep(
     }
 }
 
-/// How far two parts reach, if one follows the other.
+/// The outcome of reading two parts, one after the other.
 fn joined(now: Reached, end: Reached) -> Reached
     ensures { IsJoined now end result }
 {
@@ -207,7 +209,7 @@ fn ended(name: &[u8], begun: Begun, now: Reached) -> Option<Reached>
     }
 }
 
-/// Puts the reading of frames onto a stack.
+/// Puts steps onto a stack that read the parts of these frames.
 fn push_reads(steps: &mut Vec<Step>, frames: &[Frame]) -> Result<(), OutOfMemory>
     ensures { OnOk result (steps.new.items ≡ steps.old.items ++ map read_of frames.now) }
 {
@@ -217,7 +219,7 @@ fn push_reads(steps: &mut Vec<Step>, frames: &[Frame]) -> Result<(), OutOfMemory
     Ok(())
 }
 
-/// Begins to read a part by the parts that it is made of.
+/// Begins to read a part that is made of others: puts the steps for these onto the stack.
 fn begin(
     stack: &mut Vec<Frame>,
     steps: &mut Vec<Step>,
@@ -259,7 +261,7 @@ fn begin(
     }
 }
 
-/// Reads a part by itself.
+/// Reads a part that is not made of others.
 fn read_one(
     alloc: Global,
     room: &mut Room,
@@ -295,7 +297,7 @@ fn read_one(
     }
 }
 
-/// Does a step.
+/// Does one step.
 fn do_step(
     alloc: Global,
     hidden: &mut HiddenParts,
@@ -334,7 +336,8 @@ fn do_step(
     }
 }
 
-/// Passes a part that is not shown. Returns none if it is no such part, and may do so if it is one.
+/// Passes a part that is not shown. Returns `None` if there is no such part; it may also do so if
+/// there is one.
 pub(crate) fn pass_part(
     alloc: Global,
     hidden: &mut HiddenParts,

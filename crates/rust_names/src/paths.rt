@@ -28,7 +28,7 @@ fn is_path(part: Part) -> bool
     }
 }
 
-/// Whether a part is any type.
+/// Whether a part is a type of any kind.
 #[inline(always)]
 fn is_any_type(part: Part) -> bool
     ensures { result ≡ true → part ≡ Made phrase.AnyType }
@@ -51,7 +51,7 @@ fn is_path_letter(b: u8) -> bool
     }
 }
 
-/// Whether any type is a path.
+/// Whether the type at the start of the bytes is a path.
 #[inline(always)]
 fn begins_path_type(bytes: &[u8]) -> bool
     ensures { result ≡ true → BeginsPathType (front bytes.now) }
@@ -65,7 +65,7 @@ fn begins_path_type(bytes: &[u8]) -> bool
     }
 }
 
-/// Makes a frame of any type that of a path, if it is one.
+/// If a frame is a type and the type is a path, makes it the frame of the path.
 #[inline(always)]
 fn enter_type(frame: &mut Frame, size: usize, bytes: &[u8])
     requires { size < 2 ^ 63 }
@@ -129,7 +129,7 @@ fn nested_front<'a>(frame: Frame, bytes: &'a [u8]) -> Option<(u8, &'a [u8])>
     }
 }
 
-/// The backreference that a path is.
+/// The part of a path, if the path is a backreference.
 #[inline(always)]
 fn back_of(part: Part) -> Part
     ensures { result ≡ back_of part }
@@ -140,7 +140,8 @@ fn back_of(part: Part) -> Part
     }
 }
 
-/// Makes the frame of a path that of a backreference, if it is one. Returns what is left.
+/// If a path is a backreference, makes its frame that of the backreference. Returns the bytes that
+/// are left.
 #[inline(always)]
 fn enter_back<'a>(frame: &mut Frame, size: usize, bytes: &'a [u8]) -> &'a [u8]
     requires { size < 2 ^ 63 }
@@ -157,7 +158,8 @@ fn enter_back<'a>(frame: &mut Frame, size: usize, bytes: &'a [u8]) -> &'a [u8]
     }
 }
 
-/// Enters nested paths, whose names it puts onto the stack, and a backreference. The frame is then the innermost path. Returns what is left.
+/// Enters nested paths and a backreference, and puts the names of the nested paths onto the stack.
+/// The frame is then that of the innermost path. Returns the bytes that are left.
 #[inline(always)]
 pub(crate) fn enter<'a>(
     stack: &mut Vec<Frame>,
@@ -203,7 +205,7 @@ pub(crate) fn read_crate<'a>(
     }
 }
 
-/// A name in a path, after `::` unless it is empty.
+/// Reads a name in a path, and adds it after `::` unless it is empty.
 #[inline(always)]
 fn read_name<'a>(
     alloc: Global,

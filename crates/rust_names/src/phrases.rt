@@ -30,7 +30,7 @@ fn any_type_parts<'a>(
     }
 }
 
-/// Puts the parts of an item onto a stack.
+/// Puts the parts of an item of a list onto a stack.
 #[tactic(auto, unfolding(crate::specs::V0Grammar::item_parts))]
 fn add_item(stack: &mut Vec<Frame>, nest: &Nest, item: Item) -> Result<(), OutOfMemory>
     ensures parts { OnOk result (stack.new.items ≡ onto stack.old.items nest.now (v0.item_parts item)) }
@@ -58,7 +58,7 @@ fn add_item(stack: &mut Vec<Frame>, nest: &Nest, item: Item) -> Result<(), OutOf
     }
 }
 
-/// What stands between two items.
+/// The word that is shown between two items.
 fn separator(item: Item) -> Word
     ensures { result ≡ v0.separator item }
 {
@@ -68,7 +68,7 @@ fn separator(item: Item) -> Word
     }
 }
 
-/// Adds an item and the list after it.
+/// Puts an item, and the list of those after it, onto a stack.
 #[tactic(auto, unfolding(crate::specs::V0Grammar::items_from), using(crate::proofs::FrameLemmas::onto_both))]
 fn add_items(
     stack: &mut Vec<Frame>,
@@ -92,7 +92,7 @@ fn add_items(
     }
 }
 
-/// Adds the comma of a tuple of one.
+/// Puts the comma of a tuple of one item onto a stack.
 #[tactic(auto, unfolding(crate::specs::V0Grammar::ending), using(crate::proofs::FrameLemmas::onto_none))]
 fn add_ending(
     stack: &mut Vec<Frame>,
@@ -156,7 +156,7 @@ fn argument_parts<'a>(
     }
 }
 
-/// What stands before the name of a binding.
+/// The word that is shown before the name of a binding.
 fn binding_opening(opened: bool) -> Word
     ensures { result ≡ v0.binding_opening opened }
 {
@@ -207,7 +207,7 @@ fn space_part(space: u8) -> Part
     }
 }
 
-/// Puts a part onto a stack, unless the identifier is empty.
+/// Puts a part onto a stack, unless the identifier at the start of the bytes is empty.
 #[tactic(auto, using(crate::proofs::FrameLemmas::onto_none))]
 fn add_unless_empty(
     stack: &mut Vec<Frame>,
@@ -385,7 +385,7 @@ fn fields_parts<'a>(
     }
 }
 
-/// A part, if bytes begin with a letter.
+/// A part, if the bytes begin with this letter.
 #[tactic(auto, unfolding(crate::specs::V0Grammar::part_after))]
 fn part_after<'a>(
     stack: &mut Vec<Frame>,

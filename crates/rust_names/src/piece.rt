@@ -101,7 +101,7 @@ fn plain_piece(b: u8) -> Option<Piece>
     None
 }
 
-/// The piece that bytes begin with.
+/// The piece at the start of the bytes.
 #[tactic(auto, using(crate::proofs::FrontLemmas::piece_none, crate::proofs::FrontLemmas::piece_at, crate::proofs::PieceLemmas::piece_within))]
 pub(crate) fn piece_of(bytes: &[u8]) -> Option<Piece>
     ensures piece { result ≡ piece_of bytes.now }

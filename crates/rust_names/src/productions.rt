@@ -180,7 +180,7 @@ fn of_impl<'a>(
     )
 }
 
-/// What stands before the generic arguments of a path.
+/// The word that is shown before the generic arguments of a path.
 fn opening(outer: Kind) -> Word
     ensures { result ≡ opening outer }
 {
@@ -503,7 +503,7 @@ pub(crate) fn deep_parts<'a>(
     }
 }
 
-/// What is read at the place of a backreference.
+/// The part that is read at the place to which a backreference leads.
 fn target(kind: Kind) -> Part
     ensures { result ≡ v0.target kind }
 {
@@ -513,7 +513,7 @@ fn target(kind: Kind) -> Part
     }
 }
 
-/// A backreference: what stands at its place, if that is shown.
+/// A backreference: what is at its place is read, if that is shown.
 #[tactic(auto, unfolding(crate::specs::V0Grammar::back_parts), using(crate::proofs::FrameLemmas::onto_none))]
 #[inline(always)]
 pub(crate) fn back_parts<'a>(

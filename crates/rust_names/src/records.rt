@@ -9,7 +9,7 @@ use std::alloc::Global;
 use sym_edges::OutOfMemory;
 use sym_records::{SymFile, SymLine, file_of_valid};
 
-/// Gives a record the name that its name shows.
+/// Replaces the name of a record by what it shows, if it shows anything.
 fn show_record(alloc: Global, rooms: &mut Rooms, line: &mut SymLine) -> Result<(), OutOfMemory>
     ensures { OnOk result (line.new ≡ renamed named line.old) }
 {
@@ -21,13 +21,14 @@ fn show_record(alloc: Global, rooms: &mut Rooms, line: &mut SymLine) -> Result<(
     }
 }
 
-/// The file in which each `FUNC`, `INLINE_ORIGIN` and `PUBLIC` has what its name shows as its name, if there is one. All else stays, and so does the
-/// order. Allocates memory for the names alone.
+/// The file in which the name of each `FUNC`, `INLINE_ORIGIN` and `PUBLIC` is replaced by what it
+/// shows, if it shows anything. All else stays, and so does the order. Allocates memory for the
+/// names alone.
 pub fn show_all(alloc: Global, file: SymFile) -> Result<SymFile, OutOfMemory>
     ensures shown { IfOk result (λ new. HaveShownNames file new) }
     ensures named { IfOk result (λ new. new ≡ map (renamed named) file) }
 {
-    // `as_slice` says that the records are valid.
+    // The contract of `as_slice` says that the records are valid.
     let count = file.as_slice().len();
     let mut lines = file.into_vec();
     let mut rooms = Rooms::new(alloc);

@@ -17,13 +17,13 @@ use sym_edges::OutOfMemory;
 /// How many levels may nest.
 const MOST_LEVELS: usize = 500;
 
-/// The most bytes that a text has.
+/// How many bytes a text may have at most.
 const TEXT_LIMIT: usize = 65_536;
 
-/// Room for names that are read one after the other.
+/// Memory for names that are read one after the other.
 #[derive(Drop)]
 pub(crate) struct Rooms {
-    /// For what is shown.
+    /// Memory for what is shown.
     pub(crate) shown: Room,
     hidden: HiddenPaths,
 }
@@ -37,7 +37,8 @@ impl Rooms {
     }
 }
 
-/// Reads frames from the top of a stack, and adds what they show; false if they cannot be read. Paths of impls are passed.
+/// Reads frames from the top of a stack, and adds what they show; returns false if they cannot be
+/// read. Paths of impls are read without being shown.
 fn read_shown(alloc: Global, rooms: &mut Rooms, name: &[u8]) -> Result<bool, OutOfMemory>
     requires hidden { AreHidden name.now rooms.old.hidden.parts.known }
     requires constants { AreConstants name.now rooms.old.shown.constants }
@@ -63,7 +64,8 @@ fn read_shown(alloc: Global, rooms: &mut Rooms, name: &[u8]) -> Result<bool, Out
     Ok(false)
 }
 
-/// Adds what the bytes after `_R` show, if at most `levels` levels nest; false if they are no name.
+/// Adds what the bytes after `_R` show, if at most `levels` levels nest; returns false if they are
+/// no name.
 #[tactic(auto, unfolding(crate::specs::V0Names::text_within), using(crate::proofs::RunLemmas::whole_run))]
 fn text_within(
     alloc: Global,
@@ -104,7 +106,8 @@ fn text_within(
     read_shown(alloc, rooms, name)
 }
 
-/// Whether no byte ends a line. All are looked at, since a loop without an early exit handles many at once.
+/// Whether no byte ends a line. All are looked at, since a loop without an early exit can be
+/// vectorized.
 fn are_one_line(bytes: &[u8]) -> bool
     ensures { result ≡ list_all is_within_line bytes.now }
 {
@@ -126,7 +129,7 @@ fn is_name(text: &[u8]) -> bool
     text[0] != b' ' && text[text.len() - 1] != b'\r' && are_one_line(text)
 }
 
-/// Puts what a v0 name shows into the room as its text; false if it shows nothing.
+/// Stores what a v0 name shows as the text; returns false if it shows nothing.
 #[tactic(auto, unfolding(crate::specs::V0Names::v0_text))]
 pub(crate) fn v0_text(alloc: Global, rooms: &mut Rooms, name: &[u8]) -> Result<bool, OutOfMemory>
     ensures { IfOk result (λ said. v0.v0_text name.now ≡ kept said rooms.new.shown.text.items) }

@@ -10,7 +10,7 @@ use itoa::Buffer;
 use sym_edges::OutOfMemory;
 use sym_records::HexText;
 
-/// The most bytes that a text has.
+/// How many bytes a text may have at most.
 const TEXT_LIMIT: usize = 65_536;
 
 /// Adds bytes to a text; false if they do not fit.
@@ -53,7 +53,7 @@ pub(crate) fn add_decimal(text: &mut Vec<u8>, number: u64) -> Result<bool, OutOf
     add(text, digits.as_bytes())
 }
 
-/// Adds the name of the lifetime of a depth.
+/// Adds the name of the lifetime that is bound at a depth.
 #[tactic(auto, using(crate::proofs::TextLemmas::say_then, crate::proofs::TextLemmas::say_stop))]
 fn add_lifetime(text: &mut Vec<u8>, depth: u64) -> Result<bool, OutOfMemory>
     ensures { IfOk result (λ said. v0.say text.old.items (v0.lifetime_name depth) ≡ kept said text.new.items) }
@@ -85,7 +85,7 @@ pub(crate) fn show_lifetime(
     add_lifetime(text, bound - number)
 }
 
-/// Adds the lifetime of a depth, after a comma.
+/// Adds a comma and the lifetime that is bound at a depth.
 #[tactic(auto, using(crate::proofs::TextLemmas::say_then, crate::proofs::TextLemmas::say_stop))]
 fn add_next_lifetime(text: &mut Vec<u8>, depth: u64) -> Result<bool, OutOfMemory>
     ensures { IfOk result (λ said. v0.say text.old.items (v0.next_lifetime depth) ≡ kept said text.new.items) }
@@ -109,7 +109,7 @@ fn add_lifetimes(text: &mut Vec<u8>, count: u64, depth: u64) -> Result<bool, Out
     add(text, b"")
 }
 
-/// Adds the lifetimes that are bound last.
+/// Adds the `for<..>` of the lifetimes that were bound last.
 pub(crate) fn add_for_all(text: &mut Vec<u8>, bound: u64, count: u64) -> Result<bool, OutOfMemory>
     ensures { IfOk result (λ said. v0.say text.old.items (v0.for_all_text bound count) ≡ kept said text.new.items) }
 {
@@ -145,7 +145,7 @@ pub(crate) fn add_integer(
     }
 }
 
-/// The character of a code.
+/// The character with a code.
 pub(crate) fn character(code: u64) -> Option<char>
     ensures { MatchOption result (v0.is_scalar code ≡ false) (λ c. (v0.is_scalar code ≡ true) × (c ≡ code)) }
 {

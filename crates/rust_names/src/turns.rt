@@ -14,16 +14,16 @@ use std::alloc::Global;
 use std::collections::BTreeMap;
 use sym_edges::OutOfMemory;
 
-/// Room for what is read by frames.
+/// Memory for what is read by frames.
 #[derive(Drop)]
 pub(crate) struct Room {
-    /// What is still to be read, the next on top.
+    /// The frames that are still to be read, the next on top.
     pub(crate) stack: Vec<Frame>,
-    /// What is shown.
+    /// The text that is shown.
     pub(crate) text: Vec<u8>,
     /// Whether the last trait's arguments are open.
     pub(crate) opened: bool,
-    /// The constants of many digits, by their place.
+    /// The constants of many digits that were read, by their place.
     pub(crate) constants: BTreeMap<u64, Constant>,
 }
 
@@ -41,9 +41,9 @@ impl Room {
 /// Where the reading of frames stops.
 #[derive(Clone, Copy)]
 pub struct Stop<'a> {
-    /// What is still to be read.
+    /// The bytes that are still to be read.
     pub rest: &'a [u8],
-    /// The path of an impl that stands there, if it is not the end.
+    /// The path of an impl at which the reading stopped; `None` if it stopped at the end.
     pub hidden: Option<Frame>,
 }
 
@@ -107,7 +107,7 @@ fn read_known_leaf<'a>(
     }
 }
 
-/// Reads a part by itself, and adds what it shows.
+/// Reads a part that is not made of others, and adds what it shows.
 #[tactic(auto, unfolding(crate::specs::internal::Running::read_frame), using(crate::proofs::PathLemmas::no_named, crate::proofs::PathLemmas::named_frame))]
 #[inline(always)]
 fn read_plain<'a>(
@@ -174,7 +174,8 @@ fn turn<'a>(
     Ok(next)
 }
 
-/// Reads the frames of a stack from its top, and adds what they show. If it is to stop at the path of an impl, it stops before it.
+/// Reads the frames of a stack from its top, and adds what they show. If `stops`, it stops before
+/// the first path of an impl.
 pub(crate) fn read_frames<'a>(
     alloc: Global,
     room: &mut Room,

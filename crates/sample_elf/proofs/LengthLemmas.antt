@@ -1,4 +1,4 @@
--- How long the pieces of a made file are; for the lengths that it holds.
+-- How long the parts of a made file are, for the lengths in the file.
 use Rattle.std.proofs.Common.{◌≡◌, ℕ, ◌+◌, ◌*◌, ◌%◌, ◌==◌, zero, suc, ◌<◌, ◌≤◌, ◌^◌, List, [], ◌∷◌, ◌++◌, length, codes, decimal, refl, sym, subst, arith, length-append, replicate, ◌-◌, Bool, true, false, if◌then◌else◌}
 use Rattle.std.specs.List.{concat}
 use Rattle.std.proofs.lemmas.Fmt.{length-decimal-le}
@@ -7,11 +7,11 @@ use Rattle.sample_elf.specs.Made.{four, root_texts, root_numbers, by_version, ea
 use Rattle.sample_elf.specs.declared.section.Section.{Section}
 use Rattle.sample_elf.proofs.PieceLemmas.{more_below}
 
--- a list in front
+-- A list put before another.
 joined : (n m : ℕ) (xs rest : List ℕ) → length xs ≤ n → length rest ≤ m → length (xs ++ rest) ≤ n + m
 joined n m xs rest few more = omega (arith, length-append xs rest)
 
--- numbers of units have at most five digits
+-- The numbers of units have at most five digits.
 pub digits_few : (k : ℕ) → k < 20000 → length (decimal k) ≤ 5
 digits_few k few = length-decimal-le 5 k (omega arith) (omega arith) (omega arith)
 
@@ -44,7 +44,7 @@ pub table_length : (k : ℕ) → k < 20000 → length (line_table k) ≤ 116
 unfolding line_table
 table_length k few = joined 4 112 (four (length (line_body k))) _ (omega arith) (joined 112 0 (line_body k) [] (body_length k few) (omega arith))
 
--- the units
+-- The units.
 root_length : (digits : List ℕ) (code table : ℕ) → length digits ≤ 5 → length (unit_root digits code table) ≤ 40
 unfolding unit_root root_texts root_numbers
 root_length digits code table few = grind (arith, length-append)
@@ -78,7 +78,7 @@ pub unit_length : (k code table : ℕ) → k < 20000 → length (unit k code tab
 unfolding unit
 unit_length k code table few = joined 4 120 (four (length (unit_body k code table))) _ (omega arith) (joined 120 0 (unit_body k code table) [] (unit_body_length k code table few) (omega arith))
 
--- all pieces below a number
+-- All parts with numbers below a given one.
 pub below_length : (piece : ℕ → List ℕ) (most limit n : ℕ) → ((k : ℕ) → k < limit → length (piece k) ≤ most) → n ≤ limit → length (each_below piece n) ≤ most * n
 below_length piece most limit zero each few = omega arith
 below_length piece most limit (suc n) each few =
@@ -97,7 +97,7 @@ pub units_length : (n : ℕ) → n ≤ 20000 → length (units n) ≤ 124 * n
 unfolding units
 units_length n few = below_length numbered_unit 124 20000 n (λ k. unit_length k (code_at k) (length (line_tables k))) few
 
--- the frame entries
+-- The frame entries.
 entry_length : (n j : ℕ) (instructions : List ℕ) → length instructions ≡ 8 → length (frame_entry n j instructions) ≡ 24
 unfolding frame_entry
 entry_length n j instructions eight_long = grind (arith, length-append)
@@ -128,7 +128,7 @@ pub names_length : length section_names ≡ 84
 unfolding section_names
 names_length = refl
 
--- the whole
+-- The whole file.
 padding_length : length padding ≡ 0x1000 - 156
 unfolding padding
 padding_length = length-replicate {A = ℕ} (0x1000 - 156) 0

@@ -1,4 +1,4 @@
--- Pieces joined one after another; for the loops over units.
+-- Parts that are joined one after another, for the loops over units.
 use Rattle.std.proofs.Common.{◌≡◌, ℕ, ◌+◌, List, [], ◌∷◌, ◌++◌, map, refl, ap, sym, ◌∙◌, arith, append_assoc, append-nil, length}
 use Rattle.std.specs.List.{flat_map, range_with_len}
 use Rattle.std.proofs.lemmas.Grind.{flat_map-append}
@@ -15,7 +15,7 @@ range_more n = sym (same (range_with_len 0 (n + 1))) ∙ map-range_with_len_more
 pub more_below : (piece : ℕ → List ℕ) (n : ℕ) → each_below piece (n + 1) ≡ each_below piece n ++ piece n
 more_below piece n = ap (flat_map piece) (range_more n) ∙ flat_map-append piece (range_with_len 0 n) (n ∷ []) ∙ ap (λ rest. each_below piece n ++ rest) (append-nil (piece n))
 
--- one piece after another
+-- One part after another.
 pub both : (before mid new one other : List ℕ) → mid ≡ before ++ one → new ≡ mid ++ other → new ≡ before ++ (one ++ (other ++ []))
 both before mid new one other first second =
     second ∙ ap (λ m. m ++ other) first ∙ append_assoc before one other ∙ ap (λ rest. before ++ (one ++ rest)) (sym (append-nil other))
@@ -28,7 +28,7 @@ three before mid more new one other last first second third =
     third ∙ ap (λ m. m ++ last) (second ∙ ap (λ m. m ++ other) first) ∙ append_assoc (before ++ one) other last ∙ append_assoc before one (other ++ last)
     ∙ ap (λ rest. before ++ (one ++ (other ++ rest))) (sym (append-nil last))
 
--- a loop over pieces after a front: none, one more, and what ends it
+-- A loop that adds parts: before the first one, after one more, and at the end.
 pub no_pieces : (front : List ℕ) (piece : ℕ → List ℕ) → front ≡ front ++ each_below piece 0
 no_pieces front piece = sym (append-nil front)
 
@@ -39,7 +39,7 @@ one_more front text new piece n is more =
 pub ended : (text new front end : List ℕ) (pieces : List ℕ) → text ≡ front ++ pieces → new ≡ text ++ end → new ≡ front ++ (pieces ++ (end ++ []))
 ended text new front end pieces is more = both front text new pieces end is more
 
--- units and their line tables
+-- Units and their line tables.
 pub one_unit : (text new : List ℕ) (n at : ℕ) → text ≡ units n → at ≡ length (line_tables n) → new ≡ text ++ unit n (code_at n) at → new ≡ units (n + 1)
 unfolding units
 one_unit text new n at is offset more =
@@ -49,7 +49,7 @@ pub one_table : (text new : List ℕ) (n : ℕ) → text ≡ line_tables n → n
 unfolding line_tables
 one_table text new n is more = more ∙ ap (λ t. t ++ line_table n) is ∙ sym (more_below line_table n)
 
--- four parts of an empty list
+-- Four parts that are added to an empty list.
 pub four_parts : (mid more most new one other third last : List ℕ) → mid ≡ [] ++ one → more ≡ mid ++ other → most ≡ more ++ third → new ≡ most ++ last → new ≡ one ++ (other ++ (third ++ (last ++ [])))
 four_parts mid more most new one other third last a b c d =
     both more most new third last c d ∙ ap (λ m. m ++ (third ++ (last ++ []))) (b ∙ ap (λ m. m ++ other) a) ∙ append_assoc one other (third ++ (last ++ []))

@@ -1,4 +1,4 @@
--- Worked rows: the parts of made files, as readelf and llvm-dwarfdump read them.
+-- Worked examples: the parts of made files, as readelf and llvm-dwarfdump read them.
 use Rattle.std.proofs.Common.{◌≡◌, ◌++◌, refl}
 use Rattle.std.specs.Prelude.{⊤}
 use Rattle.std.specs.Fmt.{digits}
@@ -9,7 +9,7 @@ unfoldable made_computes : ⊤
 unfolding digits hex line_program line_fields line_header_5 line_header_4 line_body line_table line_tables abbreviations root_texts root_numbers unit_root unit_front function inlined_copy unit_functions unit_body unit units common_entry frame_entry unit_frames frames build_id section_names section_header sections section_headers file_header program_header
 made_computes = tt
 
--- `.debug_info` of two units, of version 5 and 4
+-- `.debug_info` of two units, of versions 5 and 4.
 two_units : units 2 ≡
     hex "560000 00050001 08000000 00017530 2e63002f 73000000 00000010 40000000 00004000 00000367 30002010 40000000 00002000 00000266 30000010 40000000" ++
     hex "00002000 00000425 00000008 10400000 00000008 00000001 05000055 00000004 00000000 00080175 312e6300 2f730059 00000040 10400000 00000040 00000003" ++
@@ -17,7 +17,7 @@ two_units : units 2 ≡
 unfolding made_computes
 two_units = refl
 
--- their line tables
+-- The line tables of the two units.
 two_tables : line_tables 2 ≡
     hex "55 00000005 0008002b 00000001 0101fb0e 0d000101 01010000 00010000 01010108 012f7300 02010802 0b027530 2e630000 75302e63 00000009 02001040" ++
     hex "00000000 00030901 02100301 01021003 09010210 03010102 10000101 44000000 04001c00 00000101 01fb0e0d 00010101 01000000 01000001 0075312e 63000000" ++
@@ -25,38 +25,38 @@ two_tables : line_tables 2 ≡
 unfolding made_computes
 two_tables = refl
 
--- the abbreviations of all
+-- The abbreviations of all units.
 the_abbreviations : abbreviations ≡ hex "01 11010308 1b081017 11011206 0000022e 01030811 01120600 00032e00 03081101 12060000 041d0031 13110112 06580b59 0b000000"
 unfolding made_computes
 the_abbreviations = refl
 
--- `.eh_frame` of two units
+-- `.eh_frame` of two units.
 four_entries : frames 2 ≡
     hex "14000000 00000000 017a5200 01781001 1b0c0708 90010000 14000000 1c000000 60ffffff 20000000 00410e10 86020000 14000000 34000000 68ffffff 20000000" ++
     hex "00410e10 86020000 14000000 4c000000 70ffffff 20000000 00410e10 86020000 14000000 64000000 78ffffff 20000000 00410e10 86020000 00000000"
 unfolding made_computes
 four_entries = refl
 
--- the entries of the tenth unit, of ten: the second restores a state that was not remembered
+-- The entries of the tenth of ten units. The second one restores a state that was not remembered.
 a_bad_entry : unit_frames 10 9 ≡ hex "14000000 cc010000 f0fdffff 20000000 00410e10 86020000 14000000 e4010000 f8fdffff 20000000 000b0000 00000000"
 unfolding made_computes
 a_bad_entry = refl
 
--- a line table whose name has two digits
+-- A line table whose file name has a number of two digits.
 two_digits : line_table 12 ≡
     hex "570000 00050008 002d0000 00010101 fb0e0d00 01010101 00000001 00000101 0108012f 73000201 08020b02 7531322e 63000075 31322e63 00000009 02001340" ++
     hex "00000000 00030901 02100301 01021003 09010210 03010102 10000101"
 unfolding made_computes
 two_digits = refl
 
--- the names of sections
+-- The names of the sections.
 the_names : section_names ≡
     hex "002e6e6f 74652e67 6e752e62 75696c64 2d696400 2e746578 74002e65 685f6672 616d6500 2e646562 75675f61 62627265 76002e64 65627567 5f696e66 6f002e64" ++
     hex "65627567 5f6c696e 65002e73 68737472 74616200"
 unfolding made_computes
 the_names = refl
 
--- the section headers of two units
+-- The section headers of a file of two units.
 the_headers : section_headers 2 ≡
     hex "00000000 00000000 00000000 00000000 00000000 00000000 00000000 00000000 00000000 00000000 00000000 00000000 00000000 00000000 00000000 00000000" ++
     hex "01000000 07000000 02000000 00000000 78004000 00000000 78000000 00000000 24000000 00000000 00000000 00000000 04000000 00000000 00000000 00000000" ++
@@ -69,7 +69,7 @@ the_headers : section_headers 2 ≡
 unfolding made_computes
 the_headers = refl
 
--- what stands in front of the zeros
+-- The bytes before the padding of zeros.
 the_front : file_header (headers_at 2) ++ (program_header (abbreviations_at 2) ++ build_id 2) ≡
     hex "7f454c46 02010100 00000000 00000000 02003e00 01000000 00000000 00000000 40000000 00000000 d9120000 00000000 00000000 40003800 01004000 08000700" ++
     hex "01000000 05000000 00000000 00000000 00004000 00000000 00004000 00000000 fc100000 00000000 fc100000 00000000 00100000 00000000 04000000 14000000" ++

@@ -63,9 +63,11 @@ line_table k = concat (four (length (line_body k)) ∷ line_body k ∷ [])
 unfoldable pub line_tables : ℕ → List ℕ
 line_tables n = each_below line_table n
 
--- `.debug_abbrev`, for all units: a compilation unit with a name, a compilation directory, a line table, a first address and a size; a function with
--- a name, a first address and a size, once with children and once without; an inlined copy with its origin, a first address, a size, and the file and
--- the line of its call (DWARF 5 7.5.3, 7.5.5 and 7.5.6: pairs of attribute and form)
+-- `.debug_abbrev`, the same for all units: pairs of attribute and form (DWARF 5 7.5.3, 7.5.5 and
+-- 7.5.6). A compilation unit has a name, a compilation directory, a line table, a first address and
+-- a size. A function has a name, a first address and a size; one abbreviation is for functions with
+-- children, one for those without. An inlined copy has its origin, a first address, a size, and the
+-- file and the line of its call
 unfoldable pub abbreviations : List ℕ
 abbreviations =
     1 ∷ 0x11 ∷ 1 ∷ 0x03 ∷ 0x08 ∷ 0x1b ∷ 0x08 ∷ 0x10 ∷ 0x17 ∷ 0x11 ∷ 0x01 ∷ 0x12 ∷ 0x06 ∷ 0 ∷ 0 ∷
@@ -122,11 +124,11 @@ units n = each_below numbered_unit n
 unfoldable pub common_entry : List ℕ
 common_entry = 20 ∷ 0 ∷ 0 ∷ 0 ∷ 0 ∷ 0 ∷ 0 ∷ 0 ∷ 1 ∷ 0x7a ∷ 0x52 ∷ 0 ∷ 1 ∷ 0x78 ∷ 16 ∷ 1 ∷ 0x1b ∷ 0x0c ∷ 7 ∷ 8 ∷ 0x90 ∷ 1 ∷ 0 ∷ 0 ∷ []
 
--- after one byte of code CFA = rsp + 16, and rbp is saved at CFA - 16
+-- instructions of a good entry: after one byte of code CFA = rsp + 16, and rbp is saved at CFA - 16
 abbrev pub usual : List ℕ
 usual = 0 ∷ 0x41 ∷ 0x0e ∷ 16 ∷ 0x86 ∷ 2 ∷ 0 ∷ 0 ∷ []
 
--- a state is restored that was not remembered: a dump omits such an entry
+-- instructions of a bad entry, which a dump omits: a state is restored that was not remembered
 abbrev pub bad : List ℕ
 bad = 0 ∷ 0x0b ∷ 0 ∷ 0 ∷ 0 ∷ 0 ∷ 0 ∷ 0 ∷ []
 

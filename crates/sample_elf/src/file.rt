@@ -110,7 +110,8 @@ fn plain(name: u32, kind: u32, offset: u64, size: u64) -> Section
     }
 }
 
-/// The section headers: none, the note of the build id, the code, and the sections after it.
+/// The section headers: the null one, those of the note of the build id and of the code, and those
+/// of the sections after it.
 #[tactic(auto, using(crate::proofs::LengthLemmas::abbreviations_length, crate::proofs::LengthLemmas::names_length, crate::proofs::LengthLemmas::frames_length), unfolding(crate::specs::Made::sections))]
 fn list_sections(n: u32, parts: &Parts, layout: &Layout) -> [Section; 8]
     requires few { n ≤ 20000 }

@@ -33,7 +33,7 @@ fn put_entry(bytes: &mut Vec<u8>, n: u32, j: u32, instructions: &[u8]) -> Result
     )
 }
 
-/// The instructions of a unit's second entry.
+/// The instructions of a unit's second entry, which are bad in every tenth unit.
 fn second_of(k: u32) -> &'static [u8]
     ensures { result.now ≡ (if k % 10 == 9 then bad else usual) }
 {

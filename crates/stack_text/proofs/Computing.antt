@@ -1,4 +1,4 @@
--- What a proof unfolds to compute the definitions of stack_text where the input is written out.
+-- The definitions of stack_text that a proof unfolds to compute a result from given texts.
 use Rattle.std.specs.Prelude.{⊤}
 use Rattle.std.specs.Char.{encode_utf8}
 use Rattle.std.specs.Str.{is_utf8, chars}

@@ -1,4 +1,5 @@
--- The lines of a frame: a cause, and the registers one after another; for `add_cause`, `add_registers`.
+-- The lines of a frame: a cause, and the registers one after another, for `add_cause` and
+-- `add_registers`.
 use Rattle.std.proofs.Common.{◌≡◌, ℕ, ◌+◌, List, [], ◌∷◌, ◌++◌, Result, Ok, Err, OnOk, codes, map, refl, ap, sym, ◌∙◌, arith, append_assoc, append-nil}
 use Rattle.std.specs.List.{flat_map, range_with_len, slice_index_or}
 use Rattle.std.proofs.lemmas.Grind.{flat_map-append}
@@ -11,7 +12,7 @@ use Rattle.cfi_eval.specs.declared.outcome.Outcome.TheVariants.{Undefined}
 use Rattle.cfi_eval.specs.declared.outcome.Frame.{Frame}
 use Rattle.stack_text.specs.FrameText.{short_name, cause_text, outcome_line, register_line, registers_text}
 
--- a word is not readable
+-- A word that cannot be read.
 pub unreadable_said : {A E : Type 0} (r : Result A E) (before mid new : List ℕ) (why : Cause) (address : ℕ) → why ≡ cause.Unreadable address → mid ≡ before ++ codes "unreadable " → OnOk r (new ≡ mid ++ hex address) → OnOk r (new ≡ before ++ cause_text why)
 unreadable_said (Ok x) before mid new why address is first later =
     later ∙ ap (λ m. m ++ hex address) first ∙ append_assoc before (codes "unreadable ") (hex address) ∙ ap (λ w. before ++ cause_text w) (sym is)
@@ -24,7 +25,7 @@ same (x ∷ xs) = ap (λ ys. x ∷ ys) (same xs)
 range_more : (n : ℕ) → range_with_len 0 (n + 1) ≡ range_with_len 0 n ++ n ∷ []
 range_more n = sym (same (range_with_len 0 (n + 1))) ∙ map-range_with_len_more (λ k. k) 0 n n (omega arith) ∙ ap (λ xs. xs ++ n ∷ []) (same (range_with_len 0 n))
 
--- none, and one more
+-- No register, and one register more.
 pub no_registers : (text : List ℕ) (frame : Frame) → text ≡ text ++ registers_text frame 0
 unfolding registers_text
 no_registers text frame = sym (append-nil text)

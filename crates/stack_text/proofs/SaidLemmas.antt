@@ -1,4 +1,4 @@
--- A line is said once; for `SaidLines`.
+-- Each line is written once, for `SaidLines`.
 use Rattle.std.proofs.Common.{◌≡◌, ℕ, Bool, true, false, cond, ◌||◌, List, [], ◌∷◌, ◌++◌, refl, sym, ap, ◌∙◌, append-nil}
 use Rattle.std.proofs.lemmas.List.Folds.{list_any-append}
 use Rattle.std.proofs.lemmas.Map.Text.{is_eq-slice_cmp}
@@ -16,7 +16,7 @@ use Rattle.stack_text.specs.internal.SaidLines.{HasSaid}
 use Rattle.stack_text.specs.declared.said_lines.SaidLines.{SaidLines}
 use Rattle.stack_text.proofs.OnceLemmas.{once_more}
 
--- a text that is among them already is no more
+-- A text that is in the list already is not added.
 among : (line text : List ℕ) (lines : List (List ℕ)) → list_any (bytes_eq line) lines ≡ true → list_any (bytes_eq text) (lines ++ line ∷ []) ≡ list_any (bytes_eq text) lines
 among line text lines there = list_any-append (bytes_eq text) lines (line ∷ []) ∙ go (bytes_eq text line) refl (list_any (bytes_eq text) lines) refl
   where
@@ -34,7 +34,7 @@ turned xs ys = go (bytes_eq xs ys) refl (bytes_eq ys xs) refl
     go true is false at = (let no : false ≡ true = sym at ∙ (bytes_eq-Decides ys xs).1 (sym ((bytes_eq-Decides xs ys).0 is)) in absurd (cc))
     go false is true at = (let no : false ≡ true = sym is ∙ (bytes_eq-Decides xs ys).1 (sym ((bytes_eq-Decides ys xs).0 at)) in absurd (cc))
 
--- nothing was said
+-- No line was written.
 pub nothing_said : (said : SaidLines) → said.text.items ≡ [] → said.set.keys ≡ [] → HasSaid said []
 unfolding once
 nothing_said said none empty = record { text = none; set = λ key. ap (list_any (is_at (λ (k : Vec ℕ). slice_cmp nat_cmp key.items k.items))) empty }

@@ -1,4 +1,5 @@
--- The lines of the stacks of a process: steps one after another, and the threads by all files that agree with what was found.
+-- The lines of the stacks of a process: steps one after another, and the threads by all files that
+-- agree with what was found.
 use Rattle.std.proofs.Common.{◌≡◌, ℕ, zero, suc, ◌+◌, ◌-◌, ◌<◌, ◌≤◌, cond, nat_lt, List, [], ◌∷◌, ◌++◌, length, get_or, slice_get, take, drop, decimal, Option, None, Some, refl, sym, ap, ◌∙◌, subst, arith, append_assoc, append-nil, drop-cons}
 use Rattle.std.specs.List.{AllByRecursion, flat_map}
 use Rattle.std.specs.Option.{option_and_then}
@@ -26,7 +27,7 @@ use Rattle.stack_text.specs.internal.SaidLines.{HasSaid}
 use Rattle.stack_text.specs.internal.Spelling.{HasSpelled}
 use Rattle.stack_text.specs.declared.said_lines.SaidLines.{SaidLines}
 
--- ---- modules
+-- Modules.
 
 pub modules_more : (folder : List ℕ) (modules : List Module) (place : ℕ) (m : Module) (before text next : List ℕ) → place < length modules → m ≡ get_or modules place m → text ≡ before ++ flat_map (module_line folder) (take place modules) → next ≡ text ++ module_line folder m
     → next ≡ before ++ flat_map (module_line folder) (take (place + 1) modules)
@@ -40,9 +41,9 @@ pub modules_end : (folder : List ℕ) (modules : List Module) (place : ℕ) (bef
 unfolding modules_text
 modules_end folder modules place before text past is = is ∙ ap (λ l. before ++ flat_map (module_line folder) l) (take_all place modules past)
 
--- ---- steps
+-- Steps.
 
--- those up to an end, one at a time
+-- Steps up to an end, one at a time.
 pub between_more : (found : List ℕ → Found) (folder : List ℕ) (modules : List Module) (steps : List WalkStep) (number end : ℕ) (step : WalkStep) (text next all : List ℕ) → number < end → end ≤ length steps → step ≡ get_or steps number step
     → text ++ stack_steps_text found folder modules number (take (end - number) (drop number steps)) ≡ all → next ≡ text ++ stack_step_text found folder modules number step
     → next ++ stack_steps_text found folder modules (number + 1) (take (end - (number + 1)) (drop (number + 1) steps)) ≡ all
@@ -87,7 +88,7 @@ shown_ends found folder modules steps before front mid text many first then last
     short : (xs : List WalkStep) → length (drop (length xs - 512) xs) ≤ length xs - (length xs - 512)
     short xs = let is = length-drop (length xs - 512) xs in omega (arith, is)
 
--- ---- steps by all files that agree with what was found
+-- Steps by all files that agree with what was found.
 
 records_same : (w : Walking) (got : Files) (a : ℕ) → Agrees got (seen_in w.known) → IsAsked w a → records_at (known_found w.known) w.folder w.core.modules a ≡ records_at (λ path. found_in (got path)) w.folder w.core.modules a
 unfolding records_at
@@ -138,7 +139,7 @@ lacks_same w got (step ∷ steps) agrees asked =
     ap (λ l. l ++ steps_lacks (known_found w.known) w.folder w.core.modules steps) (lack_same w got (holder_of w.core.modules step.at) agrees asked.0)
     ∙ ap (λ l. lack_in (λ path. found_in (got path)) w.folder (holder_of w.core.modules step.at) ++ l) (lacks_same w got steps agrees asked.1)
 
--- ---- threads
+-- Threads.
 
 pub spelled_none : (seen : Seen) (folder : List ℕ) (core : CoreParts) (text : List ℕ) (said : SaidLines) (lines : List (List ℕ)) → HasSaid said lines → HasSpelled seen folder core [] text text said lines
 unfolding threads_text threads_lacks
@@ -210,7 +211,7 @@ spelled_more seen w folder core threads i thread walk before text next said said
 pub spelled_all : (seen : Seen) (folder : List ℕ) (core : CoreParts) (threads : List Thread) (i : ℕ) (before text : List ℕ) (said : SaidLines) (lines : List (List ℕ)) → length threads ≤ i → HasSpelled seen folder core (take i threads) before text said lines → HasSpelled seen folder core threads before text said lines
 spelled_all seen folder core threads i before text said lines past has = subst (λ ts. HasSpelled seen folder core ts before text said lines) (take_all i threads past) has
 
--- ---- lacks of steps
+-- Missing records for the modules of steps.
 
 pub lacks_said : (found : List ℕ → Found) (folder : List ℕ) (modules : List Module) (steps : List WalkStep) (i : ℕ) (step : WalkStep) (said : SaidLines) (lines : List (List ℕ)) → i < length steps → step ≡ get_or steps i step
     → HasSaid said ((lines ++ flat_map (λ s. lack_in found folder (holder_of modules s.at)) (take i steps)) ++ lack_in found folder (holder_of modules step.at)) → HasSaid said (lines ++ flat_map (λ s. lack_in found folder (holder_of modules s.at)) (take (i + 1) steps))
@@ -227,7 +228,7 @@ pub lacks_all : (found : List ℕ → Found) (folder : List ℕ) (modules : List
 unfolding steps_lacks
 lacks_all found folder modules steps i said lines past has = subst (λ ss. HasSaid said (lines ++ flat_map (λ s. lack_in found folder (holder_of modules s.at)) ss)) (take_all i steps past) has
 
--- ---- the whole texts
+-- The whole texts.
 
 pub all_text : (got : Files) (folder : List ℕ) (core : CoreParts) (empty first second text : List ℕ) → empty ≡ [] → first ≡ empty ++ signal_text core.threads → second ≡ first ++ modules_text folder core.modules → text ≡ second ++ threads_text got folder core core.threads → text ≡ stacks_text got folder core
 unfolding stacks_text

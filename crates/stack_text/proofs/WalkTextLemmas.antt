@@ -1,10 +1,10 @@
--- The lines of a walk; for `add_steps`.
+-- The lines of a walk, for `add_steps`.
 use Rattle.std.proofs.Common.{◌≡◌, ℕ, zero, suc, ◌+◌, ◌<◌, ◌≤◌, List, [], ◌∷◌, ◌++◌, length, get_or, drop, refl, sym, ap, ◌∙◌, arith, append_assoc, append-nil, drop-cons}
 use Rattle.sym_records.specs.declared.line.SymLine.{SymLine}
 use Rattle.stack_walk.specs.declared.steps.WalkStep.{WalkStep}
 use Rattle.stack_text.specs.WalkText.{step_text, steps_text}
 
--- one more step
+-- One step more.
 pub steps_more : (lines : List SymLine) (number : ℕ) (steps : List WalkStep) (step : WalkStep) (text next all : List ℕ) → text ++ steps_text lines number (drop number steps) ≡ all → step ≡ get_or steps number step → number < length steps → next ≡ text ++ step_text lines number step
     → next ++ steps_text lines (number + 1) (drop (number + 1) steps) ≡ all
 unfolding steps_text

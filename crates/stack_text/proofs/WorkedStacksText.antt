@@ -1,4 +1,4 @@
--- The two texts of small processes, one of which calls through null.
+-- Worked examples: the two texts of small processes, of which one calls through a null pointer.
 use Rattle.std.proofs.Common.{◌≡◌, ℕ, List, [], ◌∷◌, codes, Option, Some, None, if◌then◌else◌, refl}
 use Prim.Native.String.{String}
 use Rattle.std.specs.Str.{bytes_eq}
@@ -11,14 +11,14 @@ use Rattle.stack_text.specs.Once.{once}
 use Rattle.stack_text.specs.StacksText.{stacks_text, lacks_text}
 use Rattle.stack_text.proofs.Computing.{stack_text_computes}
 
--- f calls g, which has no rule for its return address
+-- `f` calls `g`, which has no rule for its return address.
 abbrev text : String
 text = "MODULE Linux x86_64 030201000504070608090A0B0C0D0E0F0 a\nFUNC 1000 20 0 f\nFUNC 2000 10 0 g\nSTACK CFI INIT 1000 20 .cfa: $rsp 8 + .ra: .cfa -8 + ^\nSTACK CFI INIT 2000 10 .cfa: $rsp 8 +\n"
 
 abbrev path : String
 path = "store/a/030201000504070608090A0B0C0D0E0F0/a.sym"
 
--- files of which one has a text
+-- Files of which one has a text.
 abbrev only : String → String → Files
 only name text other = if bytes_eq other (codes name) then Some (codes text) else None
 
@@ -44,11 +44,11 @@ thread_at number signal rip = record {
   registers = record { r15 = 0; r14 = 0; r13 = 0; r12 = 0; rbp = 0; rbx = 0; r11 = 0; r10 = 0; r9 = 0; r8 = 0; rax = 0; rcx = 0; rdx = 0; rsi = 0; rdi = 0; rip = rip; rsp = 0x7000 };
 }
 
--- a process with some bytes at 7000
+-- A process with some bytes at 7000.
 abbrev process : List ℕ → ℕ → Option (List ℕ) → List Thread → CoreParts
 process bytes size id threads = record { memory = record { file = bytes; segments = stack_segment size ∷ code_segment ∷ [] }; threads = threads; modules = module_a id ∷ [] }
 
--- the return address 555555552005, and before it 555555551005
+-- The return address 555555552005, and in front of it 555555551005.
 abbrev to_g : List ℕ
 to_g = 0x05 ∷ 0x20 ∷ 0x55 ∷ 0x55 ∷ 0x55 ∷ 0x55 ∷ 0 ∷ 0 ∷ []
 
@@ -64,7 +64,7 @@ nothing_lacks : lacks_text (only path text) (codes "store") (process to_g 8 some
 unfolding stack_text_computes
 nothing_lacks = refl
 
--- without its symbol file, and twice
+-- The symbol file is missing. The line about it is written once for two threads.
 not_there : stacks_text nothing (codes "store") (process to_g 8 some_id (thread_at 1 11 0x555555551005 ∷ []))
     ≡ codes "signal 11\nmodule 555555550000 555555554000 a 030201000504070608090A0B0C0D0E0F0\nthread 1\n0 555555551005 a\nnone\nend no-symbols\n"
 unfolding stack_text_computes
@@ -74,13 +74,13 @@ named_once : lacks_text nothing (codes "store") (process to_g 8 some_id (thread_
 unfolding stack_text_computes
 named_once = refl
 
--- a call through null
+-- A call through a null pointer.
 a_null_call : stacks_text (only path text) (codes "store") (process to_f 16 some_id (thread_at 1 11 0 ∷ []))
     ≡ codes "signal 11\nmodule 555555550000 555555554000 a 030201000504070608090A0B0C0D0E0F0\nthread 1\n0 0\nnone\n1 555555551005 a\nf at ?\n2 555555552005 a\ng at ?\nend ra-undefined\n"
 unfolding stack_text_computes
 a_null_call = refl
 
--- no signal, no build id
+-- No signal and no build id.
 no_id : stacks_text (only path text) (codes "store") (process to_g 8 None (thread_at 1 0 0x555555551005 ∷ [])) ≡ codes "module 555555550000 555555554000 a -\nthread 1\n0 555555551005 a\nnone\nend no-symbols\n"
 unfolding stack_text_computes
 no_id = refl
@@ -89,7 +89,7 @@ missing_id : lacks_text (only path text) (codes "store") (process to_g 8 None (t
 unfolding stack_text_computes
 missing_id = refl
 
--- symbol files that are refused
+-- Symbol files that are refused.
 other_build : lacks_text (only path "MODULE Linux x86_64 030201000504070608090A0B0C0D0E0F1 a\n") (codes "store") (process to_g 8 some_id (thread_at 1 11 0x555555551005 ∷ [])) ≡ codes "refused a 030201000504070608090A0B0C0D0E0F0 other-module\n"
 unfolding stack_text_computes
 other_build = refl

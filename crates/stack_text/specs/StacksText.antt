@@ -33,7 +33,7 @@ abbrev pub signal_text : List Thread → List ℕ
 signal_text [] = []
 signal_text (thread ∷ threads) = if thread.signal == 0 then [] else line (spaced (codes "signal") (decimal thread.signal ∷ []))
 
--- the id that the symbol file of a module has in MODULE, or `-` if the module has no build id
+-- the id that the MODULE of a module's symbol file must have, or `-` if the module has no build id
 abbrev pub id_word : Option SymbolName → List ℕ
 id_word None = codes "-"
 id_word (Some name) = name.id
@@ -58,12 +58,13 @@ abbrev pub stack_step_text : (List ℕ → Found) → List ℕ → List Module �
 stack_step_text found folder modules number step =
     line (spaced (decimal number) (step_words step.rip (holder_of modules step.at))) ++ names_text (records_at found folder modules step.at) step.answer
 
--- steps; the first of them has this number
+-- the lines of steps, of which the first has the number `number`
 unfoldable pub stack_steps_text : (List ℕ → Found) → List ℕ → List Module → ℕ → List WalkStep → List ℕ
 stack_steps_text found folder modules number [] = []
 stack_steps_text found folder modules number (step ∷ steps) = stack_step_text found folder modules number step ++ stack_steps_text found folder modules (number + 1) steps
 
--- if there are more than 1,024 steps, the first 512 and the last 512, and between them how many are not shown
+-- the steps that are shown: if there are more than 1,024, these are the first 512 and the last 512,
+-- and a line between them says how many are not shown
 abbrev pub skipped_line : ℕ → List ℕ
 skipped_line count = line (spaced (codes "skipped") (decimal count ∷ []))
 
@@ -74,14 +75,14 @@ shown_steps found folder modules steps =
     ++ stack_steps_text found folder modules (length steps - 512) (drop (length steps - 512) steps))
     else stack_steps_text found folder modules 0 steps
 
--- a thread: its number, its steps, and why its walk ends
+-- a thread: its number, the steps that are shown, and why its walk ends
 abbrev pub thread_line : ℕ → List ℕ
 thread_line number = line (spaced (codes "thread") (decimal number ∷ []))
 
 unfoldable pub thread_text : (List ℕ → Found) → List ℕ → List Module → ℕ → Walk → List ℕ
 thread_text found folder modules number walk = thread_line number ++ (shown_steps found folder modules walk.steps ++ end_line walk.end)
 
--- threads, given the symbol files
+-- the lines of threads, given the symbol files
 unfoldable pub threads_text : Files → List ℕ → CoreParts → List Thread → List ℕ
 threads_text got folder core [] = []
 threads_text got folder core (thread ∷ threads) =
@@ -111,11 +112,11 @@ abbrev pub lack_in : (List ℕ → Found) → List ℕ → Option Module → Lis
 lack_in found folder None = []
 lack_in found folder (Some m) = lack_by folder m (symbols_of found folder m)
 
--- these lines for the modules in which steps lie, in the order of the steps
+-- the lines about missing records for the modules in which steps lie, in the order of the steps
 unfoldable pub steps_lacks : (List ℕ → Found) → List ℕ → List Module → List WalkStep → List (List ℕ)
 steps_lacks found folder modules steps = flat_map (λ step. lack_in found folder (holder_of modules step.at)) steps
 
--- these lines for threads, given the symbol files
+-- the lines about missing records for threads, given the symbol files
 unfoldable pub threads_lacks : Files → List ℕ → CoreParts → List Thread → List (List ℕ)
 threads_lacks got folder core threads = flat_map (λ thread. steps_lacks (λ path. found_in (got path)) folder core.modules (stack_of got folder core thread).steps) threads
 

@@ -18,12 +18,13 @@ step_head number rip = line (spaced (decimal number) (hex rip ∷ []))
 abbrev pub step_text : List SymLine → ℕ → WalkStep → List ℕ
 step_text lines number step = step_head number step.rip ++ answer_text lines step.answer
 
--- steps; the first of them has this number
+-- the lines of steps, of which the first has the number `number`
 unfoldable pub steps_text : List SymLine → ℕ → List WalkStep → List ℕ
 steps_text lines number [] = []
 steps_text lines number (step ∷ steps) = step_text lines number step ++ steps_text lines (number + 1) steps
 
--- why a walk ends; a cause is spelled as in `frame`, and a low CFA comes after the CFA of the step before
+-- why a walk ends; a cause is spelled as `frame` spells it, and a low CFA comes after the CFA of
+-- the step before
 abbrev pub end_text : WalkEnd → List ℕ
 end_text NoModule = codes "no-module"
 end_text NoSymbols = codes "no-symbols"

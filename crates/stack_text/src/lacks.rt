@@ -16,7 +16,7 @@ use std::alloc::{AllocError, Global};
 use sym_edges::OutOfMemory;
 use sym_grammar::SymRefusal;
 
-/// The id that the symbol file of a module has in MODULE, or `-`.
+/// The id that the MODULE of a module's symbol file must have, or `-`.
 pub(crate) fn id_word<'w>(walker: &'w StackWalker<'_>, place: usize) -> &'w [u8]
     requires { place < length walker.now.core.modules }
     ensures { IfSome (slice_get walker.now.core.modules place) (λ m. result.now ≡ id_word (name_of walker.now.folder m)) }
@@ -35,7 +35,8 @@ fn name_of<'w>(walker: &'w StackWalker<'_>, place: usize) -> &'w [u8]
     walker.core().modules()[place].name.as_slice()
 }
 
-/// Adds the line of a symbol file that is refused: these words, why it is refused, and the rest.
+/// Adds the line of a symbol file that is refused: these words, the reason, and then the other
+/// words.
 fn add_refused(
     text: &mut Vec<u8>,
     words: &[&[u8]],
@@ -75,7 +76,7 @@ fn lack_line(
     Ok(text)
 }
 
-/// Adds this line for the module of a step, if its records are missing.
+/// Adds the line about missing records for the module of a step, if its records are missing.
 fn say_lack(
     alloc: Global,
     said: &mut SaidLines,
@@ -96,7 +97,7 @@ fn say_lack(
     }
 }
 
-/// Adds these lines for the modules of all steps.
+/// Adds the lines about missing records for the modules of all steps.
 pub(crate) fn say_lacks(
     alloc: Global,
     said: &mut SaidLines,

@@ -22,7 +22,7 @@ use std::alloc::{AllocError, Global};
 use sym_edges::{OutOfMemory, Store};
 use sym_records::{ByteText, HexText};
 
-/// The most steps of a thread that are all shown.
+/// A thread with at most this many steps is shown whole.
 const SHOWN: usize = 1024;
 
 /// How many steps are shown at each end of a longer thread.
@@ -240,7 +240,7 @@ fn add_threads<S: Store>(
     Ok(())
 }
 
-/// The stacks of all threads, as two texts. Symbol files are asked for as steps need them.
+/// The stacks of all threads, as two texts. Symbol files are asked for when steps need them.
 pub fn spell_stacks<S: Store>(
     alloc: Global,
     store: &mut S,

@@ -1,4 +1,4 @@
--- The registers of a caller; for `values_of`.
+-- The registers of a caller, for `values_of`.
 use Rattle.std.proofs.Common.{◌≡◌, ℕ, ◌<◌, List, [], ◌∷◌, length, map, get_or, Option, None, refl, sym, ap, ◌∙◌}
 use Rattle.std.specs.List.{range_with_len}
 use Rattle.std.proofs.lemmas.List.FromFn.{fill_by_all}
@@ -10,7 +10,7 @@ mapped : (outcomes : ℕ → Outcome) (ks : List ℕ) → map (λ k. value_of (o
 mapped outcomes [] = refl
 mapped outcomes (k ∷ ks) = ap (λ vs. value_of (outcomes k) ∷ vs) (mapped outcomes ks)
 
--- sixteen values, each that of the outcome at its place
+-- Sixteen values are those of sixteen outcomes.
 pub values_are : (values : List (Option ℕ)) (outcomes : List Outcome) → length values ≡ 16 → length outcomes ≡ 16 → ((k : ℕ) → k < 16 → get_or values k None ≡ value_of (get_or outcomes k Undefined)) → values ≡ map value_of outcomes
 values_are values outcomes many as_many known =
     fill_by_all (λ k. value_of (get_or outcomes k Undefined)) values 16 None many known

@@ -1,4 +1,4 @@
--- What a proof unfolds to compute the definitions of this crate where the input is written out.
+-- The definitions of this crate that a proof unfolds to compute a result from given texts.
 use Rattle.std.specs.Prelude.{⊤}
 use Rattle.state_file.proofs.Computing.{state_file_computes}
 use Rattle.sym_lookup.proofs.Computing.{sym_lookup_computes}

@@ -1,4 +1,4 @@
--- Where no INIT covers an address; for `Records::rules`.
+-- Addresses that no INIT covers, for `Records::rules`.
 use Rattle.std.proofs.Common.{◌≡◌, ℕ, List, None, sym}
 use Rattle.sym_records.specs.declared.line.SymLine.{SymLine}
 use Rattle.cfi_eval.specs.Inits.{init_place}

@@ -1,4 +1,5 @@
--- The CFAs of a walk rise, none of its steps is a signal's where these do not count, and how many steps it has; for the laws.
+-- The CFAs of a walk rise, none of its steps is a signal's frame if these are not recognized, and a
+-- walk has a limited number of steps. The lemmas are for the laws.
 use Rattle.std.proofs.Common.{◌≡◌, ℕ, zero, suc, ◌-◌, ◌<◌, ◌≤◌, nat_lt, Bool, true, false, cond, List, [], ◌∷◌, length, Option, None, Some, Result, Ok, Err, refl, sym, ap, subst, ◌∙◌, arith}
 use Rattle.std.proofs.lemmas.Bool.Decides.{nat_tests}
 use Rattle.sym_edges.specs.Results.{◌>>=◌}
@@ -15,7 +16,7 @@ use Rattle.stack_walk.specs.declared.steps.Walk.{Walk}
 use Rattle.stack_walk.specs.Walk.{Process, rules_at, signal_by, step_known, step_at, caller_regs, cfa_of, floor_of, return_address, place_after, going_on, walk_from}
 use Rattle.stack_walk.specs.Rising.{IsAbove, RisesTo, CfasRise, HaveNoSignals, frame_cfa}
 
--- there are at most as many steps as may be, and one where there may be one
+-- A walk has at most as many steps as are allowed, and at least one if one is allowed.
 few_more : (step : WalkStep) (next : Result Place WalkEnd) (go : Place → Walk) (more : ℕ) → ((place : Place) → length (go place).steps ≤ more) → length (going_on step next go).steps ≤ suc more
 few_more step (Err end) go more few = omega arith
 few_more step (Ok place) go more few = omega (arith, few place)
@@ -33,7 +34,7 @@ some_from process more here = go (place_after here.before (step_at process here)
     go (Err end) = omega arith
     go (Ok place) = omega arith
 
--- no signal's frame where they do not count
+-- There are no signal's frames if these are not recognized.
 signal_not : (signals : Bool) (rules : Result (List RuleText) WalkEnd) → signals ≡ false → signal_by signals rules ≡ false
 signal_not signals (Err end) none = refl
 signal_not false (Ok rules) none = refl
@@ -53,7 +54,8 @@ no_signals_from process zero here none = tt
 no_signals_from process (suc more) here none =
     none_more (step_at process here) (place_after here.before (step_at process here)) (walk_from process more) (step_not process here none) (λ place. no_signals_from process more place none)
 
--- a step that another follows has a CFA above the one before, which the next step knows
+-- A step that is followed by another has a CFA above the one before, and the next step knows this
+-- CFA.
 record Leads (signal : Bool) (before : Option ℕ) (outcome : Outcome) (place : Place) (cfa : ℕ) : Type 0 where
   pub is : outcome ≡ Value cfa
   pub above : IsAbove signal before cfa

@@ -1,4 +1,4 @@
--- Each step of a walk is the caller of the one before; for the laws.
+-- Each step of a walk is the caller of the step before. The lemmas are for the laws.
 use Rattle.std.proofs.Common.{◌≡◌, ℕ, zero, suc, ◌+◌, ◌-◌, ◌==◌, Bool, true, false, cond, List, [], ◌∷◌, Option, Some, Result, Ok, Err, refl, sym, ap, subst, ◌∙◌, arith}
 use Rattle.std.proofs.lemmas.Bool.Decides.{nat_tests}
 use Rattle.sym_edges.specs.Results.{◌>>=◌}
@@ -18,7 +18,7 @@ found_at : (process : Process) (here : Place) → IsLookedUp process here.regs (
 unfolding step_known
 found_at process here = record { signal = refl; frame = refl; answer = refl }
 
--- the place of a caller, by the frame that leads there
+-- The place of a caller, by whether the frame before it is a signal's.
 abbrev IsCallPlace : Bool → Place → Type 0
 IsCallPlace true place = place.at ≡ place.rip
 IsCallPlace false place = place.at + 1 ≡ place.rip
@@ -65,7 +65,7 @@ called_by process before step (Ok frame) place same is =
     let by = place_by step.signal (cfa_of (floor_of step.signal before) frame.cfa) frame.ra (caller_regs frame) place now in
     record { rip = by.rip ∙ ap Value (sym (same_rip process place)); at = call_address process step.signal place by.at; found = subst (λ regs. IsLookedUp process regs (step_at process place)) by.handed (found_at process place) }
 
--- the first of some steps, where there is one
+-- The step is the first of these.
 abbrev IsHead : WalkStep → List WalkStep → Type 0
 IsHead step [] = Unit {0}
 IsHead step (first ∷ steps) = first ≡ step
@@ -79,7 +79,7 @@ unfolding walk_from
 head_is process zero here = tt
 head_is process (suc more) here = head_by (step_at process here) (place_after here.before (step_at process here)) (walk_from process more)
 
--- a step in front of the callers that it leads to
+-- A step put before its callers.
 in_front : (process : Process) (step caller : WalkStep) (steps : List WalkStep) → ForFrame step.frame (λ f. IsCallerOf process step.signal f caller) → IsHead caller steps → AreCallers process steps → AreCallers process (step ∷ steps)
 in_front process step caller [] leads head later = tt
 in_front process step caller (next ∷ steps) leads head later = (subst (λ s. ForFrame step.frame (λ f. IsCallerOf process step.signal f s)) (sym head) leads, later)
@@ -96,7 +96,7 @@ callers_from process zero here = tt
 callers_from process (suc more) here =
     callers_more process here.before (step_at process here) (place_after here.before (step_at process here)) (walk_from process more) refl (head_is process more) (callers_from process more)
 
--- the whole stack
+-- The whole stack.
 stack_by : (process : Process) (regs : Regs) (rip : ℕ) (first : WalkStep) (next : Result Place WalkEnd) (go : Place → Walk) → IsInnermost process regs rip first → AreCallers process (going_on first next go).steps → IsStack process regs rip (going_on first next go).steps
 stack_by process regs rip first (Err end) go inner callers = (inner, callers)
 stack_by process regs rip first (Ok place) go inner callers = (inner, callers)

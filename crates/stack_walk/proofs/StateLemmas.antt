@@ -1,4 +1,4 @@
--- The walk of a state by the records of one symbol file; for `walks_of_a_state_are_stacks`.
+-- The walk of a state by the records of one symbol file, for `walks_of_a_state_are_stacks`.
 use Rattle.std.proofs.Common.{◌≡◌, ℕ, ◌-◌, ◌<◌, ◌≤◌, nat_le, true, false, List, length, Option, None, Some, ok_or, Ok, IfSome, refl, ap, subst, ◌∙◌, arith}
 use Rattle.std.proofs.lemmas.Bool.Decides.{nat_tests}
 use Rattle.std.specs.Option.{option_map}
@@ -27,7 +27,7 @@ by_rip lines state (Some r) walk P is holds =
     let same : walk_from (process_of lines state.memory) 1024 (first_place state.regs r) ≡ walk = cc in
     subst P same holds
 
--- what holds of each walk holds of that of a state
+-- What is true of each walk is true of the walk of a state.
 each : (lines : List SymLine) (state : State) (walk : Walk) (P : Walk → Type 0) → walk_of lines state ≡ Some walk → ((r : ℕ) → P (walk_from (process_of lines state.memory) 1024 (first_place state.regs r))) → P walk
 unfolding walk_of
 each lines state walk P is holds = by_rip lines state state.regs.rip walk P is (some state.regs.rip)
@@ -58,14 +58,14 @@ pub walks_are_stacks : (lines : List SymLine) (state : State) (walk : Walk) → 
 unfolding walk_of
 walks_are_stacks lines state walk is = stack_by lines state state.regs.rip walk is
 
--- what is known of every address
+-- What is known of every address.
 pub rules_at_0 : (lines : List SymLine) (a : ℕ) → rules_in (record { base = 0; lines = lines }) a ≡ text_rules lines a
 rules_at_0 lines a =
     let low : nat_le 0 a ≡ true = grind (arith, nat_tests) in
     let same : a - 0 ≡ a = omega arith in
     rw (low, same) refl
 
--- the frame of a step is what the text gives at its address
+-- The frame of a step is what the text gives at its address.
 pub frame_of_text : (lines : List SymLine) (memory : List MemRun) (here : Place) → (step_at (process_of lines memory) here).frame ≡ ok_or (text_frame lines here.at here.regs memory) NoRules
 unfolding step_known text_frame
 frame_of_text lines memory here = ap (λ (rules : Option (List RuleText)). frame_by here.regs memory (ok_or rules NoRules)) (rules_at_0 lines here.at) ∙ go (text_rules lines here.at)
@@ -74,6 +74,6 @@ frame_of_text lines memory here = ap (λ (rules : Option (List RuleText)). frame
     go None = refl
     go (Some rules) = refl
 
--- a step by what is known of every address
+-- A step, by what is known of every address.
 pub step_of_file : (lines : List SymLine) (memory : List MemRun) (known : Known) (here : Place) (step : WalkStep) → known ≡ record { records = Ok (record { base = 0; lines = lines }); is_code = true } → step ≡ step_known false known memory here → step ≡ step_at (process_of lines memory) here
 step_of_file lines memory known here step all is = is ∙ ap (λ k. step_known false k memory here) all

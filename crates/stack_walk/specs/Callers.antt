@@ -14,8 +14,8 @@ use Rattle.stack_walk.specs.Walk.{Process, rules_at, signal_by, frame_by, answer
 abbrev pub rules_of : Process → WalkStep → Result (List RuleText) WalkEnd
 rules_of process step = rules_at process.signals (process.known_at step.at) step.rip step.at
 
--- a step has the values of these rules, given the registers and the memory, and the names of the address that it looks up, or of rip if it is a
--- signal's frame
+-- a step has the values of these rules, given the registers and the memory. It has the names of the
+-- address that it looks up; a signal's frame has the names of rip
 pub record IsLookedUp (process : Process) (regs : Regs) (step : WalkStep) : Type 0 where
   pub signal : step.signal ≡ signal_by process.signals (rules_of process step)
   pub frame : step.frame ≡ frame_by regs process.memory (rules_of process step)

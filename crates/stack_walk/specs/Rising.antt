@@ -1,5 +1,6 @@
--- The frames of a stack lie above one another: the CFA of each step but the last is a value, and it is above the CFA of the step before. Only the
--- frame of a signal need not be above, since it may lie on another stack.
+-- The frames of a stack lie one above another: the CFA of each step but the last is a value, and is
+-- above the CFA of the step before. Only the frame of a signal need not be above the one before,
+-- since it may lie on another stack.
 use Rattle.std.specs.Prelude.{◌≡◌, ◌<◌, ℕ, Bool, true, false, List, [], ◌∷◌, Option, None, Some, Result, Ok, Err}
 use Rattle.cfi_eval.specs.declared.outcome.Frame.{Frame}
 use Rattle.cfi_eval.specs.declared.outcome.Outcome.{Outcome}

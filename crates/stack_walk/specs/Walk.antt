@@ -29,8 +29,9 @@ use Rattle.stack_walk.specs.declared.steps.WalkEnd.{WalkEnd}
 use Rattle.stack_walk.specs.declared.steps.WalkEnd.TheVariants.{NoRules, CfaUndefined, CfaFailed, CfaLow, RaUndefined, RaFailed, RaZero, Limit}
 use Rattle.stack_walk.specs.declared.steps.Walk.{Walk}
 
--- what a walk goes through: the memory, which does not change; for each address, the records of its module, or why there are none, and whether the
--- address is code; and whether frames of signals and calls to nowhere count
+-- the process that a walk goes through: its memory, which does not change, and for each address the
+-- records of its module (or why there are none) and whether the address is code. `signals` says
+-- whether frames of signals and calls to nowhere are recognized
 pub record Process : Type 0 where
   pub memory : List MemRun
   pub known_at : ℕ → Known
@@ -42,7 +43,7 @@ nowhere_rules =
     record { target = target.Cfa; tokens = token.Reg 7 ∷ token.Number (pos 8) ∷ token.Add ∷ [] }
     ∷ record { target = target.Ra; tokens = token.Cfa ∷ token.Number (negsuc 7) ∷ token.Add ∷ token.Fetch ∷ [] } ∷ []
 
--- a call led nowhere: the step looks up rip itself, and rip is not code
+-- a call led nowhere if the step looks up rip itself, and rip is not code
 abbrev pub is_nowhere : Known → ℕ → ℕ → Bool
 is_nowhere known rip at = at == rip && not known.is_code
 
@@ -52,8 +53,8 @@ rules_at signals known rip at =
     if signals && is_nowhere known rip at then Ok nowhere_rules
     else known.records >>= λ records. ok_or (rules_in records at) NoRules
 
--- the rules are those of a signal's frame: the rule of the return address uses rsp and not the CFA, since the system put that address at a place that
--- depends on rsp alone
+-- the rules are those of a signal's frame: the rule of the return address uses rsp and not the CFA.
+-- The system put that address at a place that depends on rsp alone
 abbrev pub is_rsp : Token → Bool
 is_rsp (token.Reg register) = register == 7
 is_rsp _ = false
@@ -130,8 +131,8 @@ return_address signal Undefined = Err RaUndefined
 return_address signal (Failed why) = Err (RaFailed why)
 return_address signal (Value ra) = if not signal && ra == 0 then Err RaZero else Ok ra
 
--- the place of the caller: it is at the return address, and the address one below is looked up, since that is in the call. If a signal came, the
--- return address itself is looked up
+-- the place of the caller, which is at the return address. The address one below is looked up,
+-- since that is in the call; after a signal's frame the return address itself is looked up
 abbrev pub caller_of : Bool → Option ℕ → Frame → Result Place WalkEnd
 caller_of signal before frame = do
   cfa ← cfa_of (floor_of signal before) frame.cfa
@@ -155,7 +156,8 @@ walk_from process (suc more) here = let step = step_at process here in going_on 
 abbrev pub first_place : Regs → ℕ → Place
 first_place regs rip = record { rip = rip; at = rip; regs = regs; before = None }
 
--- one module at base 0 that contains every address, without frames of signals and calls to nowhere
+-- a process that is one module at base 0 with every address; frames of signals and calls to nowhere
+-- are not recognized
 abbrev pub process_of : List SymLine → List MemRun → Process
 process_of lines memory = record { memory = memory; known_at = λ a. record { records = Ok (record { base = 0; lines = lines }); is_code = true }; signals = false }
 

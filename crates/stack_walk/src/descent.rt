@@ -15,7 +15,7 @@ use sym_edges::{OutOfMemory, Stop};
 use sym_lookup::Index;
 use sym_records::SymFile;
 
-/// The most steps of a walk.
+/// How many steps a walk has at most.
 const MOST_STEPS: usize = 1024;
 
 /// What is known of every address, if all lie in one module.

@@ -150,8 +150,9 @@ fn name_at(
     }
 }
 
-/// The step at a place, given what is known of the address that is looked up. It costs a binary search for the records that name the address, and a
-/// pass over the rules of one INIT. If `signals`, frames of signals and calls to nowhere count.
+/// The step at a place, given what is known of the address that is looked up. It costs a binary
+/// search for the records that name the address, and a pass over the rules of one INIT. If
+/// `signals`, frames of signals and calls to nowhere are recognized.
 #[tactic(auto, unfolding(crate::specs::Walk::step_known))]
 pub fn take_step<M: ByteMemory>(
     alloc: Global,

@@ -9,8 +9,9 @@ ghost use Rattle.stack_walk.specs.Walk.{Process, first_place, walk_from, walk_of
 ghost use Rattle.stack_walk.specs.Callers.{IsStack, IsStackOf};
 ghost use Rattle.stack_walk.specs.Rising.{CfasRise, HaveNoSignals};
 
-/// In every process the CFA of each step but the last is a value. It is above the CFA of the step before, except at frames of signals; there are no
-/// such frames if they do not count. A walk has at most `most` steps.
+/// In every process the CFA of each step but the last is a value. It is above the CFA of the step
+/// before, except at frames of signals; there are no such frames if the process does not recognize
+/// them. A walk has at most `most` steps.
 #[tactic(auto, using(crate::proofs::RisingLemmas::rise_from, crate::proofs::RisingLemmas::no_signals_from, crate::proofs::RisingLemmas::few_from))]
 pub fn frames_lie_above_one_another()
     ensures rise { (process : Process) (most : ℕ) (here : Place) → CfasRise here.before (walk_from process most here).steps }

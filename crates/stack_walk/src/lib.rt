@@ -5,12 +5,14 @@
 //! the caller, until a rule has no value or there are no rules. Each step has its address, the values of its rules and which records name it; the end
 //! of a walk says why it ended.
 //!
-//! [`walk`] is the walk from a state file, given one symbol file, of at most 1,024 steps. Every address lies in the one module, and neither frames of
-//! signals nor calls to nowhere count. The [`laws`] say of the walks through every process that each step is the caller of the one before and that
-//! the frames lie above one another, except frames of signals.
+//! [`walk`] is the walk from a state file, given one symbol file, of at most 1,024 steps. Every
+//! address lies in the one module, and neither frames of signals nor calls to nowhere are
+//! recognized. The [`laws`] say of the walks through every process that each step is the caller of
+//! the one before and that the frames lie above one another, except frames of signals.
 //!
-//! To read: `specs/Walk.antt` and `specs/Callers.antt`; then `steps` (what a walk gives), `records` and `known` (a step), `callers` (how one step
-//! leads to the next) and `descent` (the walk).
+//! A reader begins with `specs/Walk.antt` and `specs/Callers.antt`. Then come `steps` (what a walk
+//! gives), `records` and `known` (a step), `callers` (how one step leads to the next) and `descent`
+//! (the walk).
 #![tactic(auto)]
 
 mod callers;

@@ -12,7 +12,8 @@ pub struct NoRip;
 pub struct WalkStep {
     /// The state's rip, or the return address of the step before.
     pub rip: u64,
-    /// The address that is looked up: rip itself in the first step and after a signal's frame, else the address one below, which is in the call.
+    /// The address that is looked up: rip itself in the first step and after a signal's frame,
+    /// otherwise the address one below rip, which is in the call.
     pub at: u64,
     /// The rules are those of a signal's frame.
     pub signal: bool,
@@ -36,12 +37,12 @@ pub enum WalkEnd {
     NoRules,
     CfaUndefined,
     CfaFailed(Cause),
-    /// The CFA does not lie above that of the step before.
+    /// The CFA is not above that of the step before.
     CfaLow { before: u64, cfa: u64 },
     RaUndefined,
     RaFailed(Cause),
     RaZero,
-    /// It is the last step that a walk may have.
+    /// The step is the last one that a walk may have.
     Limit,
 }
 

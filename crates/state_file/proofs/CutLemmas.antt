@@ -1,4 +1,4 @@
--- Lemmas on lines and on words.
+-- Lemmas about lines and words.
 use Rattle.std.proofs.Common.{◌≡◌, ◌+◌, ◌<◌, ◌==◌, ℕ, zero, suc, cond, Bool, true, false, ◌⊎◌, inl, inr, List, [], ◌∷◌, length, get_or, take, drop, None, Some, refl, sym, ap, ◌∙◌, arith}
 use Rattle.clean_names.proofs.SkipLemmas.{Begins, begins_skip}
 use Rattle.std.proofs.lemmas.Bool.{false_from_ne_true}
@@ -8,18 +8,18 @@ use Rattle.sym_rules.specs.Cuts.{is_space, before, from, skip, onto, split_lines
 use Rattle.sym_rules.specs.RuleReading.{words}
 use Rattle.state_file.specs.internal.Parts.{two_of}
 
--- the lines of a text: a byte other than LF stands in the first one
+-- A byte other than LF at the start is in the first line.
 split_within : (b : ℕ) (bytes : List ℕ) → ((b == 10) ≡ true → ⊥) → split_lines (b ∷ bytes) ≡ onto b (split_lines bytes)
 unfolding split_lines
 split_within b bytes within = ap (λ t. cond t ([] ∷ split_lines bytes) (onto b (split_lines bytes))) (false_from_ne_true (b == 10) within)
 
--- a text with no LF is one line
+-- A text without LF is one line.
 one_line : (bytes : List ℕ) → ((k : ℕ) → k < length bytes → (get_or bytes k 0 == 10) ≡ true → ⊥) → split_lines bytes ≡ bytes ∷ []
 unfolding split_lines
 one_line [] none = refl
 one_line (b ∷ bytes) none = split_within b bytes (none 0 (omega arith)) ∙ ap (onto b) (one_line bytes (λ k lt. none (suc k) (omega arith)))
 
--- the first line ends before the first LF
+-- The first line ends before the first LF.
 first_line : (bytes : List ℕ) (n : ℕ) → n < length bytes → ((k : ℕ) → k < n → (get_or bytes k 0 == 10) ≡ true → ⊥) → (get_or bytes n 0 == 10) ≡ true
     → split_lines bytes ≡ take n bytes ∷ split_lines (drop (n + 1) bytes)
 unfolding split_lines
@@ -30,7 +30,7 @@ first_line (b ∷ bytes) (suc n) within before is =
     rw next (split_within b bytes (before 0 (omega arith))
     ∙ ap (onto b) (first_line bytes n (omega arith) (λ k lt. before (suc k) (omega arith)) is))
 
--- the last line, and one with others behind it, by the search for LF
+-- The search for LF shows whether a line is the last one or others follow.
 pub line_last : (bytes : List ℕ) → IsFirstByte (is_byte 10) bytes None → split_lines bytes ≡ bytes ∷ []
 line_last bytes none = one_line bytes (λ k lt. none k (omega arith) lt)
 
@@ -39,7 +39,7 @@ line_first bytes front behind n found f b =
     first_line bytes n found.0.high (λ k lt. found.0.before k (omega arith) lt) found.1
     ∙ ap (λ l. l ∷ split_lines (drop (n + 1) bytes)) (sym f) ∙ ap (λ l. front ∷ split_lines l) (sym b)
 
--- the words of bytes: spaces in front do not count, and the first word ends at a space
+-- Spaces before the first word are skipped, and the word ends at a space.
 skip_by : (t : Bool) (x : ℕ) (xs : List ℕ) → t ≡ (x == 32) → words xs ≡ words (skip is_space xs) → words (x ∷ xs) ≡ words (cond t (skip is_space xs) (x ∷ xs))
 unfolding words
 skip_by true x xs e h = rw (sym e) h
@@ -61,7 +61,7 @@ unfolding words before from
 words_first b [] e = rw e refl
 words_first b (c ∷ bytes) e = rw e (first_by b c bytes (c == 32) refl (λ f. words_first c bytes f))
 
--- the words of bytes are none, or the first and those behind it
+-- The bytes have no word, or a first word and those after it.
 pub record NoWord (bytes : List ℕ) : Type 0 where
   pub none : words bytes ≡ []
   pub word : before 32 (skip is_space bytes) ≡ []
@@ -94,7 +94,7 @@ seen_by bytes (b ∷ later) e h =
 pub words_seen : (bytes : List ℕ) → NoWord bytes ⊎ OneWord bytes
 words_seen bytes = seen_by bytes (skip is_space bytes) refl (begins_skip bytes)
 
--- two words as the code finds them
+-- Two words as the code finds them.
 pub record Found (bytes first behind second rest : List ℕ) : Type 0 where
   pub word : first ≡ before 32 (skip is_space bytes)
   pub after : behind ≡ from 32 (skip is_space bytes)
@@ -112,7 +112,7 @@ none_second bytes first behind second rest f h (inr one) = let some : 0 < length
 pub two_few : (bytes first behind second rest : List ℕ) → Found bytes first behind second rest → length second ≡ 0 → None ≡ two_of (words bytes)
 two_few bytes first behind second rest f h = few_by bytes behind f.after (none_second bytes first behind second rest f h (words_seen behind)) (words_seen bytes)
 
--- the first two words and those behind
+-- The first two words and those after them.
 empty_behind : (bytes first behind second rest : List ℕ) → Found bytes first behind second rest → NoWord bytes → 0 < length second → ⊥
 unfolding skip before
 empty_behind bytes first behind second rest f empty some =

@@ -1,4 +1,4 @@
--- Lemmas on numbers and bytes by their hexadecimal digits.
+-- Lemmas about numbers and bytes, given their hexadecimal digits.
 use Rattle.std.proofs.Common.{◌≡◌, ℕ, ◌+◌, ◌*◌, ◌%◌, ◌^◌, ◌<◌, ◌≤◌, cond, ◌⊎◌, inl, inr, List, [], ◌∷◌, length, drop, get_or, Option, Some, None, Result, Ok, Err, refl, sym, ◌∙◌, ap, arith}
 use Rattle.std.specs.Option.{option_map, option_and_then}
 use Rattle.std.specs.Result.{result_ok}
@@ -37,19 +37,19 @@ pub hex_end : (ds : List ℕ) (i n : ℕ) → length ds ≤ 16 → length ds ≤
 unfolding hex_onto
 hex_end ds i n short past so_far = hex_short ds short ∙ so_far ∙ at_drop_all (hex_onto n) ds i past
 
--- a number of so many digits
+-- A number with this many digits.
 pub hex_grows : (n v i : ℕ) → n < 16 ^ i → v < 16 → n * 16 + v < 16 ^ (i + 1)
 hex_grows n v i less small = grind (arith, common_steps)
 
 pub hex_room : (n i : ℕ) → n < 16 ^ i → i < 16 → n < 2 ^ 60
 hex_room n i less few = let most : 16 ^ i ≤ 16 ^ 15 = pow-le-pow_right {n = 16} (omega arith) {i = i} {j = 15} (omega arith) in omega arith
 
--- the digits of the crate `hex` are those of a state file
+-- The digits of the crate `hex` are those of a state file.
 same_digit : (d : ℕ) → hex_digit_value d ≡ hex_digit d
 unfolding hex_digit
 same_digit d = grind (arith, nat_tests)
 
--- two digits, and what stands behind them
+-- Two digits, and those after them.
 pair_by : (a b i : ℕ) (high low : Option ℕ) (later : Result (List ℕ) FromHexError)
     → result_ok (digit_or_error a i high >>= (λ h. digit_or_error b (i + 1) low >>= (λ l. Ok (h * 16 + l))) >>= (λ byte. later >>= (λ bytes. Ok (byte ∷ bytes))))
     ≡ option_and_then (λ byte. option_map (λ bytes. byte ∷ bytes) (result_ok later)) (option_and_then (λ h. option_map (λ l. h * 16 + l) low) high)
@@ -64,7 +64,7 @@ pairs_are i [] = refl
 pairs_are i (a ∷ []) = refl
 pairs_are i (a ∷ b ∷ ds) = rw (← pairs_are (i + 2) ds, ← same_digit a, ← same_digit b) (pair_by a b i (hex_digit_value a) (hex_digit_value b) (decode_pairs (i + 2) ds))
 
--- an odd number of digits is no run of bytes
+-- An odd number of digits is no run of bytes.
 no_bytes : (byte : Option ℕ) → option_and_then (λ b. option_map (λ bytes. b ∷ bytes) None) byte ≡ None
 no_bytes None = refl
 no_bytes (Some b) = refl
@@ -82,7 +82,7 @@ decoded ds =
       | inr even ↦ ap result_ok (decode_of-even ds (omega arith)) ∙ pairs_are 0 ds
     ]
 
--- what the crate answers says what the digits are
+-- If the crate `hex` decodes digits, these are the bytes of the definition.
 pub bytes_are : (ds bytes : List ℕ) → decode_of ds ≡ Ok bytes → bytes_of ds ≡ Some bytes
 bytes_are ds bytes is = sym (decoded ds) ∙ ap result_ok is
 

@@ -1,4 +1,4 @@
--- Lemmas on lines that are read one after another.
+-- Lemmas about lines that are read one after another.
 use Rattle.std.proofs.Common.{◌≡◌, ℕ, ◌+◌, List, [], ◌∷◌, length, Option, None, Some, Bor, Result, Ok, Err, refl, sym, ap, ◌∙◌}
 use Rattle.sym_edges.specs.declared.fault.Stop.{Stop}
 use Rattle.sym_edges.specs.declared.fault.Stop.TheVariants.{Fault, NoMemory}
@@ -11,12 +11,12 @@ use Rattle.state_file.specs.declared.state.State.{State}
 use Rattle.state_file.specs.declared.fault.StateFault.{StateFault}
 use Rattle.state_file.specs.StateText.{with_line, numbered, line_read, with_lines}
 
--- how much is left
+-- How many bytes are left.
 abbrev pub left : Option (Bor (List ℕ)) → ℕ
 left None = 0
 left (Some text) = length text.now + 1
 
--- a line that says something, and one that is bad
+-- The next line is good, or it is bad.
 pub lines_more : (number : ℕ) (state : State) (line : List ℕ) (lines : List (List ℕ)) (said : StateLine) → numbered (next_number number) (line_read line) ≡ Ok said
     → with_lines number state (line ∷ lines) ≡ with_lines (next_number number) (with_line said state) lines
 unfolding with_lines
@@ -30,7 +30,7 @@ pub lines_none : (number : ℕ) (state : State) → with_lines number state [] �
 unfolding with_lines
 lines_none number state = refl
 
--- what is given where a line is bad, or memory ran out
+-- What is returned if a line is bad, or if memory ran out.
 pub stopped : (number next : ℕ) (state : State) (line : List ℕ) (lines : List (List ℕ)) (e : Stop StateFault) (whole : Result State StateFault) → next ≡ next_number number → Gives {A = StateLine} (Err e) (numbered next (line_read line))
     → whole ≡ with_lines number state (line ∷ lines) → MatchStop {A = State} (Err e) (λ s. whole ≡ Ok s) (λ fault. whole ≡ Err fault) (Unit {0})
 stopped number next state line lines (Fault fault) whole n h w = w ∙ lines_bad number state line lines fault (ap (λ k. numbered k (line_read line)) (sym n) ∙ h)

@@ -79,13 +79,14 @@ worded_line key fields =
     else if bytes_eq key (codes "MEM") then two_fields memory_line fields
     else Err fault.Keyword
 
--- what a line says: its first word is found as in a symbol file; then spaces and CRs at the end of the line do not count
+-- what a line says. Its first word is found as in a symbol file. In what follows, spaces and CRs at
+-- the end of the line are ignored
 unfoldable pub line_read : List ℕ → Result StateLine StateKind
 line_read line =
     if is_blank line then Ok Blank
     else worded_line (key_of line) (words (trim_end is_margin (from 32 (trimmed line))))
 
--- a fault gets the number of its line
+-- a fault, with the number of its line
 abbrev pub numbered : ℕ → Result StateLine StateKind → Result StateLine StateFault
 numbered number (Ok said) = Ok said
 numbered number (Err kind) = Err (record { kind = kind; line = number })

@@ -6,7 +6,7 @@ ghost use Rattle.state_file.specs.internal.Parts.{HasPlace};
 use cfi_eval::Regs;
 use sym_rules::register_named;
 
-/// The register with a name: the number of one of the sixteen, or rip, which has no number.
+/// The register with this name: the number of one of the sixteen, or rip, which has no number.
 #[tactic(auto, unfolding(crate::specs::StateText::named_register))]
 pub(crate) fn named_register(name: &[u8]) -> Option<Option<u8>>
     ensures register { result ≡ named_register name.now }

@@ -1,4 +1,4 @@
--- Lemmas on numbers that have one name.
+-- Lemmas about numbers that have one name.
 use Rattle.std.proofs.Common.{◌≡◌, ℕ, nat_eq, Bool, true, false, List, sym, ap, subst, ◌∙◌}
 use Rattle.std.specs.Bool.{OnTrue}
 use Rattle.std.specs.Str.{bytes_eq}

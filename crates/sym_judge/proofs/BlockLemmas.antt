@@ -1,4 +1,4 @@
--- Lemmas on the records of a block, and on blocks that say the same.
+-- Lemmas about the records of a block, and about blocks that say the same.
 use Rattle.std.proofs.Common.{◌≡◌, ℕ, zero, suc, ◌+◌, ◌==◌, ◌&&◌, leb, Bool, true, false, cond, max, List, [], ◌∷◌, ◌++◌, map, Option, None, Some, refl, sym, ap, ◌∙◌}
 use Rattle.std.specs.List.{find, list_any}
 use Rattle.std.specs.Option.{option_map, option_map_or}
@@ -18,7 +18,7 @@ use Rattle.sym_judge.specs.declared.ruling.Half.TheVariants.{Names, Frames}
 use Rattle.sym_judge.specs.internal.Blocks.{changes, inside, is_inside, same_extent, same_rule_text, same_path, same_run, same_source, same_ranges, same_site, same_record, same_head}
 use Rattle.sym_judge.proofs.SameLemmas.{never, numbers, and_left, and_right, and_both, bytes_tell, options_tell, words_tell}
 
--- the records of a block, one after another
+-- The records of a block, one after another.
 pub inside_more : (half : Half) (line : SymLine) (later : List SymLine) → is_inside half line ≡ true → inside half (line ∷ later) ≡ line ∷ inside half later
 inside_more Names (record_line.Inline level line file origin ranges) later is = refl
 inside_more Names (record_line.Line address size line file) later is = refl
@@ -33,7 +33,7 @@ inside_ends Names _ later is = refl
 inside_ends Frames (record_line.Change address rules) later is = never (sym is)
 inside_ends Frames _ later is = refl
 
--- lists of equal members are equal
+-- Lists are equal if their members are.
 pub list_true : {A : Type 0} (same : A → A → Bool) → ((a b : A) → same a b ≡ true → a ≡ b) → (front back : List A) → same_list same front back ≡ true → front ≡ back
 list_true same tells [] [] is = refl
 list_true same tells [] (b ∷ back) is = never is
@@ -62,7 +62,7 @@ rule_true a b is =
 pub rules_true : (a b : List RuleText) → same_list same_rule_text a b ≡ true → a ≡ b
 rules_true a b is = list_true same_rule_text rule_true a b is
 
--- records that say the same cover the same addresses
+-- Records that say the same cover the same addresses.
 line_tells : (own other : List SymLine) (x : ℕ) (a b : SymLine) → same_record own other a b ≡ true → is_line_at x a ≡ is_line_at x b
 line_tells own other x (record_line.Inline level line file origin ranges) (record_line.Inline depth number path name extents) is = refl
 line_tells own other x (record_line.Line address size line file) (record_line.Line start many number path) is =
@@ -81,7 +81,7 @@ inline_tells own other level x (record_line.Line address size line file) (record
 inline_tells own other level x (record_line.Change address rules) (record_line.Change start others) is = refl
 inline_tells own other level x _ _ is = never is
 
--- and say the same there
+-- Records that say the same name the same.
 line_said : (own other : List SymLine) (a b : SymLine) → same_record own other a b ≡ true → same_line (path_and_line own a) (path_and_line other b) ≡ true
 line_said own other (record_line.Inline level line file origin ranges) (record_line.Inline depth number path name extents) is = refl
 line_said own other (record_line.Line address size line file) (record_line.Line start many number path) is =
@@ -106,7 +106,7 @@ call_said own other (record_line.Line address size line file) (record_line.Line 
 call_said own other (record_line.Change address rules) (record_line.Change start others) is = name_said None None None None 0 0 refl refl refl
 call_said own other _ _ is = never is
 
--- lists of them
+-- Lists of records that say the same.
 abbrev pub AreSame : List SymLine → List SymLine → List SymLine → List SymLine → Type 0
 AreSame own other front back = same_list (same_record own other) front back ≡ true
 
@@ -124,7 +124,7 @@ levels_same own other [] (b ∷ back) is = never is
 levels_same own other (a ∷ front) [] is = never is
 levels_same own other (a ∷ front) (b ∷ back) is = levels_step own other a b front back (and_left _ _ is) (levels_same own other front back (and_right _ _ is))
 
--- the first of them that passes a test
+-- The first record that passes a test.
 abbrev Paired : List SymLine → List SymLine → Option SymLine → Option SymLine → Type 0
 Paired own other None None = Unit {0}
 Paired own other (Some a) (Some b) = same_record own other a b ≡ true
@@ -167,7 +167,7 @@ chains_same own other x level (suc levels) front back is =
     call_met own other (find (is_inline_at level x) front) (find (is_inline_at level x) back) (inlines_from x (level + 1) levels front) (inlines_from x (level + 1) levels back)
     (find_both own other (is_inline_at level x) (inline_tells own other level x) front back is) (chains_same own other x (level + 1) levels front back is)
 
--- changes
+-- Changes of frame rules.
 until_front : (x : ℕ) (lines : List SymLine) → changes_until x lines ≡ changes_until x (changes lines)
 unfolding changes_until
 until_front x [] = refl
@@ -193,13 +193,13 @@ until_both own other x (a ∷ front) (b ∷ back) is = until_step own other x a 
 pub changes_same : (own other : List SymLine) (x : ℕ) (front back : List SymLine) → AreSame own other (changes front) (changes back) → changes_until x front ≡ changes_until x back
 changes_same own other x front back is = until_front x front ∙ until_both own other x (changes front) (changes back) is ∙ sym (until_front x back)
 
--- the name of a function
+-- The name of a function.
 pub head_names : (a b : SymLine) → same_head a b ≡ true → bytes_eq (func_name a) (func_name b) ≡ true
 head_names (record_line.Func many address size params name) (record_line.Func more start length others called) is = is
 head_names (record_line.Init address size rules) (record_line.Init start length others) is = bytes_tell.self []
 head_names _ _ is = never is
 
--- two tests of a record in turn
+-- Two tests of a record, one after the other.
 pub line_like : (own other : List SymLine) (other_line : SymLine) (address size line file start many number path : ℕ) (run source : Bool) → other_line ≡ record_line.Line start many number path → run ≡ same_run address size start many → run ≡ true
     → source ≡ same_source own other line file number path → source ≡ same_record own other (record_line.Line address size line file) other_line
 line_like own other other_line address size line file start many number path run source p e holds is =

@@ -1,4 +1,4 @@
--- Lemmas on chains of calls by their numbers, for `chains` and `names`.
+-- Lemmas about chains of calls that have numbers, for `chains` and `names`.
 use Rattle.std.proofs.Common.{◌≡◌, ◌<◌, ◌≤◌, ◌^◌, ◌&&◌, nat_le, nat_eq, ℕ, suc, Bool, true, false, cond, List, [], ◌∷◌, ◌++◌, map, length, take, drop, get_or, Option, None, Some, IfSome, refl, sym, ap, subst, ◌∙◌, arith, ◌⊎◌, inl, inr}
 use Rattle.std.specs.Prelude.{slice_get}
 use Rattle.std.specs.Bool.{OnTrue}
@@ -36,7 +36,7 @@ use Rattle.sym_judge.proofs.AliasLemmas.{texts_tell}
 abbrev Levels : Type 0
 Levels = List (Stepping (Option FirstItem))
 
--- what is kept
+-- What is true of a number stays true in a longer list of entries.
 kept_number : (old new : List Entry) → Keeps old new → (t : ChainTree) (n : ℕ) → IsNumberOf old t n → IsNumberOf new t n
 kept_number old new keeps (One call) n is = keeps n (entry.Call call) is
 kept_number old new keeps (Two front back) n is = (is.0, is.1, keeps n (entry.Joined is.0 is.1) is.2, kept_number old new keeps front is.0 is.3, kept_number old new keeps back is.1 is.4)
@@ -50,7 +50,7 @@ kept_part own old new calls full (Whole n) keeps is = (kept_means own old new n 
 kept_part own old new calls full (Ended n) keeps is = (kept_means own old new n calls keeps is.0, is.1)
 kept_part own old new calls full Unlike keeps is = tt
 
--- one number has one chain
+-- A number stands for only one chain.
 one_tree : (entries : List Entry) (s t : ChainTree) (n : ℕ) → IsNumberOf entries s n → IsNumberOf entries t n → s ≡ t
 one_tree entries (One c) (One d) n p q = let same : c ≡ d = cc (p, q) in ap One same
 one_tree entries (One c) (Two front back) n p q = absurd (cc (p, q.2))
@@ -65,7 +65,7 @@ one_tree entries (Two front back) (Two first second) n p q =
 one_chain : (own : List SymLine) (entries : List Entry) (n : ℕ) (c d : List Shown) → Means own entries n c → Means own entries n d → c ≡ d
 one_chain own entries n c d p q = p.are ∙ ap (calls_of_tree own) (one_tree entries p.tree q.tree n p.number q.number) ∙ sym q.are
 
--- one call, and two chains
+-- The chain of one call, and the chain made of two chains.
 pub one_call : (own : List SymLine) (entries : List Entry) (number : Option ℕ) (call : CallSpot) (calls : List Shown) → calls ≡ shown_call own call ∷ [] → IfSome number (λ n. slice_get entries n ≡ Some (entry.Call call)) → IfSome number (λ n. Means own entries n calls)
 one_call own entries None call calls are is = tt
 one_call own entries (Some n) call calls are is = record { tree = One call; number = is; are = are }
@@ -78,13 +78,13 @@ two_chains own old new (Some n) i j c d keeps is p q = record {
   are = ap (λ xs. xs ++ d) p.are ∙ ap (λ ys. calls_of_tree own p.tree ++ ys) q.are;
 }
 
--- the levels in front all have calls, or the others do not count
+-- Either all first levels have calls, or the later levels do not count.
 pub some_behind : (own : List SymLine) (old new : List Entry) (number : Option ℕ) (part : ChainPart) (i j : ℕ) (c d : List Shown) (f g : Bool) → Keeps old new → IfSome number (λ n. slice_get new n ≡ Some (entry.Joined i j))
     → ((own : List SymLine) (entries : List Entry) (calls : List Shown) → IfSome number (λ n. Means own entries n calls) → IsPart own entries calls f part) → Means own old i c → Means own old j d × (g ≡ f) → IsPart own new (c ++ d) g part
 some_behind own old new number part i j c d f g keeps is told m back =
     subst (λ b. IsPart own new (c ++ d) b part) (sym back.1) (told own new (c ++ d) (two_chains own old new number i j c d keeps is m back.0))
 
--- levels in front of others
+-- The chain of levels, made of the chain of the first ones and that of the others.
 chain_cut : (ms ns : Levels) (x : ℕ) → chain_in (ms ++ ns) x ≡ cond (is_full ms x) (chain_in ms x ++ chain_in ns x) (chain_in ms x)
 chain_cut [] ns x = refl
 chain_cut (m ∷ ms) ns x = by (place_in m x) (chain_cut ms ns x)
@@ -117,7 +117,7 @@ shown_cond lines false xs ys = refl
 shown_cut : (lines : List SymLine) (ms ns : Levels) (x : ℕ) → shown_calls lines (chain_in (ms ++ ns) x) ≡ cond (is_full ms x) (shown_calls lines (chain_in ms x) ++ shown_calls lines (chain_in ns x)) (shown_calls lines (chain_in ms x))
 shown_cut lines ms ns x = ap (shown_calls lines) (chain_cut ms ns x) ∙ shown_cond lines (is_full ms x) (chain_in ms x) (chain_in ns x)
 
--- between two stops
+-- Two addresses between which there is no stop.
 held_same : {V : Type 0} (before : V) (stops : List ℕ) (values : List V) (x y : ℕ) → ((k : ℕ) → k < length stops → nat_le (get_or stops k 0) x ≡ nat_le (get_or stops k 0) y) → held_from before stops values x ≡ held_from before stops values y
 unfolding held_from
 held_same before [] values x y same = refl
@@ -160,7 +160,7 @@ run_steady steps stops x i end part stepping same point is told y low before = s
           over ∙ sym too
     ]
 
--- a map, up to an address
+-- The map is right for all addresses below this one.
 pub record AreMappedTo (own lines : List SymLine) (entries : List Entry) (levels : Levels) (address : ℕ) (steps : Stepping ChainPart) : Type 0 where
   pub parts : (x : ℕ) → x < address → x < 2 ^ 64 → IsPart own entries (shown_calls lines (chain_in levels x)) (is_full levels x) (value_at Nothing steps x)
 
@@ -184,7 +184,7 @@ one_run_more own lines old new levels address end part steps more keeps set so t
 abbrev RunTold : List SymLine → List SymLine → List Entry → Levels → ℕ → Option ℕ → Stepping ChainPart → Type 0
 RunTold own lines new levels address end steps = (x : ℕ) → x < 2 ^ 64 → IsBefore end x → IsPart own new (shown_calls lines (chain_in levels x)) (is_full levels x) (value_at Nothing steps x)
 
--- one level
+-- One level.
 one_level : (lines : List SymLine) (level : Stepping (Option FirstItem)) (x : ℕ) → shown_calls lines (chain_in (level ∷ []) x) ≡ calls_there lines (place_in level x)
 one_level lines level x = by (place_in level x)
   where
@@ -220,7 +220,7 @@ level_done own lines old new level address run part steps more keeps set is told
   parts = λ x fits. level_run own lines old new level address run part steps more keeps set is told so x fits (subst (λ o. IsBefore o x) (sym ends) tt);
 }
 
--- two maps
+-- Two maps are joined.
 abbrev pub Joins : List Entry → List Entry → ChainPart → ChainPart → ChainPart → Type 0
 Joins old new front back part = (own : List SymLine) (c d : List Shown) (f g : Bool) → IsPart own old c f front → IsPart own old d g back → IsPart own new (cond f (c ++ d) c) (f && g) part
 
@@ -251,19 +251,19 @@ joined_done own lines first old new ms ns front back address end ends ended p q 
 pub kept_map : (own lines : List SymLine) (old new : List Entry) (levels : Levels) (steps : Stepping ChainPart) → Keeps old new → AreMapped own lines old levels steps → AreMapped own lines new levels steps
 kept_map own lines old new levels steps keeps are = record { parts = λ x fits. kept_part own old new _ _ (value_at Nothing steps x) keeps (are.parts x fits) }
 
--- the halves of some levels
+-- The map of some levels, from the maps of both halves.
 pub halves_mapped : (own lines : List SymLine) (first second new : List Entry) (levels front back : Levels) (half : ℕ) (mine theirs steps : Stepping ChainPart) → front ≡ take half levels → back ≡ drop half levels → Keeps first second → AreMapped own lines first front mine → AreMapped own lines second back theirs
     → ((own lines : List SymLine) (ms ns : Levels) → AreMapped own lines second ms mine → AreMapped own lines second ns theirs → AreMapped own lines new (ms ++ ns) steps) → AreMapped own lines new levels steps
 halves_mapped own lines first second new levels front back half mine theirs both e f keeps fs bs told =
     subst (λ ls. AreMapped own lines new ls both) (ap (λ ls. ls ++ back) e ∙ ap (λ ls. take half levels ++ ls) f ∙ take-append-drop half levels) (told own lines front back (kept_map own lines first second front mine keeps fs) bs)
 
--- a FUNC
+-- The map of a FUNC.
 pub map_of_func : (own lines : List SymLine) (entries : List Entry) (levels : Levels) (func : ℕ) (steps : Stepping ChainPart) → ((x : ℕ) → x < 2 ^ 64 → chain_in levels x ≡ chain_places lines func x) → AreMapped own lines entries levels steps → IsChainMap own lines entries func steps
 map_of_func own lines entries levels func steps chain are = record {
   parts = λ x fits. record { full = is_full levels x; is = subst (λ places. IsPart own entries (shown_calls lines places) (is_full levels x) (value_at Nothing steps x)) (chain x fits) (are.parts x fits) };
 }
 
--- calls of one number
+-- Calls that have one number.
 pub no_calls : (a b : ChainPart) (same : Bool) → a ≡ Nothing → OnTrue same ((own : List SymLine) (entries : List Entry) (calls : List Shown) (full : Bool) → IsPart own entries calls full b → calls ≡ [])
     → OnTrue same ((own : List SymLine) (entries : List Entry) (c d : List Shown) (f g : Bool) → IsPart own entries c f a → IsPart own entries d g b → c ≡ d)
 no_calls a b false nothing told = tt
@@ -275,7 +275,7 @@ same_calls a b number false cases told = tt
 same_calls a b number true (inl whole) told = λ own entries c d f g p q. (let one : IsPart own entries c f (Whole number) = subst (IsPart own entries c f) whole p in one_chain own entries number c d one.0 (told own entries d g q))
 same_calls a b number true (inr ended) told = λ own entries c d f g p q. (let one : IsPart own entries c f (Ended number) = subst (IsPart own entries c f) ended p in one_chain own entries number c d one.0 (told own entries d g q))
 
--- the maps of some functions
+-- The maps of some functions.
 pub func_there : (funcs : List FuncChains) (at func : ℕ) (f : FuncChains) → f ≡ get_or funcs at f → at < length funcs → f.func ≡ func → (own lines : List SymLine) (entries : List Entry) → AreFuncChains own lines entries funcs → IsChainMap own lines entries func f.chains
 func_there funcs at func f is l named own lines entries are = subst (λ n. IsChainMap own lines entries n f.chains) named (subst (λ (g : FuncChains). IsChainMap own lines entries g.func g.chains) (sym is) (are at f l))
 
@@ -289,7 +289,7 @@ pub one_more_func : (own lines : List SymLine) (old new : List Entry) (levels : 
 one_more_func own lines old new levels funcs more f keeps is are chain mapped =
     subst (AreFuncChains own lines new) (sym is) (All-push (λ (g : FuncChains). IsChainMap own lines new g.func g.chains) funcs f (kept_funcs own lines old new funcs keeps are) (map_of_func own lines new levels f.func f.chains chain mapped))
 
--- calls that are shown alike are the same
+-- Calls that are shown alike are the same.
 same_calls_shown : (a b : Call) → shown a ≡ shown b → same_call a b ≡ true
 same_calls_shown a b e =
     let name : call_name a ≡ call_name b = ap (λ (s : Shown). s.0) e in

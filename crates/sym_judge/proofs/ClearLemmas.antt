@@ -1,4 +1,5 @@
--- Where neither of two files has a block, or both have blocks that say the same, they do not differ.
+-- Two files do not differ at an address if neither has a block there, or if both have blocks there
+-- that say the same.
 use Rattle.std.proofs.Common.{◌≡◌, ℕ, ◌+◌, Bool, true, List, [], ◌∷◌, ◌++◌, drop, map, Option, None, Some, refl, sym, ap, subst, ◌∙◌}
 use Rattle.std.specs.List.{find, range_with_len, slice_get}
 use Rattle.std.specs.Option.{option_map, option_map_or, option_and_then}
@@ -26,7 +27,7 @@ use Rattle.sym_judge.proofs.SameLemmas.{never, some_is, forms_tell}
 use Rattle.sym_judge.proofs.FrameLemmas.{IsOfFrames, AreOfFrames, registers_of_frames, passed, nowhere}
 use Rattle.sym_judge.proofs.BlockLemmas.{AreSame, levels_same, lines_same, chains_same, changes_same, rules_true, head_names}
 
--- names
+-- Names.
 record NamesAgree (own other : List SymLine) (x : ℕ) (f g : Option Found) : Type 0 where
   owner : same_option bytes_eq (option_map (λ (h : Found). func_name h.func) f) (option_map (λ (h : Found). func_name h.func) g) ≡ true
   chain : same_list same_call (map (call_of own) (option_map_or (inlines_under x) f [])) (map (call_of other) (option_map_or (inlines_under x) g [])) ≡ true
@@ -68,7 +69,7 @@ both_found own other x i j (Some f) (Some g) same p q =
 func_is : (lines : List SymLine) (x : ℕ) (place : Option ℕ) → func_place lines x ≡ place → IsFuncOf lines (text_func lines x) place
 func_is lines x place is = subst (λ o. IsFuncOf lines (text_func lines x) o) is (func_at lines x)
 
--- frames: the same rules
+-- Frame rules that are the same.
 self_option : {A : Type 0} (same : A → A → Bool) → ((a : A) → same a a ≡ true) → (a b : Option A) → a ≡ b → same_option same a b ≡ true
 self_option {A = A} same self a b is = ap (λ o. same_option same o b) is ∙ by b
   where
@@ -107,7 +108,7 @@ rules_same own other x i j (record_line.Init address size rules) (record_line.In
 rules_same own other x i j (record_line.Func many address size params name) b p q h k same is later = never is
 rules_same own other x i j _ _ p q h k same is later = never same
 
--- both
+-- Both halves.
 pub no_blocks : (half : Half) (own other : List SymLine) (x : ℕ) → block_place half own x ≡ None → block_place half other x ≡ None → first_in half own other x ≡ None
 no_blocks Names own other x p q = names_clear own other x (no_func own other x (text_func own x) (text_func other x) (func_is own x None p) (func_is other x None q))
 no_blocks Frames own other x p q = sym (nowhere own other x p q)

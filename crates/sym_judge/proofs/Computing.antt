@@ -1,4 +1,4 @@
--- What a proof unfolds to compute the definitions of this crate where the input is written out.
+-- The definitions of this crate that a proof unfolds to compute a result from given bytes.
 use Rattle.std.specs.Prelude.{⊤}
 use Rattle.cfi_eval.proofs.Computing.{cfi_eval_computes}
 use Rattle.sym_lookup.proofs.Computing.{sym_lookup_computes}

@@ -1,4 +1,5 @@
--- Files that are copies say the same: for copies::is_same_field, copies::is_copy and judgement::judge.
+-- Files that are copies say the same. The lemmas are for `copies::is_same_field`, `copies::is_copy`
+-- and `judgement::judge`.
 use Rattle.std.proofs.Common.{◌≡◌, Bool, true, false, List, refl, sym, ap, subst, ◌∙◌}
 use Rattle.std.specs.Bool.{OnTrue}
 use Rattle.sym_records.proofs.ListedLemmas.{fields_tell}
@@ -9,7 +10,7 @@ use Rattle.sym_judge.specs.Rulings.{IsRuling}
 use Rattle.sym_judge.specs.declared.ruling.Ruling.TheVariants.{Yes}
 use Rattle.sym_judge.proofs.LawLemmas.{yes_of_itself}
 
--- what two fields of one kind say
+-- What two fields of one kind say.
 pub said_alike : {A : Type 0} (same : Bool) (make : A → Said) (x y : A) (a b : Said) → a ≡ make x → b ≡ make y → (same ≡ true → x ≡ y) → OnTrue same (a ≡ b)
 said_alike true make x y a b p q tells = p ∙ ap make (tells refl) ∙ sym q
 said_alike false make x y a b p q tells = tt

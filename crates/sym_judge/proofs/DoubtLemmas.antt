@@ -1,11 +1,11 @@
--- What the pass over the blocks of two files knows.
+-- What the pass over the blocks of two files knows of each address.
 use Rattle.std.proofs.Common.{◌≡◌, ℕ, ◌<◌, ◌≤◌, ◌^◌, Bool, false, List, [], None, refl, arith}
 use Rattle.sym_records.specs.declared.line.SymLine.{SymLine}
 use Rattle.step_maps.specs.Stepping.{Stepping, held_from, value_at, last_from}
 use Rattle.sym_judge.specs.declared.ruling.Half.{Half}
 use Rattle.sym_judge.specs.internal.Stops.{first_in}
 
--- what is known below an address, and what holds from there on
+-- What is known below an address, and what holds from there on.
 pub record AreDoubtsTo (half : Half) (own other : List SymLine) (address : ℕ) (known : Bool) (doubts : Stepping Bool) : Type 0 where
   pub clear : (x : ℕ) → x < address → x < 2 ^ 64 → value_at false doubts x ≡ false → first_in half own other x ≡ None
   pub held : (x : ℕ) → address ≤ x → value_at false doubts x ≡ known

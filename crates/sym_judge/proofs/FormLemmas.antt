@@ -1,4 +1,4 @@
--- The words of a rule give what its form gives.
+-- The words of a rule give the value of its form.
 use Rattle.std.proofs.Common.{◌≡◌, ℕ, ◌+◌, ◌-◌, ◌%◌, ◌^◌, ◌<◌, Bool, true, false, List, [], ◌∷◌, Option, None, Some, Result, Ok, Err, refl, sym, ap, ◌∙◌, arith, add-zero}
 use Rattle.std.proofs.Math.Nat.{add-mod-mod, mod-add-mod, mod-eq_of_lt}
 use Rattle.std.specs.Int.{cast_unsigned, w64}
@@ -24,16 +24,16 @@ use Rattle.sym_judge.specs.Forms.{sum, joined_base, taken_base, with_word, terms
 use Rattle.cfi_eval.specs.Known.{AreWords, IsKnown}
 use Rattle.sym_judge.specs.FormValues.{moved, sum_value, term_value, form_value}
 
--- the CFA that a word names, where it has a value, is a number of 64 bits
+-- If the CFA that a word names has a value, the value is below 2^64.
 abbrev IsWordCfa : Option Outcome → Type 0
 IsWordCfa cfa = (v : ℕ) → cfa_value cfa ≡ Ok v → v < 2 ^ 64
 
--- the values of terms, the last of which stands on top
+-- The values of terms, of which the last is on top of the stack.
 abbrev terms_value : Regs → List MemRun → Option Outcome → List Term → Result (List ℕ) Cause
 terms_value regs memory cfa [] = Ok []
 terms_value regs memory cfa (t ∷ terms) = terms_value regs memory cfa terms >>= pushed (term_value regs memory cfa t)
 
--- numbers modulo 2^64
+-- Numbers modulo 2^64.
 moved_none : (r : Result ℕ Cause) → ((v : ℕ) → r ≡ Ok v → v < 2 ^ 64) → r ≡ moved 0 r
 moved_none (Err why) small = refl
 moved_none (Ok v) small = ap Ok (sym (ap (λ n. n % 2 ^ 64) (add-zero v) ∙ mod-eq_of_lt (small v refl)))
@@ -47,12 +47,12 @@ on_top_two : (rest : Result (List ℕ) Cause) (a b : Result ℕ Cause) (word : L
 on_top_two (Err why) a b word next step = refl
 on_top_two (Ok stack) a b word next step = step stack
 
--- one word
+-- A word that is a number.
 number_word : (n : ℕ) (rest : Result (List ℕ) Cause) → (rest >>= λ stack. Ok (n ∷ stack)) ≡ (rest >>= pushed (Ok n))
 number_word n (Err why) = refl
 number_word n (Ok stack) = refl
 
--- two values that are added, of which one is a number
+-- Two values that are added, of which one is a number.
 add_number : (n : ℕ) (r : Result ℕ Cause) (m : ℕ) (stack : List ℕ) → ((pushed (moved m r) stack >>= pushed (Ok n)) >>= on_two sum_of) ≡ pushed (moved ((m + n) % 2 ^ 64) r) stack
 add_number n (Err why) m stack = refl
 add_number n (Ok v) m stack = ap (λ k. Ok (k ∷ stack)) (mod-add-mod (v + m) (2 ^ 64) n ∙ ap (λ k. k % 2 ^ 64) (omega arith) ∙ sym (add-mod-mod v (m + n) (2 ^ 64)))
@@ -65,7 +65,7 @@ take_number : (n : ℕ) (r : Result ℕ Cause) (m : ℕ) (stack : List ℕ) → 
 take_number n (Err why) m stack = refl
 take_number n (Ok v) m stack = add_number (2 ^ 64 - n) (Ok v) m stack
 
--- what holds of what comes of a step, where something does
+-- If a step has a result, this holds of the result.
 abbrev Gives : {A : Type 0} → Option A → (A → Type 0) → Type 0
 Gives None P = Unit {0}
 Gives (Some a) P = P a
@@ -90,7 +90,7 @@ taken_bases regs cfa base.Cfa base.Nothing m n stack = take_number n (cfa_value 
 taken_bases regs cfa p (base.Register r) m n stack = tt
 taken_bases regs cfa p base.Cfa m n stack = tt
 
--- what a word makes of terms gives what it makes of their values
+-- The terms after a word have the values that the word computes from the values before it.
 abbrev StepsTo : Regs → List MemRun → Option Outcome → Token → List Term → List Term → Type 0
 StepsTo regs memory cfa word terms next = (terms_value regs memory cfa terms >>= with_token regs memory cfa word) ≡ terms_value regs memory cfa next
 
@@ -140,7 +140,7 @@ word_step regs memory cfa inside words small token.Div terms = tt
 word_step regs memory cfa inside words small token.Rem terms = tt
 word_step regs memory cfa inside words small token.Align terms = tt
 
--- some words
+-- Several words.
 abbrev RunsTo : Regs → List MemRun → Option Outcome → List Token → List Term → List Term → Type 0
 RunsTo regs memory cfa words terms last = or_failed (terms_value regs memory cfa terms) (postfix_from regs memory cfa words) ≡ or_failed (terms_value regs memory cfa last) one_value
 
@@ -166,7 +166,7 @@ words_run regs memory cfa inside bounded small [] terms = refl
 words_run regs memory cfa inside bounded small (word ∷ words) terms =
     run_step regs memory cfa inside word words terms (words_run regs memory cfa inside bounded small words) (with_word inside word terms) (word_step regs memory cfa inside bounded small word terms)
 
--- the term that is left
+-- The only term that is left.
 one_left : (regs : Regs) (memory : List MemRun) (cfa : Option Outcome) (words : List Token) (o : Option (List Term)) → Gives o (RunsTo regs memory cfa words []) → Gives (one_term o) (λ t. postfix_from regs memory cfa words [] ≡ outcome_of (term_value regs memory cfa t))
 one_left regs memory cfa words None runs = tt
 one_left regs memory cfa words (Some []) runs = tt
@@ -186,13 +186,13 @@ said : (regs : Regs) (memory : List MemRun) (cfa : Option Outcome) (words : List
 said regs memory cfa words None left is = refl
 said regs memory cfa words (Some t) left is = is ∙ left
 
--- the words of a rule give what its form gives
+-- The words of a rule give what its form gives.
 words_value : (regs : Regs) (memory : List MemRun) (cfa : Option Outcome) (inside : Bool) → AreWords regs → IsWordCfa cfa → (words : List Token) → rule_value regs memory cfa words ≡ form_value regs memory cfa (form_of inside words)
 unfolding form_of rule_value
 words_value regs memory cfa inside bounded small (token.Undef ∷ []) = refl
 words_value regs memory cfa inside bounded small words = said regs memory cfa words (term_of inside words) (term_left regs memory cfa inside bounded small words) refl
 
--- a rule, or a missing one
+-- A rule, or a missing one.
 known_word : (cfa : Outcome) → IsKnown cfa → IsWordCfa (Some cfa)
 known_word (Value w) known v is = let same : w ≡ v = cc in omega arith
 known_word Undefined known v is = absurd known
@@ -217,7 +217,7 @@ pub register_gives : (regs : Regs) (memory : List MemRun) (cfa : Outcome) (regis
 register_gives regs memory cfa register None bounded known = default_gives regs memory cfa register bounded known (default_of register)
 register_gives regs memory cfa register (Some words) bounded known = words_value regs memory (Some cfa) false bounded (known_word cfa known) words
 
--- rules of one form give one outcome
+-- Rules of one form give one outcome.
 pub same_cfa : (regs : Regs) (memory : List MemRun) (a b : Option (List Token)) → AreWords regs → form_by target.Cfa a ≡ form_by target.Cfa b → cfa_by regs memory a ≡ cfa_by regs memory b
 same_cfa regs memory a b bounded same = cfa_gives regs memory a bounded ∙ ap (form_value regs memory None) same ∙ sym (cfa_gives regs memory b bounded)
 

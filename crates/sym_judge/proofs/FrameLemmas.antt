@@ -1,4 +1,4 @@
--- Lemmas on the frame rules of two files at an address.
+-- Lemmas about the frame rules of two files at an address.
 use Rattle.std.proofs.Common.{◌≡◌, ℕ, zero, suc, ◌+◌, ◌-◌, ◌<◌, ◌≤◌, Bool, true, false, List, [], ◌∷◌, ◌++◌, map, get_or, drop, Option, None, Some, Result, Ok, Err, refl, sym, ap, ◌∙◌, arith}
 use Rattle.std.specs.List.{find, range_with_len}
 use Rattle.std.specs.Result.{IfOk}
@@ -27,7 +27,7 @@ use Rattle.sym_judge.proofs.SameLemmas.{words_tell, forms_tell}
 pub same_words_same_form : (t : Target) (a b : List Token) → same_words a b ≡ true → same_form (form_by t (Some a)) (form_by t (Some b)) ≡ true
 same_words_same_form t a b is = ap (λ words. same_form (form_by t (Some a)) (form_by t (Some words))) (sym (words_tell.true_is a b is)) ∙ forms_tell.self (form_by t (Some a))
 
--- the rules of a target, by their places
+-- Whether the rules of a target agree, given their words.
 abbrev AgreeBy : List SymLine → List SymLine → ℕ → Target → Aspect → Option (List Token) → Option (List Token) → Type 0
 AgreeBy own other x t aspect a b = agrees own other x aspect ≡ same_form (form_by t a) (form_by t b)
 
@@ -54,14 +54,14 @@ unfolding agrees
 register_agree own other x a b k l p q =
     agree_by own other x (target.Reg k) p.rules q.rules (words_in own (get_or a.registers k None)) (words_in other (get_or b.registers k None)) p.is q.is (p.table_is.registers k l) (q.table_is.registers k l)
 
--- the first that differs, one aspect after another
+-- The first aspect that differs, found one aspect after another.
 pub passed : (own other : List SymLine) (x : ℕ) (aspect : Aspect) (later : List Aspect) (b : Bool) → agrees own other x aspect ≡ b → b ≡ true → find (differs own other x) (aspect ∷ later) ≡ find (differs own other x) later
 passed own other x aspect later b is holds = rw (is ∙ holds) refl
 
 pub met : (own other : List SymLine) (x : ℕ) (aspect : Aspect) (later : List Aspect) (b : Bool) → agrees own other x aspect ≡ b → b ≡ false → find (differs own other x) (aspect ∷ later) ≡ Some aspect
 met own other x aspect later b is fails = rw (is ∙ fails) refl
 
--- registers from one on
+-- The first register that differs, from one register on.
 abbrev pub registers_from : List SymLine → List SymLine → ℕ → ℕ → Option Aspect
 registers_from own other x k = find (differs own other x) (map Reg (range_with_len k (16 - k)))
 
@@ -79,7 +79,7 @@ register_met own other x k a b same l p q is fails = sym (registers_more own oth
 pub registers_end : (own other : List SymLine) (x k : ℕ) → 16 ≤ k → None ≡ registers_from own other x k
 registers_end own other x k l = let none : 0 ≡ 16 - k = omega arith in ap (λ n. find (differs own other x) (map Reg (range_with_len k n))) none
 
--- the CFA, the return address, and then the registers
+-- The CFA is compared, then the return address, and then the registers.
 pub cfa_met : (own other : List SymLine) (x : ℕ) (a b : RuleTable) (same : Bool) → IsTableAt own x a → IsTableAt other x b → same ≡ same_form (form_by target.Cfa (words_in own a.cfa)) (form_by target.Cfa (words_in other b.cfa)) → same ≡ false
     → Some Cfa ≡ find (differs own other x) rule_aspects
 unfolding rule_aspects
@@ -98,7 +98,7 @@ pub registers_behind : (own other : List SymLine) (x : ℕ) (a b : RuleTable) (s
     → then ≡ same_form (form_by target.Ra (words_in own a.ra)) (form_by target.Ra (words_in other b.ra)) → then ≡ true → registers_from own other x 0 ≡ find (differs own other x) rule_aspects
 registers_behind own other x a b same then p q is holds e also = sym (cfa_passed own other x a b same p q is holds ∙ passed own other x Ra (map Reg (range_with_len 0 16)) then (ra_agree own other x a b p q ∙ sym e) also)
 
--- whether an INIT covers the address
+-- Whether an INIT covers the address.
 abbrev pub IsOfFrames : Aspect → Type 0
 IsOfFrames Func = ⊥
 IsOfFrames Chain = ⊥

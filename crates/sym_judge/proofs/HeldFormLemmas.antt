@@ -1,4 +1,4 @@
--- Lemmas on held forms.
+-- Lemmas about the forms of long rules, which are cached.
 use Rattle.std.proofs.Common.{◌≡◌, ◌<◌, ℕ, Bool, List, length, get_or, Some, sym, ap, subst, ◌∙◌}
 use Rattle.sym_records.specs.declared.line.SymLine.{SymLine}
 use Rattle.sym_rules.specs.declared.rules.Token.{Token}

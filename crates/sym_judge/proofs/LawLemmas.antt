@@ -26,7 +26,7 @@ use Rattle.sym_judge.specs.SameMeaning.{said, NameTheSame, UnwindTheSame}
 use Rattle.sym_judge.proofs.FormLemmas.{same_cfa, same_ra, same_register}
 use Rattle.sym_judge.proofs.SameLemmas.{and_left, and_right, and_both, bytes_tell, options_tell, lines_tell, forms_tell}
 
--- where none of some aspects differs, the first does not, and none of the others
+-- If two files differ in none of several aspects, they agree in the first one and in the others.
 agreed : (own other : List SymLine) (x : ℕ) (aspect : Aspect) (later : List Aspect) → find (differs own other x) (aspect ∷ later) ≡ None → (agrees own other x aspect ≡ true) × (find (differs own other x) later ≡ None)
 agreed own other x aspect later none = go (agrees own other x aspect) refl none
   where
@@ -34,7 +34,7 @@ agreed own other x aspect later none = go (agrees own other x aspect) refl none
     go true is h = (is, h)
     go false is h = absurd (cc)
 
--- calls
+-- Calls.
 call_said : (a b : Call) → same_call a b ≡ true → said a ≡ said b
 call_said a b is =
     let name : call_name a ≡ call_name b = bytes_tell.true_is (call_name a) (call_name b) (and_left _ _ is) in
@@ -59,7 +59,7 @@ names_same own other x func chain line = record {
   line = (options_tell same_line lines_tell).true_is (text_line own x) (text_line other x) line;
 }
 
--- rules
+-- Rules.
 some_both : (a b : Option (List RuleText)) → same_option both a b ≡ true → a ≡ None → b ≡ None
 some_both None None is none = refl
 some_both None (Some b) is none = absurd (cc)
@@ -76,7 +76,7 @@ nowhere_both own other x regs memory is none = ap (option_map (frame_of regs mem
 form_same : (t : Target) (a b : List RuleText) → same_rules t a b ≡ true → rule_form t a ≡ rule_form t b
 form_same t a b is = forms_tell.true_is (rule_form t a) (rule_form t b) is
 
--- where both have rules, the rules of a target have one form
+-- If both files have rules at an address, the rules of each target have one form.
 at_both : (own other : List SymLine) (x : ℕ) (t : Target) (a b : List RuleText) → text_rules own x ≡ Some a → text_rules other x ≡ Some b → same_option (same_rules t) (text_rules own x) (text_rules other x) ≡ true → rule_form t a ≡ rule_form t b
 at_both own other x t a b p q is = form_same t a b (sym (ap (λ r. same_option (same_rules t) r (text_rules other x)) p ∙ ap (same_option (same_rules t) (Some a)) q) ∙ is)
 
@@ -135,7 +135,7 @@ frame_both : (own other : List SymLine) (x : ℕ) (regs : Regs) (memory : List M
 unfolding agrees text_frame
 frame_both own other x regs memory f is none words known h = frame_cases own other x regs memory f (text_rules own x) (text_rules other x) refl refl is words known none h
 
--- all of it
+-- All that a ruling of yes promises.
 pub names_kept : (own other : List SymLine) (x : ℕ) → first_unlike own other x ≡ None → NameTheSame own other x
 unfolding first_unlike
 names_kept own other x none =
@@ -162,7 +162,7 @@ yes_names own other x is fits = names_kept own other x (is x fits)
 pub yes_frames : (own other : List SymLine) (x : ℕ) → IsRuling own other Yes → x < 2 ^ 64 → UnwindTheSame own other x
 yes_frames own other x is fits = frames_kept own other x (is x fits)
 
--- a file and itself
+-- A file compared with itself.
 rules_self : (t : Target) (a : Option (List RuleText)) → same_option (same_rules t) a a ≡ true
 rules_self t None = refl
 rules_self t (Some a) = forms_tell.self (rule_form t a)

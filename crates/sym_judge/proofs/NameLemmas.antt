@@ -1,4 +1,4 @@
--- What two answers name differently is what the files do.
+-- Two answers name differently what the files do.
 use Rattle.std.proofs.Common.{◌≡◌, ℕ, Bool, true, false, cond, List, map, Option, None, Some, refl, sym, ap, ◌∙◌}
 use Rattle.std.specs.List.{find}
 use Rattle.std.specs.Option.{unwrap_or}
@@ -20,7 +20,7 @@ use Rattle.sym_meaning.specs.TextNames.{text_origin}
 use Rattle.sym_judge.specs.internal.Stops.{first_in}
 use Rattle.sym_judge.specs.internal.Spots.{first_named}
 
--- three tests in turn
+-- Three tests, one after another.
 in_turn : (own other : List SymLine) (x : ℕ) (a b c : Bool) → agrees own other x Func ≡ a → agrees own other x Chain ≡ b → agrees own other x Line ≡ c
     → cond a (cond b (cond c None (Some Line)) (Some Chain)) (Some Func) ≡ find (differs own other x) name_aspects
 in_turn own other x true true true p q r = rw (p, q, r) refl
@@ -42,7 +42,7 @@ named own other x =
 pub names_differ : (own other : List SymLine) (x : ℕ) (a b : Answer) (found : Option Aspect) → a ≡ answer_of own x → b ≡ answer_of other x → found ≡ first_named own a other b → found ≡ first_in Names own other x
 names_differ own other x a b found p q is = is ∙ ap (λ c. first_named own c other b) p ∙ ap (first_named own (answer_of own x) other) q ∙ named own other x
 
--- the cases of what two answers name differently
+-- The cases of what two answers name differently.
 pub func_met : (own other : List SymLine) (a b : Answer) → same_option bytes_eq (owner_of own a) (owner_of other b) ≡ false → first_named own a other b ≡ Some Func
 unfolding first_named
 func_met own other a b p = rw p refl
@@ -65,12 +65,12 @@ owner_at : (lines : List SymLine) (x i : ℕ) → func_place lines x ≡ Some i 
 unfolding owner_of
 owner_at lines x i h = ap (owner_of lines) (answer_function lines x i h)
 
--- whether two functions have one name
+-- Whether two functions have one name.
 pub owners_at : (own other : List SymLine) (x i j : ℕ) (same : Bool) → func_place own x ≡ Some i → func_place other x ≡ Some j → same ≡ bytes_eq (func_name_at own i) (func_name_at other j)
     → same ≡ same_option bytes_eq (owner_of own (answer_of own x)) (owner_of other (answer_of other x))
 owners_at own other x i j same h k is = is ∙ sym (same_both (same_option bytes_eq) _ _ _ _ (owner_at own x i h) (owner_at other x j k))
 
--- two functions: their names, their chains and their lines in turn
+-- Two functions: their names, their chains and their lines are compared, one after another.
 told_in_turn : (own other : List SymLine) (i j : ℕ) (c d : List ℕ) (l m : Option ℕ) (p q r : Bool) → bytes_eq (func_name_at own i) (func_name_at other j) ≡ p → same_list same_call (map (call_at own) c) (map (call_at other) d) ≡ q
     → same_option same_line (line_at own l) (line_at other m) ≡ r → cond p (cond q (cond r None (Some Line)) (Some Chain)) (Some Func) ≡ first_named own (answer.Function i c l) other (answer.Function j d m)
 unfolding first_named owner_of calls_of line_of
@@ -93,7 +93,7 @@ pub lines_differ : (own other : List SymLine) (x i j : ℕ) (line : Bool) → fu
     → cond line None (Some Line) ≡ first_in Names own other x
 lines_differ own other x i j line h k e f g = by_funcs own other x i j true true line h k e f g
 
--- origins of one name
+-- Origins that have one name.
 same_option_same : (a b : Option (List ℕ)) (d : List ℕ) → same_option bytes_eq a b ≡ true → bytes_eq (unwrap_or a d) (unwrap_or b d) ≡ true
 same_option_same None None d is = bytes_tell.self d
 same_option_same (Some a) (Some b) d is = is

@@ -1,4 +1,4 @@
--- Lemmas on rules in the same words.
+-- Lemmas about rules that have the same words.
 use Rattle.std.proofs.Common.{◌≡◌, nat_eq, Bool, true, false, List, Option, Some, sym, ap, subst, ◌∙◌}
 use Rattle.std.specs.Bool.{OnTrue}
 use Rattle.sym_records.specs.declared.line.SymLine.{SymLine}
@@ -15,7 +15,7 @@ use Rattle.sym_judge.proofs.SameLemmas.{forms_tell, numbers}
 pub one_place : (a b : RulePlace) → a.line ≡ b.line → a.rule ≡ b.rule → a ≡ b
 one_place a b line rule = ap (λ n. record { line = n; rule = a.rule }) line ∙ ap (λ n. record { line = b.line; rule = n }) rule
 
--- two places
+-- The rules at two places have the same words.
 one_text : (aliases : RuleAliases) (mine theirs : List RuleAlias) (a b first second : RulePlace) → mine ≡ aliases.mine.items → theirs ≡ aliases.theirs.items
     → ((own lines : List SymLine) → AreRuleAliases own lines mine → words_at own first ≡ words_at lines a) → ((own lines : List SymLine) → AreRuleAliases own lines theirs → words_at own second ≡ words_at lines b)
     → first.line ≡ second.line → first.rule ≡ second.rule → (own other : List SymLine) → AreRuleAliasesOf own other aliases → words_at own a ≡ words_at other b

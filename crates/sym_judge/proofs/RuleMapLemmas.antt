@@ -1,4 +1,4 @@
--- Lemmas on the last rule of each target at each address.
+-- Lemmas about the last rule of each target at each address.
 use Rattle.std.proofs.Common.{◌≡◌, ◌+◌, ◌<◌, ◌≤◌, ◌^◌, ◌-◌, ℕ, zero, suc, nat_le, Bool, true, false, cond, List, [], ◌∷◌, ◌++◌, length, get_or, set, take, drop, reverse, Option, None, Some, refl, sym, ap, subst, ◌∙◌, arith, append_assoc, append-nil, inl, inr, length-set}
 use Rattle.std.specs.List.{find, slice_get}
 use Rattle.std.specs.Option.{option_map, option_and_then}
@@ -29,7 +29,7 @@ use Rattle.sym_judge.proofs.TableLemmas.{words_there, change_there, no_change, r
 abbrev Maps : Type 0
 Maps = List (Stepping (Option FirstItem))
 
--- one more rule
+-- One more rule.
 last_pushed : (items : List Stretch) (s : Stretch) (x : ℕ) (b : Bool) → reaches s x ≡ b → last_rule (items ++ s ∷ []) x ≡ cond b (Some (place_of s)) (last_rule items x)
 unfolding last_rule
 last_pushed items s x true is = ap (λ all. option_map place_of (find (λ t. reaches t x) all)) (reverse-append items (s ∷ [])) ∙ rw is refl
@@ -59,7 +59,7 @@ rule_passed lines t items start rule done same before = λ x fits. before x fits
 pub last_is : (lines : List SymLine) (t : Target) (items : List Stretch) (f g : ℕ → List RuleText) → ((x : ℕ) → f x ≡ g x) → AreLast lines t items f → AreLast lines t items g
 last_is lines t items f g same before = λ x fits. before x fits ∙ ap (rule_for t) (same x)
 
--- those of a record, one after another
+-- The rules of a record, one after another.
 some_more : (done rules : List RuleText) (place : ℕ) (rule : RuleText) (b : Bool) → place < length rules → rule ≡ get_or rules place rule → (done ++ cond b (take place rules) []) ++ cond b (rule ∷ []) [] ≡ done ++ cond b (take (place + 1) rules) []
 some_more done rules place rule true l e = append_assoc done (take place rules) (rule ∷ []) ∙ sym (ap (λ rs. done ++ rs) (take_more rules place rule l ∙ ap (λ r. take place rules ++ r ∷ []) (sym e)))
 some_more done rules place rule false l e = append-nil (done ++ [])
@@ -79,7 +79,7 @@ none_yet done false = sym (append-nil done)
 pub rules_begin : (lines : List SymLine) (t : Target) (items : List Stretch) (rules : List RuleText) (start : ℕ) (done : ℕ → List RuleText) → AreLast lines t items done → AreLast lines t items (with_rules start (take 0 rules) done)
 rules_begin lines t items rules start done before = last_is lines t items done (with_rules start [] done) (λ x. none_yet (done x) (nat_le start x)) before
 
--- the rules of the INIT, and then those of the changes behind it
+-- The rules of the INIT, and then those of its changes.
 pub record AreLastUpTo (lines : List SymLine) (t : Target) (init place : ℕ) (items : List Stretch) : Type 0 where
   pub done : ℕ → List RuleText
   pub is : (x : ℕ) → done x ++ changes_until x (drop place lines) ≡ counted lines init x
@@ -135,7 +135,7 @@ pub changes_end : (lines : List SymLine) (t : Target) (init place : ℕ) (items 
 unfolding changes_until
 changes_end lines t init place items map l is before = told_all lines t init place items map (λ x. ap (changes_until x) (drop_all place lines l)) is before
 
--- the first of the items in reverse
+-- The first item in reverse order is the last one.
 pub fit_back : (items : List Stretch) → AreStretches items → AreStretches (reverse items)
 fit_back [] fit = tt
 fit_back (s ∷ items) fit = subst AreStretches (sym (reverse-append (s ∷ []) items)) (stretches_push (reverse items) s (fit_back items fit.1) fit.0)
@@ -148,7 +148,7 @@ pub last_found : (items back : List Stretch) (map : Stepping (Option FirstItem))
 unfolding first_item first_at last_rule
 last_found items back map is found x fits = ap (option_map place_in) (found x fits) ∙ item_place (find (λ s. reaches s x) back) _ ∙ ap (λ all. option_map place_of (find (λ s. reaches s x) all)) is
 
--- the registers
+-- The maps of the registers.
 below_kept : (maps : Maps) (map : Stepping (Option FirstItem)) (k : ℕ) → k < length maps → slice_get (maps ++ map ∷ []) k ≡ slice_get maps k
 below_kept [] map k l = absurd (omega arith)
 below_kept (m ∷ maps) map zero l = refl
@@ -197,7 +197,7 @@ registers_begin maps x registers many = record { many = many; rules = λ k l. ab
 pub registers_told : (maps : Maps) (x count : ℕ) (registers : List (Option RulePlace)) → 16 ≤ count → AreRegisterRules maps x count registers → AreRegisterRules maps x 16 registers
 registers_told maps x count registers l before = record { many = before.many; rules = λ k m. before.rules k (omega arith) }
 
--- what counts at an address
+-- The rules that count at an address.
 counted_of : (lines : List SymLine) (x init : ℕ) (line : SymLine) → init_place lines x ≡ Some init → init < length lines → line ≡ get_or lines init line → is_init_at x line ≡ true → text_rules lines x ≡ Some (counted lines init x)
 counted_of lines x init (Init address size rules) h l e is =
     let there : rules_at lines init ≡ rules = ap rules_or (record_there lines init (Init address size rules) l e) in
@@ -225,4 +225,4 @@ table_held lines x maps cfa ra registers fits c r regs are first = record {
   };
 }
 
--- the maps of all INITs
+-- The maps of all INITs.

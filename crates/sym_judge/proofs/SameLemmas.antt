@@ -1,4 +1,4 @@
--- The tests of equality tell what is equal.
+-- Values that pass a test of equality are equal.
 use Rattle.std.proofs.Common.{◌≡◌, ℕ, ◌==◌, ◌&&◌, Bool, true, false, List, [], ◌∷◌, Option, None, Some, refl, ap, ◌∙◌}
 use Rattle.std.specs.Str.{bytes_eq}
 use Rattle.std.proofs.lemmas.Bool.Decides.{Decides-eqb, Decides-int_eq}
@@ -13,7 +13,7 @@ use Rattle.sym_judge.specs.declared.terms.Term.TheVariants.{Plain, Fetched}
 use Rattle.sym_judge.specs.Forms.{Form, of_term, no_value, of_words, same_base, same_sum, same_term, same_token, same_words, same_form}
 use Rattle.sym_judge.specs.Alike.{same_option, same_line}
 
--- a test that holds tells that two values are equal, and it holds of each value and itself
+-- The test holds only for equal values, and it holds for each value and itself.
 pub record Tells {A : Type 0} (same : A → A → Bool) : Type 0 where
   pub true_is : (a b : A) → same a b ≡ true → a ≡ b
   pub self : (a : A) → same a a ≡ true
@@ -121,7 +121,7 @@ form_self (of_words a) = words_self a
 pub forms_tell : Tells same_form
 forms_tell = record { true_is = form_true; self = form_self }
 
--- options, lists, lines and calls
+-- Optional values, lists, lines and calls.
 option_true : {A : Type 0} (same : A → A → Bool) → Tells same → (a b : Option A) → same_option same a b ≡ true → a ≡ b
 option_true same tells None None is = refl
 option_true same tells None (Some b) is = never is

@@ -1,4 +1,4 @@
--- The place of an INIT is one of its file.
+-- The place of an INIT is a place in its file.
 use Rattle.std.proofs.Common.{◌≡◌, ◌<◌, ℕ, List, length, Some}
 use Rattle.std.proofs.Common.{refl}
 use Rattle.cfi_eval.specs.Inits.{init_place}

@@ -1,4 +1,4 @@
--- Lemmas on stacks of terms, and on words done one after another.
+-- Lemmas about stacks of terms, and about words that are evaluated one after another.
 use Rattle.std.proofs.Common.{◌≡◌, ℕ, ◌+◌, ◌<◌, ◌≤◌, Bool, true, false, List, [], ◌∷◌, ◌++◌, length, get_or, drop, reverse, Option, None, Some, refl, sym, ap, ◌∙◌}
 use Rattle.std.proofs.lemmas.List.{drop_more, drop_all, reverse-append}
 use Rattle.std.specs.Option.{option_and_then}
@@ -16,7 +16,7 @@ no_sum_none stack e = rw e refl
 pub no_sum_fetched : (stack below : List Term) (s : Sum) → stack ≡ below ++ Fetched s ∷ [] → HasNoSum stack
 no_sum_fetched stack below s e = rw (e, reverse-append below (Fetched s ∷ [])) refl
 
--- where there is none, there are no two
+-- A stack without a sum on top has no two sums on top.
 none_no_two_of : (stack : List Term) → fetched stack ≡ None → (sign : Sum → Sum → Option Sum) → of_two sign stack ≡ None
 none_no_two_of [] h sign = refl
 none_no_two_of (Plain s ∷ stack) h sign = absurd (cc)
@@ -25,7 +25,7 @@ none_no_two_of (Fetched s ∷ stack) h sign = refl
 pub none_no_two : (stack : List Term) → HasNoSum stack → HasNoTwo stack
 none_no_two stack h sign = none_no_two_of (reverse stack) h sign
 
--- nor where there is one alone
+-- A stack with only one sum on top has no two sums on top.
 one_no_two_of : (stack : List Term) → fetched stack ≡ None → (b : Sum) (sign : Sum → Sum → Option Sum) → of_two sign (Plain b ∷ stack) ≡ None
 one_no_two_of [] h b sign = refl
 one_no_two_of (Plain s ∷ stack) h b sign = absurd (cc)
@@ -34,7 +34,7 @@ one_no_two_of (Fetched s ∷ stack) h b sign = refl
 pub one_no_two : (stack below : List Term) (b : Sum) → reverse stack ≡ Plain b ∷ reverse below → HasNoSum below → HasNoTwo stack
 one_no_two stack below b e h sign = rw e (one_no_two_of (reverse below) h b sign)
 
--- one word
+-- One word.
 pub terms_more : (inside : Bool) (words : List Token) (i : ℕ) (word : Token) (stack next : List Term) → i < length words → word ≡ get_or words i word → with_word inside word stack ≡ Some next
     → terms_after inside (drop i words) stack ≡ terms_after inside (drop (i + 1) words) next
 unfolding terms_after
@@ -59,7 +59,7 @@ term_is inside words = refl
 pub term_pushed : (stack : List Term) (t : Term) → t ∷ reverse stack ≡ reverse (stack ++ t ∷ [])
 term_pushed stack t = sym (reverse-append stack (t ∷ []))
 
--- `.undef` alone, and other words
+-- A single `.undef`, and other words.
 pub form_undefined : (inside : Bool) (words : List Token) → is_undefined words ≡ true → form_of inside words ≡ no_value
 unfolding form_of
 form_undefined inside [] h = absurd (cc)

@@ -1,4 +1,5 @@
--- Between two stops nothing changes: at two addresses between which no record begins or ends, two files agree in the same aspects.
+-- Between two stops nothing changes: at two addresses between which no record begins or ends, two
+-- files agree in the same aspects.
 use Rattle.std.proofs.Common.{◌≡◌, ℕ, zero, suc, ◌+◌, ◌^◌, ◌<◌, ◌≤◌, ltb, leb, Bool, true, false, ◌&&◌, ◌||◌, ◌==◌, not, cond, List, [], ◌∷◌, ◌++◌, map, Option, None, Some, refl, sym, ap, ◌∙◌, arith, inl, inr}
 use Rattle.std.proofs.lemmas.Bool.{lt-leb, le-leb, lt-ltb, le-ltb, cases_lt}
 use Rattle.std.proofs.lemmas.Bool.Decides.{nat_tests}
@@ -21,7 +22,7 @@ use Rattle.sym_judge.specs.declared.ruling.Half.{Half}
 use Rattle.sym_judge.specs.declared.ruling.Half.TheVariants.{Names, Frames}
 use Rattle.sym_judge.specs.internal.Stops.{run_stops, extent_stops, line_stops, stops_of, first_in}
 
--- no stop lies above the first address and not above the second
+-- No stop is above the first address and at or below the second.
 abbrev pub AreOutside : ℕ → ℕ → List ℕ → Type 0
 AreOutside s x [] = Unit {0}
 AreOutside s x (b ∷ stops) = (s < b → x < b) × AreOutside s x stops
@@ -34,7 +35,7 @@ outside_back : (s x : ℕ) (front back : List ℕ) → AreOutside s x (front ++ 
 outside_back s x [] back all = all
 outside_back s x (b ∷ front) back all = outside_back s x front back all.1
 
--- one run of addresses
+-- One range of addresses.
 same_le : (a s x : ℕ) → s ≤ x → (s < a → x < a) → leb a s ≡ leb a x
 same_le a s x up out = elim (cases_lt s a) [ inl l ↦ lt-leb a s l ∙ sym (lt-leb a x (out l)) | inr m ↦ le-leb a s m ∙ sym (le-leb a x (omega arith)) ]
 
@@ -52,7 +53,7 @@ same_within : (address size s x : ℕ) → s ≤ x → x < 2 ^ 64 → AreOutside
 unfolding run_stops
 same_within address size s x up fits out = let ends = both_ends address size s x (ltb (address + size) (2 ^ 64)) fits refl out in within_by address size s x up ends.0 ends.1
 
--- the records of functions
+-- The records of functions.
 func_same : (s x : ℕ) → s ≤ x → x < 2 ^ 64 → (line : SymLine) → AreOutside s x (line_stops Names line) → is_func_at s line ≡ is_func_at x line
 func_same s x up fits (record_line.Func many address size params name) out = same_within address size s x up fits out
 func_same s x up fits _ out = refl
@@ -75,7 +76,7 @@ inline_same : (s x level : ℕ) → s ≤ x → x < 2 ^ 64 → (line : SymLine) 
 inline_same s x level up fits (record_line.Inline own line file origin ranges) out = ap (λ b. (own == level) && b) (ranges_same s x up fits ranges out)
 inline_same s x level up fits _ out = refl
 
--- the first of some records
+-- The first of several records.
 find_same : (p q : SymLine → Bool) (half : Half) (s x : ℕ) → ((line : SymLine) → AreOutside s x (line_stops half line) → p line ≡ q line) → (lines : List SymLine) → AreOutside s x (stops_of half lines) → find p lines ≡ find q lines
 find_same p q half s x same [] out = refl
 find_same p q half s x same (line ∷ lines) out =
@@ -83,7 +84,7 @@ find_same p q half s x same (line ∷ lines) out =
     let later : find p lines ≡ find q lines = find_same p q half s x same lines (outside_back s x (line_stops half line) (stops_of half lines) out) in
     ap (λ b. cond b (Some line) (find p lines)) first ∙ ap (cond (q line) (Some line)) later
 
--- the FUNC, and what stands under it
+-- The FUNC, and the records under it.
 func_found : (s x : ℕ) → s ≤ x → x < 2 ^ 64 → (lines : List SymLine) → AreOutside s x (stops_of Names lines) → text_func lines s ≡ text_func lines x
 func_found s x up fits [] out = refl
 func_found s x up fits (line ∷ lines) out =
@@ -124,7 +125,7 @@ chain_same s x up fits level (suc levels) records out =
     let later : inlines_from s (level + 1) levels records ≡ inlines_from x (level + 1) levels records = chain_same s x up fits (level + 1) levels records out in
     ap (λ o. option_map_or (λ r. r ∷ inlines_from s (level + 1) levels records) o []) first ∙ ap (λ rest. option_map_or (λ r. r ∷ rest) (find (is_inline_at level x) records) []) later
 
--- what the records name
+-- What the records name.
 owner_steady : (s x : ℕ) → s ≤ x → x < 2 ^ 64 → (lines : List SymLine) → AreOutside s x (stops_of Names lines) → text_owner lines s ≡ text_owner lines x
 unfolding text_owner
 owner_steady s x up fits lines out = ap (option_map (λ f. func_name f.func)) (func_found s x up fits lines out)
@@ -147,7 +148,7 @@ unfolding text_chain
 chain_steady s x up fits lines out =
     ap (map (call_of lines)) (chain_in s x up fits (text_func lines s) (found_outside s x s lines out) ∙ ap (λ found. option_map_or (inlines_under x) found []) (func_found s x up fits lines out))
 
--- the rules
+-- The frame rules.
 changes_same : (s x : ℕ) → s ≤ x → (lines : List SymLine) → AreOutside s x (stops_of Frames lines) → changes_until s lines ≡ changes_until x lines
 unfolding changes_until
 changes_same s x up [] out = refl
@@ -165,7 +166,7 @@ rules_steady s x up fits (record_line.Init address size rules ∷ lines) out =
 rules_steady s x up fits (record_line.Change address rules ∷ lines) out = rules_steady s x up fits lines out.1
 rules_steady s x up fits (_ ∷ lines) out = rules_steady s x up fits lines out
 
--- the aspects
+-- The aspects.
 names_steady : (own other : List SymLine) (s x : ℕ) → s ≤ x → x < 2 ^ 64 → AreOutside s x (stops_of Names own) → AreOutside s x (stops_of Names other) → first_in Names own other s ≡ first_in Names own other x
 unfolding first_in agrees
 names_steady own other s x up fits p q =

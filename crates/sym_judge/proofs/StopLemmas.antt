@@ -1,4 +1,4 @@
--- The least stop at which two files differ is the least address at which they do.
+-- The least stop at which two files differ is the least address at which they differ.
 use Rattle.std.proofs.Common.{◌≡◌, ℕ, zero, suc, ◌+◌, ◌^◌, ◌<◌, ◌≤◌, leb, Bool, true, false, cond, List, [], ◌∷◌, ◌++◌, length, get_or, Option, None, Some, drop, refl, sym, ap, subst, ◌∙◌, add-one, drop-cons, arith, inl, inr}
 use Rattle.std.proofs.lemmas.Bool.{cases_lt}
 use Rattle.std.proofs.lemmas.Bool.Decides.{nat_tests}
@@ -20,17 +20,17 @@ use Rattle.sym_judge.specs.internal.Stops.{Compared, stops_of, first_in, is_sett
 use Rattle.sym_judge.specs.internal.Blocks.{AreDoubts}
 use Rattle.sym_judge.proofs.SteadyLemmas.{AreOutside, steady, outside_both}
 
--- the addresses below that of a ruling
+-- The address is below that of the ruling.
 abbrev IsBelow : Ruling → ℕ → Type 0
 IsBelow Yes x = Unit {0}
 IsBelow (No address aspect) x = x < address
 
--- at each of some stops that are below it the files do not differ
+-- The files do not differ at those of the stops that are below the ruling's address.
 abbrev AreClear : Half → List SymLine → List SymLine → Ruling → List ℕ → Type 0
 AreClear half own other ruling [] = Unit {0}
 AreClear half own other ruling (x ∷ stops) = (x < 2 ^ 64 → IsBelow ruling x → first_in half own other x ≡ None) × AreClear half own other ruling stops
 
--- what a ruling that is not yes says is so
+-- What a ruling other than yes says is true.
 abbrev IsTrueOf : Half → List SymLine → List SymLine → Ruling → Type 0
 IsTrueOf half own other Yes = Unit {0}
 IsTrueOf half own other (No address aspect) = first_in half own other address ≡ Some aspect
@@ -41,7 +41,7 @@ not_settled a x is = grind (arith, nat_tests)
 settled : (a x : ℕ) → leb a x ≡ true → a ≤ x
 settled a x is = grind (arith, nat_tests)
 
--- one stop: the address does not grow
+-- The address of the ruling does not grow at a stop.
 abbrev Falls : Ruling → Ruling → Type 0
 Falls old new = (b : ℕ) → IsBelow new b → IsBelow old b
 
@@ -55,7 +55,7 @@ stop_falls : (half : Half) (own other : List SymLine) (ruling : Ruling) (x : ℕ
 unfolding with_stop
 stop_falls half own other ruling x = falls_by ruling x (is_settled ruling x) (first_in half own other x) refl
 
--- and there the files do not differ below it
+-- After a stop, the files do not differ there if it is below the ruling's address.
 clear_by : (half : Half) (own other : List SymLine) (ruling : Ruling) (x : ℕ) (b : Bool) (found : Option Aspect) → is_settled ruling x ≡ b → first_in half own other x ≡ found → IsBelow (cond b ruling (with_found ruling x found)) x → found ≡ None
 clear_by half own other Yes x true found is e h = absurd (cc)
 clear_by half own other (No a p) x true found is e h = let above : a ≤ x = settled a x is in absurd (omega arith)
@@ -75,7 +75,7 @@ stop_true : (half : Half) (own other : List SymLine) (ruling : Ruling) (x : ℕ)
 unfolding with_stop
 stop_true half own other ruling x h = true_by half own other ruling x (is_settled ruling x) (first_in half own other x) refl h
 
--- all stops
+-- All stops.
 stops_fall : (half : Half) (own other : List SymLine) (ruling : Ruling) (stops : List ℕ) → Falls ruling (with_stops half own other ruling stops)
 unfolding with_stops
 stops_fall half own other ruling [] = λ b h. h
@@ -94,7 +94,7 @@ unfolding with_stops
 stops_true half own other ruling [] h = h
 stops_true half own other ruling (x ∷ stops) h = stops_true half own other (with_stop half own other ruling x) stops (stop_true half own other ruling x h)
 
--- where each stop that is doubted is clear, all are
+-- If the files do not differ at any doubtful stop, they do not differ at any stop.
 abbrev IsClearIn : Half → List SymLine → List SymLine → Ruling → List ℕ → Type 0
 IsClearIn half own other ruling stops = (x : ℕ) → Contains stops x → x < 2 ^ 64 → IsBelow ruling x → first_in half own other x ≡ None
 
@@ -108,7 +108,7 @@ all_clear half own other ruling doubts are [] told = tt
 all_clear half own other ruling doubts are (x ∷ stops) told =
     clear_more half own other ruling x stops (doubted doubts stops) (value_at false doubts x) (λ is fits. are.clear x fits is) told (all_clear half own other ruling doubts are stops)
 
--- the last stop that is not above an address
+-- The last stop that is at or below an address.
 record Latest (half : Half) (own other : List SymLine) (x low : ℕ) (stops : List ℕ) : Type 0 where
   stop : ℕ
   above : low ≤ stop
@@ -156,7 +156,7 @@ half_told half own other first second c doubts items stops r p e f are kept s is
     (λ x has. kept x (subst (λ lines. Contains (doubted doubts (all_stops half lines second)) x) (sym e) (subst (λ lines. Contains (doubted doubts (all_stops half own lines)) x) (sym f) has)))
     (is ∙ ap (λ (d : Compared). with_stops d.half d.own d.other Yes stops) p ∙ ap (with_stops half own other Yes) s) fits
 
--- by all stops
+-- The files are compared at all stops.
 each_clear : (half : Half) (own other : List SymLine) (ruling : Ruling) (stops : List ℕ) → IsClearIn half own other ruling stops → AreClear half own other ruling stops
 each_clear half own other ruling [] told = tt
 each_clear half own other ruling (x ∷ stops) told = clear_more half own other ruling x stops stops true (λ e fits. absurd (cc)) told (each_clear half own other ruling stops)
@@ -167,7 +167,7 @@ half_is half own other fits =
     half_by half own other (half_ruling half own other) fits (stops_true half own other Yes (all_stops half own other) tt)
     (clear_below half own other (half_ruling half own other) (each_clear half own other (half_ruling half own other) (all_stops half own other) (λ x has small below. seen_clear half own other Yes (all_stops half own other) has.0 x has.1 has.2 below)))
 
--- both halves
+-- Both halves.
 first_of_both : (own other : List SymLine) (x : ℕ) (a b : Option Aspect) → first_in Names own other x ≡ a → first_in Frames own other x ≡ b → first_unlike own other x ≡ option_or a b
 unfolding first_in first_unlike
 first_of_both own other x a b p q = find-append (differs own other x) name_aspects frame_aspects ∙ ap (λ o. option_or o (find (differs own other x) frame_aspects)) p ∙ ap (option_or a) q
@@ -182,7 +182,7 @@ rulings_join own other (No a n) (No b f) p q = by (leb a b) refl
     by true is = let l : a ≤ b = settled a b is in record { address_fits = p.0; differ = first_of_both own other a (Some n) (first_in Frames own other a) p.1.0 refl; alike_below = λ x m. first_of_both own other x None None (p.1.1 x m) (q.1.1 x (omega arith)) }
     by false is = let l : b < a = not_settled a b is in record { address_fits = q.0; differ = first_of_both own other b None (Some f) (p.1.1 b l) q.1.0; alike_below = λ x m. first_of_both own other x None None (p.1.1 x (omega arith)) (q.1.1 x m) }
 
--- one stop more, and no more
+-- There is one stop more, or none.
 pub stops_more : (half : Half) (own other : List SymLine) (known r all : Ruling) (stops : List ℕ) (at d : ℕ) → with_stops half own other known (drop at stops) ≡ all → at < length stops → r ≡ with_stop half own other known (get_or stops at d)
     → with_stops half own other r (drop (at + 1) stops) ≡ all
 unfolding with_stops

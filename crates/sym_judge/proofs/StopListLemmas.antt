@@ -1,4 +1,4 @@
--- Lemmas on lists of stops.
+-- Lemmas about lists of stops.
 use Rattle.std.proofs.Common.{◌≡◌, ◌+◌, ◌<◌, ◌≤◌, ◌^◌, ◌++◌, nat_eq, nat_lt, ℕ, suc, Bool, true, false, cond, List, [], ◌∷◌, length, get_or, drop, refl, sym, ap, subst, ◌∙◌, add-one, append_assoc, append-nil, drop-cons, arith}
 use Rattle.std.specs.List.{flat_map, filter, Contains, dedup}
 use Rattle.std.specs.List.Sorted.{IsPermutation}
@@ -12,12 +12,12 @@ use Rattle.sym_records.specs.declared.line.SymLine.{SymLine}
 use Rattle.sym_judge.specs.declared.ruling.Half.{Half}
 use Rattle.sym_judge.specs.internal.Stops.{run_stops, stops_of, all_stops, doubted}
 
--- some stops, and others behind them
+-- Some stops, and others after them.
 pub joined : (doubts : Stepping Bool) (front back old mid new : List ℕ) → mid ≡ old ++ doubted doubts front → new ≡ mid ++ doubted doubts back → new ≡ old ++ doubted doubts (front ++ back)
 joined doubts front back old mid new m n =
     n ∙ ap (λ xs. xs ++ doubted doubts back) m ∙ append_assoc old (doubted doubts front) (doubted doubts back) ∙ ap (λ xs. old ++ xs) (sym (filter-append (value_at false doubts) front back))
 
--- where a run begins and has ended
+-- The address at which a range begins, and the one after its last.
 pub both_kept : (doubts : Stepping Bool) (address size end : ℕ) (old mid new : List ℕ) → mid ≡ old ++ doubted doubts (address ∷ []) → new ≡ mid ++ doubted doubts (end ∷ []) → end ≡ address + size → end < 2 ^ 64 → new ≡ old ++ doubted doubts (run_stops address size)
 unfolding run_stops
 both_kept doubts address size end old mid new m n is fits =
@@ -32,7 +32,7 @@ start_kept doubts address size old new n above =
     let outside : nat_lt (address + size) (2 ^ 64) ≡ false = grind (arith, nat_tests) in
     n ∙ ap (λ b. old ++ doubted doubts (cond b (address ∷ (address + size) ∷ []) (address ∷ []))) (sym outside)
 
--- those of one element more, and of all
+-- The stops of one element more, and of all elements.
 pub more : {X : Type 0} (doubts : Stepping Bool) (f : X → List ℕ) (xs : List X) (at : ℕ) (x : X) (old next all : List ℕ) → old ++ doubted doubts (flat_map f (drop at xs)) ≡ all → x ≡ get_or xs at x → at < length xs → next ≡ old ++ doubted doubts (f x)
     → next ++ doubted doubts (flat_map f (drop (at + 1) xs)) ≡ all
 more doubts f xs at x old next all before is l n =
@@ -46,7 +46,7 @@ more doubts f xs at x old next all before is l n =
 pub all_of : {X : Type 0} (doubts : Stepping Bool) (f : X → List ℕ) (xs : List X) (at : ℕ) (old all : List ℕ) → old ++ doubted doubts (flat_map f (drop at xs)) ≡ all → length xs ≤ at → old ≡ all
 all_of doubts f xs at old all before l = sym (append-nil old) ∙ ap (λ ys. old ++ doubted doubts (flat_map f ys)) (sym (drop_all at xs l)) ∙ before
 
--- where nothing is doubted
+-- No address is doubtful.
 none_doubted : (marks : List ℕ) (values : List Bool) (stops : List ℕ) → marks ≡ [] → filter (held_from false marks values) stops ≡ []
 unfolding held_from
 none_doubted marks values [] none = refl
@@ -60,7 +60,7 @@ nowhere doubts marks stops items same none x has =
     nothing : (x : ℕ) → Contains [] x → ⊥
     nothing x has = absurd (let l : has.0 < 0 = has.1 in omega arith)
 
--- those of two files, in another order and each once
+-- The stops of two files, in another order and each once.
 pub kept : (half : Half) (own other : List SymLine) (doubts : Stepping Bool) (none first second third sorted once : List ℕ) → none ≡ [] → first ≡ none ++ doubted doubts (0 ∷ []) → second ≡ first ++ doubted doubts (stops_of half own) → third ≡ second ++ doubted doubts (stops_of half other)
     → IsPermutation third sorted → once ≡ dedup nat_eq sorted → (x : ℕ) → Contains (doubted doubts (all_stops half own other)) x → Contains once x
 kept half own other doubts none first second third sorted once empty p q r moved s x has =

@@ -1,4 +1,4 @@
--- Lemmas on the last rule of each target.
+-- Lemmas about the last rule of each target.
 use Rattle.std.proofs.Common.{◌≡◌, ◌≢◌, ◌+◌, ◌<◌, ◌≤◌, ℕ, Bool, true, false, List, [], ◌∷◌, ◌++◌, length, get_or, set, drop, take, Option, None, Some, refl, sym, ap, subst, ◌∙◌, ◌==◌, arith, length-set, replicate, zero, suc, append_assoc, append-nil}
 use Rattle.std.proofs.lemmas.Bool.{lt-leb, le-leb}
 use Rattle.std.proofs.lemmas.Bool.Decides.{nat_tests}
@@ -18,7 +18,7 @@ use Rattle.sym_judge.specs.declared.rule_tables.RulePlace.{RulePlace}
 use Rattle.sym_judge.specs.declared.rule_tables.RuleTable.{RuleTable}
 use Rattle.sym_judge.specs.internal.Tables.{rules_or, rules_at, words_at, words_in, IsTable, IsTableAt, IsTableUpTo}
 
--- a target's rule is at a place
+-- A target's rule is at this place.
 abbrev StandsAt : List SymLine → List RuleText → Target → Option RulePlace → Type 0
 StandsAt lines rules t place = words_in lines place ≡ rule_for t rules
 
@@ -50,7 +50,7 @@ put_ra lines rules rule place table is words before = record {
   registers = λ k l. kept lines rules rule (target.Reg k) (get_or table.registers k None) (ap (λ u. same_target u (target.Reg k)) is) (before.registers k l);
 }
 
--- a rule of a target that has no place
+-- A rule whose target has no place in the table.
 pub put_nowhere : (lines : List SymLine) (rules : List RuleText) (rule : RuleText) (table : RuleTable) → same_target rule.target target.Cfa ≡ false → same_target rule.target target.Ra ≡ false
     → ((k : ℕ) → k < 16 → same_target rule.target (target.Reg k) ≡ false) → IsTable lines rules table → IsTable lines (rules ++ rule ∷ []) table
 put_nowhere lines rules rule table cfa ra registers before = record {
@@ -90,7 +90,7 @@ pub put_name : (lines : List SymLine) (rules : List RuleText) (rule : RuleText) 
 put_name lines rules rule table name is before =
     put_nowhere lines rules rule table (ap (λ u. same_target u target.Cfa) is) (ap (λ u. same_target u target.Ra) is) (λ k l. ap (λ u. same_target u (target.Reg k)) is) before
 
--- the words of a rule of a record
+-- The words of a rule of a record.
 pub words_there : (lines : List SymLine) (rules : List RuleText) (line place : ℕ) (rule : RuleText) → rules_at lines line ≡ rules → slice_get rules place ≡ Some rule → words_at lines (record { line = line; rule = place }) ≡ Some rule.tokens
 words_there lines rules line place rule is there = rw (is, there) refl
 
@@ -102,7 +102,7 @@ none_there zero k = refl
 none_there (suc n) zero = refl
 none_there (suc n) (suc k) = none_there n k
 
--- one more rule of a record
+-- One more rule of a record.
 pub rules_more : (lines : List SymLine) (rules before : List RuleText) (line place : ℕ) (rule : RuleText) (old new : RuleTable) → place < length rules → rule ≡ get_or rules place rule
     → ((lines : List SymLine) (some : List RuleText) → words_at lines (record { line = line; rule = place }) ≡ Some rule.tokens → IsTable lines some old → IsTable lines (some ++ rule ∷ []) new)
     → rules_at lines line ≡ rules → IsTable lines (before ++ take place rules) old → IsTable lines (before ++ take (place + 1) rules) new
@@ -111,7 +111,7 @@ rules_more lines rules before line place rule old new l e puts is table =
     let more : before ++ take (place + 1) rules ≡ (before ++ take place rules) ++ rule ∷ [] = ap (λ rs. before ++ rs) (take_more rules place rule l ∙ ap (λ r. take place rules ++ r ∷ []) (sym e)) ∙ sym (append_assoc before (take place rules) (rule ∷ [])) in
     rw more (puts lines (before ++ take place rules) (words_there lines rules line place rule is there) table)
 
--- the rules of the INIT, and then those of the changes behind it, one record after another
+-- The rules of the INIT, and then those of its changes, one record after another.
 pub record_there : (lines : List SymLine) (place : ℕ) (line : SymLine) → place < length lines → line ≡ get_or lines place line → slice_get lines place ≡ Some line
 record_there lines place line l e = slice_get-get_or lines place line l ∙ ap Some (sym e)
 

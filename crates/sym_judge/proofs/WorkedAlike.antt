@@ -1,4 +1,4 @@
--- Worked files: the first aspect in which two texts differ at an address.
+-- Worked examples: the first aspect in which two texts differ at an address.
 use Rattle.std.proofs.Common.{◌≡◌, ℕ, ◌-◌, ◌^◌, List, [], ◌++◌, codes, Option, None, Some, Result, Ok, Err, refl}
 use Prim.Native.String.{String}
 use Rattle.sym_records.specs.declared.line.SymLine.{SymLine}
@@ -19,7 +19,7 @@ unfoldable unlike : String → String → ℕ → Option Aspect
 unfolding records
 unlike own other x = first_unlike (records own) (records other) x
 
--- the rules of a function that sets up rbp, and the same in other words
+-- The rules of a function that sets up rbp, and the same rules in other words.
 abbrev frames : String
 frames = "STACK CFI INIT 1000 20 .cfa: $rsp 8 + .ra: .cfa -8 + ^\nSTACK CFI 1001 .cfa: $rsp 16 + $rbp: .cfa -16 + ^\nSTACK CFI 1004 .cfa: $rbp 16 +\nSTACK CFI 100e .cfa: $rsp 8 +\n"
 
@@ -46,7 +46,7 @@ without_its_last_line : unlike frames "STACK CFI INIT 1000 20 .cfa: $rsp 8 + .ra
 unfolding unlike sym_judge_computes
 without_its_last_line = refl
 
--- an INIT that is split in two says the same
+-- An INIT that is split in two says the same.
 split_in_two : unlike frames "STACK CFI INIT 1000 10 .cfa: $rsp 8 + .ra: .cfa -8 + ^\nSTACK CFI 1001 .cfa: $rsp 16 + $rbp: .cfa -16 + ^\nSTACK CFI 1004 .cfa: $rbp 16 +\nSTACK CFI 100e .cfa: $rsp 8 +\nSTACK CFI INIT 1010 10 $rbp: .cfa -16 + ^ .ra: -8 .cfa + ^ .cfa: $rsp 8 +\n" 0x101f ≡ None
 unfolding unlike sym_judge_computes
 split_in_two = refl
@@ -59,12 +59,12 @@ another_return_address : unlike frames "STACK CFI INIT 1000 20 .cfa: $rsp 8 + .r
 unfolding unlike sym_judge_computes
 another_return_address = refl
 
--- changes in falling order: the later record counts
+-- If the addresses of changes fall, the later record counts.
 falling : unlike "STACK CFI INIT 0 9 .cfa: 1\nSTACK CFI 4 .cfa: 2\nSTACK CFI 2 .cfa: 3\n" "STACK CFI INIT 0 9 .cfa: 1\nSTACK CFI 2 .cfa: 3\n" 8 ≡ None
 unfolding unlike sym_judge_computes
 falling = refl
 
--- a function with an inlined call and lines, in other numbers and another order
+-- A function with an inlined call and lines, with other numbers and in another order.
 abbrev names : String
 names = "FILE 0 /s/a.c\nINLINE_ORIGIN 0 g\nFUNC 1000 20 0 f\nINLINE 0 4 0 0 1004 8\n1000 4 3 0\n1004 8 9 0\n100c 14 4 0\n"
 
@@ -87,7 +87,7 @@ no_function : unlike names "PUBLIC 1000 0 f\n" 0x1000 ≡ Some Func
 unfolding unlike sym_judge_computes
 no_function = refl
 
--- the chain comes before the line
+-- The chain comes before the line.
 no_call : unlike names "FILE 0 /s/a.c\nFUNC 1000 20 0 f\n1000 4 3 0\n" 0x1004 ≡ Some Chain
 unfolding unlike sym_judge_computes
 no_call = refl
@@ -104,7 +104,7 @@ another_path : unlike names "FILE 0 /s/b.c\nFUNC 1000 20 0 f\n1000 4 3 0\n" 0x10
 unfolding unlike sym_judge_computes
 another_path = refl
 
--- a missing origin is `<name omitted>`, and a missing file has no path
+-- A missing origin is `<name omitted>`, and a missing file has no path.
 a_missing_origin : unlike "FUNC 0 9 0 f\nINLINE 0 5 0 0 0 9\n" "INLINE_ORIGIN 3 <name omitted>\nFUNC 0 9 0 f\nINLINE 0 5 4 3 0 9\n" 0 ≡ None
 unfolding unlike sym_judge_computes
 a_missing_origin = refl
@@ -113,12 +113,12 @@ a_missing_file : unlike "FUNC 0 9 0 f\n0 9 5 0\n" "FILE 0 ?\nFUNC 0 9 0 f\n0 9 5
 unfolding unlike sym_judge_computes
 a_missing_file = refl
 
--- INLINE records by depth, and FUNCs backwards
+-- The order of INLINE records of different levels and of FUNCs does not matter.
 by_depth : unlike "INLINE_ORIGIN 0 g\nINLINE_ORIGIN 1 h\nFUNC 0 9 0 f\nINLINE 0 5 0 0 2 4\nINLINE 1 6 0 1 3 1\nFUNC 10 9 0 k\n" "INLINE_ORIGIN 0 g\nINLINE_ORIGIN 1 h\nFUNC 10 9 0 k\nFUNC 0 9 0 f\nINLINE 1 6 0 1 3 1\nINLINE 0 5 0 0 2 4\n" 3 ≡ None
 unfolding unlike sym_judge_computes
 by_depth = refl
 
--- the last address of all
+-- The last of all addresses.
 the_last_address : unlike "FUNC ffffffffffffffff 1 0 f\n" "FUNC ffffffffffffffff 1 0 g\n" (2 ^ 64 - 1) ≡ Some Func
 unfolding unlike sym_judge_computes
 the_last_address = refl

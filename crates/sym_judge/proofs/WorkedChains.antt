@@ -1,4 +1,5 @@
--- Worked files: calls under other numbers, the numbers of their chains, and numbers of one name.
+-- Worked examples: calls under other numbers, the numbers of chains, and numbers that have one
+-- name.
 use Rattle.std.proofs.Common.{◌≡◌, true, false, ℕ, List, [], ◌∷◌, codes, Option, None, Some, refl}
 use Prim.Native.String.{String}
 use Rattle.step_maps.specs.declared.stretch.FirstItem.{FirstItem}
@@ -13,7 +14,8 @@ use Rattle.sym_judge.proofs.Computing.{sym_judge_computes}
 use Rattle.sym_judge.proofs.WorkedAlike.{records}
 use Rattle.sym_judge.specs.internal.Chains.{shown, shown_call, shown_calls, One, Two, calls_of_tree, IsNumberOf, is_full}
 
--- a call of g in line 7, and in it one in line 8; the same under other numbers, the inner call first
+-- A call of `g` in line 7, and in it a call in line 8. The other file has other numbers, and the
+-- inner call first.
 abbrev own : String
 own = "FILE 0 a\nINLINE_ORIGIN 0 g\nFUNC 1000 40 0 f\nINLINE 0 7 0 0 1000 20\nINLINE 1 8 0 0 1010 8\n"
 
@@ -24,7 +26,7 @@ the_same_call : shown (call_at (records own) 4) ≡ shown (call_at (records othe
 unfolding records sym_judge_computes
 the_same_call = refl
 
--- by the numbers of the first file
+-- A call, by the numbers of the first file.
 abbrev call : ℕ → CallSpot
 call line = record { origin = Some 0; spot = record { file = Some 0; line = line } }
 
@@ -40,14 +42,14 @@ the_same_chain : calls_of_tree (records own) (Two (One (call 7)) (One (call 8)))
 unfolding records sym_judge_computes
 the_same_chain = refl
 
--- the number 2 stands for the calls of 0 and 1, one in the other
+-- The number 2 stands for the calls of 0 and 1, one in the other.
 abbrev entries : List Entry
 entries = Call (call 7) ∷ Call (call 8) ∷ Joined 0 1 ∷ []
 
 of_two : IsNumberOf entries (Two (One (call 7)) (One (call 8))) 2
 of_two = (0, 1, refl, refl, refl)
 
--- a level with a record from 16 on, below 32
+-- A level with a record from 16 up to 32.
 abbrev level : Stepping (Option FirstItem)
 level = record { stops = 16 ∷ 32 ∷ []; values = Some (record { index = 4; class = 0; shared = false }) ∷ None ∷ [] }
 

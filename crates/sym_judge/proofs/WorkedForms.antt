@@ -1,4 +1,4 @@
--- Worked forms: what the words of a rule say, and which rules have one form.
+-- Worked examples: the forms of words, and which rules have one form.
 use Rattle.std.proofs.Common.{◌≡◌, Bool, true, false, List, [], ◌∷◌, ◌++◌, ◌-◌, ◌^◌, codes, Result, Ok, Err, refl}
 use Prim.Native.String.{String}
 use Rattle.sym_rules.specs.declared.rules.Target.TheVariants as target
@@ -11,7 +11,7 @@ use Rattle.sym_judge.specs.declared.terms.Term.TheVariants.{Plain, Fetched}
 use Rattle.sym_judge.specs.Forms.{sum, Form, of_term, rule_form, same_form}
 use Rattle.sym_judge.proofs.Computing.{sym_judge_computes}
 
--- the rules of the one INIT of a text
+-- The rules of the only INIT of a text.
 abbrev init_rules : List SymLine → List RuleText
 init_rules (head ∷ Init address size rules ∷ []) = rules
 init_rules _ = []
@@ -39,7 +39,7 @@ unfoldable rbps_agree : String → String → Bool
 unfolding rbp
 rbps_agree a b = same_form (rbp a) (rbp b)
 
--- a sum of a register and a number, in either order, and a difference
+-- A sum of a register and a number, in either order, and a difference.
 a_sum : cfa ".cfa: $rsp 16 +" ≡ of_term (Plain (sum (base.Register 7) 16))
 unfolding cfa sym_judge_computes
 a_sum = refl
@@ -64,7 +64,7 @@ past_the_end : cfas_agree ".cfa: $rsp -1 + -1 + 2 +" ".cfa: $rsp" ≡ true
 unfolding cfas_agree sym_judge_computes
 past_the_end = refl
 
--- what memory holds there
+-- What memory holds at a sum.
 a_fetch : rbp "$rbp: .cfa 16 - ^" ≡ of_term (Fetched (sum base.Cfa (2 ^ 64 - 16)))
 unfolding rbp sym_judge_computes
 a_fetch = refl
@@ -81,7 +81,8 @@ a_number_alone : rbp "$rbp: 3 5 -" ≡ of_term (Plain (sum base.Nothing (2 ^ 64 
 unfolding rbp sym_judge_computes
 a_number_alone = refl
 
--- `.cfa` in its own rule, what is taken from a number, two registers, a fetch that goes on and words that are left over are the words
+-- Words that are their own form: `.cfa` in its own rule, a number minus a register, two registers,
+-- a sum of a fetch, and words that leave more than one term.
 its_own_rule : cfas_agree ".cfa: .cfa 0 +" ".cfa: .cfa" ≡ false
 unfolding cfas_agree sym_judge_computes
 its_own_rule = refl
@@ -110,7 +111,7 @@ the_same_words : rbps_agree "$rbp: $rip 8 4 * + ^" "$rbp: $rip 8 4 * + ^" ≡ tr
 unfolding rbps_agree sym_judge_computes
 the_same_words = refl
 
--- a missing rule
+-- A missing rule.
 a_register_that_is_kept : rbps_agree "$rbx: 1" "$rbp: $rbp" ≡ true
 unfolding rbps_agree sym_judge_computes
 a_register_that_is_kept = refl
@@ -135,7 +136,7 @@ a_register_that_is_lost : same_form (rule_form (target.Reg 0) (rules "$rbx: 1"))
 unfolding rules sym_judge_computes
 a_register_that_is_lost = refl
 
--- the last of two rules counts
+-- The last of two rules counts.
 the_last_rule : rbps_agree "$rbp: 1 $rbp: 2" "$rbp: 2" ≡ true
 unfolding rbps_agree sym_judge_computes
 the_last_rule = refl

@@ -28,11 +28,12 @@ same_list same _ _ = false
 abbrev pub same_line : Option (List ℕ) × ℕ → Option (List ℕ) × ℕ → Bool
 same_line a b = same_option bytes_eq a.0 b.0 && (a.1 == b.1)
 
--- two inlined calls are the same if the functions' names (`<name omitted>` if the text has none) and the paths and lines of the calls are
+-- two inlined calls are the same if the names of their functions are the same, and the paths and
+-- lines of the calls are. A missing name is `<name omitted>`
 abbrev pub same_call : Call → Call → Bool
 same_call a b = bytes_eq (call_name a) (call_name b) && same_line (a.path, a.line) (b.path, b.line)
 
--- the rules of a target in two lists of rules have one form
+-- the rules of a target in two lists of rules have the same form
 abbrev pub same_rules : Target → List RuleText → List RuleText → Bool
 same_rules t a b = same_form (rule_form t a) (rule_form t b)
 

@@ -1,6 +1,7 @@
--- The form of a frame rule (Breakpad's symbol_files.md, "STACK CFI"). If the words of the rule add numbers to a register or to the CFA, or subtract
--- them, or fetch what memory holds at such a sum, the form is that sum or fetch. Two spellings of one form mean the same, such as `$rsp 16 +` and
--- `16 $rsp +`. Other words are their own form.
+-- The form of a frame rule (Breakpad's symbol_files.md, "STACK CFI"). Words may add numbers to a
+-- register or to the CFA, or subtract them, and may then fetch what memory holds at the sum. The
+-- form of such words is the sum or the fetch, so that different spellings have one form, such as
+-- `$rsp 16 +` and `16 $rsp +`. Other words are their own form.
 use Rattle.std.specs.Prelude.{ℕ, ◌+◌, ◌-◌, ◌%◌, ◌^◌, ◌==◌, ◌&&◌, Bool, true, false, if◌then◌else◌, List, [], ◌∷◌, Option, None, Some}
 use Rattle.std.specs.Int.{cast_unsigned, w64}
 use Rattle.std.specs.Option.{option_map, option_and_then}
@@ -40,7 +41,8 @@ taken_base _ _ = None
 abbrev pub taken : Sum → Sum → Option Sum
 taken a b = option_map (λ c. sum c ((a.offset + (2 ^ 64 - b.offset)) % 2 ^ 64)) (taken_base a.base b.base)
 
--- a sign takes the two top sums from the stack, the topmost as its second operand, and leaves one
+-- `+` or `-` takes the two top sums from the stack, the topmost as its second operand, and leaves
+-- one sum
 abbrev pub of_two : (Sum → Sum → Option Sum) → List Term → Option (List Term)
 of_two sign (Plain b ∷ Plain a ∷ terms) = option_map (λ s. Plain s ∷ terms) (sign a b)
 of_two sign _ = None
@@ -110,7 +112,7 @@ form_by t (Some words) = form_of (is_cfa t) words
 unfoldable pub rule_form : Target → List RuleText → Form
 rule_form t rules = form_by t (rule_for t rules)
 
--- whether two forms are the same; first, whether their parts are
+-- whether two forms are the same; the first two tests are of their parts
 abbrev pub same_base : Base → Base → Bool
 same_base base.Nothing base.Nothing = true
 same_base (base.Register a) (base.Register b) = a == b

@@ -24,8 +24,10 @@ pub record NameTheSame (own other : List SymLine) (x : ℕ) : Type 0 where
   pub chain : map said (text_chain own x) ≡ map said (text_chain other x)
   pub line : text_line own x ≡ text_line other x
 
--- if the first file gives no frame at an address, the second gives none. For all memory and all registers of 64 bits: if the first gives a frame
--- whose CFA is not undefined, the second gives the same frame: the CFA, the return address and each register, with the cause if one has no value
+-- if the first file gives no frame at an address, the second gives none. If the first gives a frame
+-- whose CFA is not undefined, the second gives the same frame, for all memory and all registers of
+-- 64 bits. The same frame has the same CFA, return address and registers, and the same cause for
+-- each of these without a value
 pub record UnwindTheSame (own other : List SymLine) (x : ℕ) : Type 0 where
   pub nowhere : (regs : Regs) (memory : List MemRun) → text_frame own x regs memory ≡ None → text_frame other x regs memory ≡ None
   pub frame : (regs : Regs) (memory : List MemRun) (f : Frame) → AreWords regs → IsKnown f.cfa → text_frame own x regs memory ≡ Some f → text_frame other x regs memory ≡ Some f

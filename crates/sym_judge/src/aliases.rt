@@ -68,7 +68,7 @@ pub(crate) fn name_in<'f>(
     name_of(numbered, side, number?)
 }
 
-/// The numbers of records, in their order.
+/// The numbers in the records of a kind, in the order of the records.
 fn numbers_of(
     alloc: Global,
     numbered: Numbered,
@@ -86,7 +86,7 @@ fn numbers_of(
     Ok(numbers)
 }
 
-/// The number of the last eight bytes of a name, which distinguishes most names.
+/// The last eight bytes of a name as a number, which distinguishes most names.
 fn ending_of(name: &[u8]) -> u64 {
     let mut ending = 0u64;
     'bytes: for byte in name.split_at(name.len().saturating_sub(8)).1 {
@@ -95,7 +95,7 @@ fn ending_of(name: &[u8]) -> u64 {
     ending
 }
 
-/// The least number of each name of a file.
+/// For each name of a file, the least number that has it.
 #[derive(Drop)]
 struct Firsts<'s, 'f> {
     numbered: Numbered,
@@ -129,7 +129,7 @@ fn firsts_of<'s, 'f>(
     })
 }
 
-/// The least number of the name under a number.
+/// The least number that has the same name as a number.
 fn first_of<'f>(firsts: &Firsts<'_, 'f>, name: Option<&'f [u8]>) -> Option<u32> {
     let name = name?;
     let key = (ending_of(name), name);
@@ -139,7 +139,7 @@ fn first_of<'f>(firsts: &Firsts<'_, 'f>, name: Option<&'f [u8]>) -> Option<u32> 
     }
 }
 
-/// Adds a number of a file, if the first file has its name.
+/// Adds a number of a file, if the first file has the number's name.
 fn push_alias<'f>(
     aliases: &mut Vec<Alias>,
     firsts: &Firsts<'_, 'f>,
@@ -179,7 +179,7 @@ fn aliases_in<'f>(
     Ok(aliases)
 }
 
-/// No number.
+/// Aliases of no numbers.
 pub(crate) fn no_aliases(alloc: Global) -> Aliases
     ensures { (numbered : Numbered) (own other : List SymLine) → AreAliasesOf numbered own other result }
 {
@@ -189,7 +189,7 @@ pub(crate) fn no_aliases(alloc: Global) -> Aliases
     }
 }
 
-/// The same numbers.
+/// A copy of the aliases.
 pub(crate) fn copied(aliases: &Aliases) -> Result<Aliases, OutOfMemory>
     ensures { IfOk result (λ copy. (numbered : Numbered) (own other : List SymLine) → AreAliasesOf numbered own other aliases.now → AreAliasesOf numbered own other copy) }
 {
@@ -198,7 +198,7 @@ pub(crate) fn copied(aliases: &Aliases) -> Result<Aliases, OutOfMemory>
     Ok(Aliases { mine, theirs })
 }
 
-/// The numbers of two files that have a name of the first.
+/// The numbers of two files whose names the first file has.
 pub(crate) fn aliases_of<'f>(
     alloc: Global,
     numbered: Numbered,
@@ -215,7 +215,7 @@ pub(crate) fn aliases_of<'f>(
     Ok(Aliases { mine, theirs })
 }
 
-/// The first number of the name under a number, by binary search.
+/// The first file's number for the name under a number, by binary search.
 pub(crate) fn first_in(aliases: &[Alias], number: u32) -> Option<u32>
     ensures { IfSome result (λ first. (numbered : Numbered) (own lines : List SymLine) → AreAliases numbered own lines aliases.now → name_of numbered own first ≡ name_of numbered lines number) }
 {
@@ -230,7 +230,7 @@ pub(crate) fn first_in(aliases: &[Alias], number: u32) -> Option<u32>
     Some(alias.first)
 }
 
-/// Whether two numbers have one name, as far as their first numbers show.
+/// Whether two numbers are known to have one name, by the first file's numbers for their names.
 pub(crate) fn have_one_name(aliases: &Aliases, a: u32, b: u32) -> bool
     ensures { OnTrue result ((numbered : Numbered) (own other : List SymLine) → AreAliasesOf numbered own other aliases.now → same_name numbered own other a b ≡ true) }
 {

@@ -255,7 +255,8 @@ fn begins_at(line: &SymLine, start: u64) -> bool {
     }
 }
 
-/// Whether blocks that cover an address say the same. It is no if the first file's block does not begin there, so each is compared once.
+/// Whether blocks that cover an address say the same. The answer is no if the first file's block
+/// does not begin at the address, so that each block is compared only once.
 fn are_same_blocks(half: Half, both: &FilePair<'_>, i: usize, j: usize, address: u64) -> bool
     ensures { OnTrue result (AreSameBlocks half both.now.own both.now.other i j) }
 {

@@ -36,7 +36,8 @@ impl<'b, 'f> Model for Calls<'b, 'f> {
     ghost invariant = { λ c. AreAliases Files c.own.now c.side.now c.paths.items × AreAliases Origins c.own.now c.side.now c.origins.items };
 }
 
-/// The number under which the first file has the name of a number: none if there is no name; nothing if the first file does not have the name.
+/// The first file's number for the name that a file has under a number. It is `Some(None)` if there
+/// is no name, and `None` if the first file does not have the name.
 fn own_number(
     numbered: Numbered,
     side: &IndexedFile<'_>,
@@ -57,7 +58,7 @@ fn own_number(
     }
 }
 
-/// Whether a name is shown as a missing one.
+/// Whether a name is shown like a missing one.
 fn is_omitted(name: Option<&[u8]>) -> bool
     ensures { OnTrue result (unwrap_or (option_copied name.entry) (codes "<name omitted>") ≡ codes "<name omitted>") }
 {

@@ -24,7 +24,7 @@ pub(crate) struct Numbers {
     joined: BTreeMap<(u32, u32), u32>,
 }
 
-/// No number yet.
+/// Numbers of chains, of which none is given yet.
 pub(crate) fn no_numbers(alloc: Global) -> Numbers {
     Numbers {
         entries: Vec::new(alloc),
@@ -63,7 +63,7 @@ fn is_of_call(entries: &[Entry], number: u32, call: CallSpot) -> bool
     }
 }
 
-/// Whether a number stands for two chains, one after the other.
+/// Whether a number stands for two given chains, one after the other.
 fn is_of_joined(entries: &[Entry], number: u32, front: u32, back: u32) -> bool
     ensures { OnTrue result (slice_get entries.now number ≡ Some (Joined front back)) }
 {
@@ -104,7 +104,7 @@ pub(crate) fn call_number(numbers: &mut Numbers, call: CallSpot) -> Result<Optio
     Ok(Some(number))
 }
 
-/// The number of two chains, one after the other.
+/// The number of the chain that consists of two chains, one after the other.
 pub(crate) fn joined_number(
     numbers: &mut Numbers,
     front: u32,

@@ -64,7 +64,7 @@ fn stop_at(stops: &[u64], index: usize) -> Option<u64>
     stops.get(index).copied()
 }
 
-/// The calls of a map from an address on, and an end up to which they are the same.
+/// The calls that a map has at an address, and an end up to which they are the same.
 fn part_run(map: &ChainMap, address: u64) -> PartRun
     ensures above { IsBefore result.end address }
     ensures same { (y : ℕ) → address ≤ y → IsBefore result.end y → value_at Nothing map.now y ≡ result.part }
@@ -107,7 +107,8 @@ fn level_part(
     Ok(numbered(number, true))
 }
 
-/// The calls of levels, given the number of the first levels, of which each has a call, and the calls of the others.
+/// The calls of levels, given the number for the calls of the first levels, of which each has one,
+/// and the calls of the others.
 fn longer_part(
     numbers: &mut Numbers,
     number: u32,
@@ -313,7 +314,7 @@ fn has_number(part: ChainPart, number: u32) -> bool
     }
 }
 
-/// Whether calls have one number, or there are none on either side.
+/// Whether the calls of both have one number, or neither has calls.
 pub(crate) fn have_one_number(a: ChainPart, b: ChainPart) -> bool
     ensures { OnTrue result ((own : List SymLine) (entries : List Entry) (c d : List Shown) (f g : Bool) → IsPart own entries c f a → IsPart own entries d g b → c ≡ d) }
 {

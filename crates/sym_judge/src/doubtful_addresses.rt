@@ -12,7 +12,7 @@ use std::alloc::Global;
 use step_maps::StepMap;
 use sym_edges::OutOfMemory;
 
-/// The nearer of two ends.
+/// The lesser of two ends, either of which may be missing.
 pub(crate) fn nearer(a: Option<u64>, b: Option<u64>) -> Option<u64>
     ensures both { (x : ℕ) → IsBefore result x → IsBefore a x × IsBefore b x }
     ensures above { (x : ℕ) → IsBefore a x → IsBefore b x → IsBefore result x }
@@ -24,7 +24,7 @@ pub(crate) fn nearer(a: Option<u64>, b: Option<u64>) -> Option<u64>
     }
 }
 
-/// Notes what holds from an address on, if it did not hold before.
+/// Stores what holds from an address on, if it differs from what held before.
 fn note(
     doubts: &mut StepMap<bool>,
     known: bool,

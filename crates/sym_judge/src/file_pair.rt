@@ -13,7 +13,8 @@ use std::marker::Model;
 use sym_edges::OutOfMemory;
 use sym_records::SymLine;
 
-/// Some numbers of a kind under which two files have one name: numbers that are the same in both files, by a list (`told`), and others.
+/// Some numbers of a kind under which two files have one name. The list `told` says for which
+/// numbers both files have one name under the same number; the others are in `aliases`.
 #[derive(Drop)]
 pub struct OneNames {
     pub told: Vec<bool>,
@@ -41,7 +42,7 @@ impl<'f> Model for FilePair<'f> {
     ghost invariant = { λ b. AreOneNames Files b.own b.other b.paths × AreOneNames Origins b.own b.other b.origins };
 }
 
-/// The number of records of a kind.
+/// How many records of a kind a file has.
 fn count_of(numbered: Numbered, lines: &[SymLine]) -> u32 {
     let mut count = 0u32;
     'lines: for line in lines {
@@ -97,7 +98,7 @@ fn is_told(told: &[bool], number: u32) -> bool
     }
 }
 
-/// Whether two numbers are equal, and the list is true at them.
+/// Whether two numbers are equal and the list is true at the number.
 fn are_told(told: &[bool], a: u32, b: u32) -> bool
     ensures { result ≡ are_told told.now a b }
 {
@@ -175,7 +176,7 @@ impl<'f> FilePair<'f> {
         }
     }
 
-    /// All numbers that have a name of the first file.
+    /// All numbers whose names the first file has.
     pub(crate) fn aliases(&self, alloc: Global, numbered: Numbered) -> Result<Aliases, OutOfMemory>
         ensures { IfOk result (λ aliases. AreAliasesOf numbered self.now.own self.now.other aliases) }
     {

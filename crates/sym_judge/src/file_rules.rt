@@ -38,7 +38,7 @@ impl<'a, 'f> Model for FileRules<'a, 'f> {
 }
 
 impl<'a, 'f> FileRules<'a, 'f> {
-    /// A file without such maps.
+    /// A file without maps of rules.
     pub(crate) fn bare(alloc: Global, side: &'a IndexedFile<'f>) -> FileRules<'a, 'f>
         ensures { result ≡ side.now }
     {

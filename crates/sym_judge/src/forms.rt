@@ -280,7 +280,7 @@ pub(crate) fn is_same_form(a: Form<'_>, b: Form<'_>) -> bool
     }
 }
 
-/// Whether the rules of a target, or missing rules, have one form.
+/// Whether the rules of a target have one form; either rule may be missing.
 pub(crate) fn have_same_form(
     alloc: Global,
     target: &Target,

@@ -40,7 +40,8 @@ impl<'a, 'f> Model for RulePair<'a, 'f> {
     ghost invariant = { λ r. AreRuleAliasesOf r.own r.other r.aliases };
 }
 
-/// Whether words, or missing ones, have one form as the rule of a target. For equal words it allocates no memory.
+/// Whether two rules of a target have one form, given their words, which may be missing. For equal
+/// words it allocates no memory.
 #[tactic(auto, using(crate::proofs::FrameLemmas::same_words_same_form))]
 fn is_same_rule(
     alloc: Global,
@@ -60,7 +61,7 @@ fn is_same_rule(
     have_same_form(alloc, target, a, b)
 }
 
-/// Whether there are few words, or none.
+/// Whether there are few words, or no words at all.
 fn are_few(words: Option<&[Token]>) -> bool {
     match words {
         None => true,
@@ -68,7 +69,8 @@ fn are_few(words: Option<&[Token]>) -> bool {
     }
 }
 
-/// What differs if no INIT of the first file covers the address.
+/// The aspect that differs, given the second file's INIT, if no INIT of the first file covers the
+/// address.
 fn alone(init: Option<usize>) -> Option<Aspect>
     ensures { MatchOption init (result ≡ None) (λ _. result ≡ Some Aspect.Init) }
 {
@@ -163,7 +165,7 @@ impl<'a, 'f> RulePair<'a, 'f> {
         self.first_register(alloc, a, b)
     }
 
-    /// What differs in the frame rules at an address.
+    /// The first aspect of the frame rules that differs at an address.
     pub(crate) fn first_aspect(
         &self,
         alloc: Global,

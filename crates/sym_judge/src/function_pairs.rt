@@ -32,8 +32,9 @@ pub struct FuncPair {
     pub same_name: bool,
 }
 
-/// What is known of functions that meet: for two with long names or many levels, whether they have one name; and the chains of those with many
-/// levels, in their order.
+/// What is known of functions that meet. For two with long names or with many levels it is whether
+/// they have one name. For each with many levels it is the chains. Both lists are in the order of
+/// the functions.
 #[derive(Drop)]
 pub struct FuncMeetings {
     pub pairs: Vec<FuncPair>,
@@ -143,7 +144,7 @@ fn func_pairs(
     Ok(pairs)
 }
 
-/// The places of the functions with many levels that meet others with many, in their order.
+/// The places of the functions with many levels that meet others with many levels, in their order.
 fn many_in(
     alloc: Global,
     both: &FilePair<'_>,

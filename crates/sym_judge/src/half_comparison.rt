@@ -75,7 +75,7 @@ impl<'a, 'f> HalfComparison<'a, 'f> {
         }
     }
 
-    /// What differs at an address.
+    /// The first aspect that differs at an address.
     pub(crate) fn first_in(
         &self,
         alloc: Global,

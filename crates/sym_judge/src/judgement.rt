@@ -35,7 +35,8 @@ fn with_found(ruling: Ruling, address: u64, found: Option<Aspect>) -> Ruling
     }
 }
 
-/// The ruling after an address is looked at. If the files differ at an address below it, it is not looked at.
+/// The ruling after an address is looked at. The address is not looked at if the files already
+/// differ at an address below it.
 #[tactic(auto, unfolding(crate::specs::internal::Stops::with_stop))]
 fn with_stop(
     alloc: Global,
@@ -86,7 +87,7 @@ fn half_ruling(alloc: Global, half: Half, both: &FilePair<'_>) -> Result<Ruling,
     Ok(ruling)
 }
 
-/// The ruling with the lesser address; if the addresses are equal, the first.
+/// Of two rulings, the one with the lesser address; if the addresses are equal, the first one.
 fn sooner(a: Ruling, b: Ruling) -> Ruling
     ensures { result ≡ sooner a b }
 {

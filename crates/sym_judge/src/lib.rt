@@ -9,13 +9,16 @@
 //! form: if files differ in them, their rules may still evaluate to the same values. [`laws`] say that rules of one form give one outcome, what a yes
 //! means for look-up and unwinding, and that a file says the same as itself.
 //!
-//! To read: `specs/Forms.antt`, `specs/Alike.antt`, `specs/Rulings.antt` and `specs/SameMeaning.antt`; then `terms` and `forms`, `rule_tables` (the
-//! rules that count at an address), `rule_maps` (the same by binary search, for an INIT with many rules), `held_forms` (the forms of long rules),
-//! `rule_aliases` (long rules with the same words), `file_rules` (a file with these) and `frames`; `aliases` (the numbers of one name) and `names`;
-//! `copies` (files of the same records), `blocks` and `doubtful_addresses` (if records say the same in both files, nothing else is compared there);
-//! `calls` (named by the numbers of the first file), `chain_numbers`, `chains` and `function_pairs` (what is found out once for a function or for
-//! two); and `record_stops` (the addresses at which both are looked up), `half_comparison` and `judgement`, which use `indexed_files` and
-//! `file_pair`.
+//! A reader begins with `specs/Forms.antt`, `specs/Alike.antt`, `specs/Rulings.antt` and
+//! `specs/SameMeaning.antt`. Then come `terms` and `forms`, `rule_tables` (the rules that count at
+//! an address), `rule_maps` (the same by binary search, for an INIT with many rules), `held_forms`
+//! (the forms of long rules), `rule_aliases` (long rules with the same words), `file_rules` (a file
+//! with these) and `frames`; `aliases` (numbers that have one name) and `names`; `copies` (files of
+//! the same records), `blocks` and `doubtful_addresses` (if records say the same in both files,
+//! nothing else is compared there); `calls` (named by the numbers of the first file),
+//! `chain_numbers`, `chains` and `function_pairs` (what is found out once for a function or for
+//! two); and `record_stops` (the addresses at which both are looked up), `half_comparison` and
+//! `judgement`, which use `indexed_files` and `file_pair`.
 #![tactic(auto)]
 
 mod aliases;

@@ -239,7 +239,8 @@ fn is_same_owner(both: &FilePair<'_>, a: &Answer, b: &Answer) -> bool
     )
 }
 
-/// What two answers name differently, if it is known whether their functions have one name.
+/// The first aspect in which the names of two answers differ, given whether their functions have
+/// one name.
 #[tactic(auto, using(crate::proofs::NameLemmas::func_met, crate::proofs::NameLemmas::chain_met, crate::proofs::NameLemmas::line_met, crate::proofs::NameLemmas::none_met))]
 fn first_named(both: &FilePair<'_>, same_owner: bool, a: &Answer, b: &Answer) -> Option<Aspect>
     requires { same_owner ≡ same_option bytes_eq (owner_of both.now.own a.now) (owner_of both.now.other b.now) }
@@ -257,14 +258,15 @@ fn first_named(both: &FilePair<'_>, same_owner: bool, a: &Answer, b: &Answer) ->
     None
 }
 
-/// What differs if all but the line is the same.
+/// The aspect that differs if all but the line is the same.
 fn line_alone(same: bool) -> Option<Aspect>
     ensures { result ≡ (if same then None else Some Aspect.Line) }
 {
     if same { None } else { Some(Aspect::Line) }
 }
 
-/// What two functions with the same chain name differently at an address, given their line records.
+/// The first aspect in which the names of two functions with the same chain differ at an address,
+/// given their line records.
 fn first_in_funcs(
     both: &FilePair<'_>,
     pair: &FuncPair,
@@ -302,7 +304,8 @@ fn have_one_chain(met: &FuncMeetings, pair: &FuncPair, address: u64) -> bool
     )
 }
 
-/// What two functions that are the first at an address name differently there, if their chains have one number.
+/// The first aspect in which the names of two functions differ at an address, if both are the first
+/// there and their chains have one number.
 fn first_by_chains(
     both: &FilePair<'_>,
     met: &FuncMeetings,
@@ -323,7 +326,8 @@ fn first_by_chains(
     Some(first_in_funcs(both, pair, address, a, b))
 }
 
-/// What the files name differently at an address; it may be known whether the functions have one name.
+/// The first aspect in which the names of the files differ at an address; whether their functions
+/// there have one name may be `known`.
 #[tactic(auto, using(crate::proofs::NameLemmas::names_differ))]
 fn first_by_answers(
     alloc: Global,
@@ -343,7 +347,7 @@ fn first_by_answers(
     Ok(first_named(both, same, &a, &b))
 }
 
-/// The functions of both files at an address, and what is known of them.
+/// The functions of both files at an address, with what is known of them, if they are in the list.
 fn met_at<'p>(pairs: &'p [FuncPair], both: &FilePair<'_>, address: u64) -> Option<&'p FuncPair>
     ensures own { IfSome result (λ pair. func_place both.now.own address ≡ Some pair.now.met.own) }
     ensures other { IfSome result (λ pair. func_place both.now.other address ≡ Some pair.now.met.other) }
@@ -357,7 +361,7 @@ fn met_at<'p>(pairs: &'p [FuncPair], both: &FilePair<'_>, address: u64) -> Optio
     pair_of(pairs, own, other)
 }
 
-/// What the files name differently at an address.
+/// The first aspect in which the names of the files differ at an address.
 pub(crate) fn first_name_aspect(
     alloc: Global,
     met: &FuncMeetings,

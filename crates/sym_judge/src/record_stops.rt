@@ -1,4 +1,5 @@
-//! The addresses, at which two files may differ, where records begin or have ended: between two neighbours nothing changes.
+//! The addresses at which records begin or have ended, as far as the files may differ there.
+//! Between two neighbours nothing changes.
 ghost use Rattle.std.specs.Prelude.{◌≡◌, ◌∷◌, [], ◌++◌, ℕ, IfOk, OnOk};
 ghost use Rattle.std.specs.List.{Contains, flat_map};
 ghost use Rattle.sym_judge.specs.internal.Stops.{run_stops, extent_stops, line_stops, stops_of, all_stops, doubted};
@@ -38,7 +39,7 @@ fn push_run(
     Ok(())
 }
 
-/// Adds these addresses of several ranges.
+/// Adds both addresses for each of several ranges.
 #[tactic(auto, using(crate::proofs::StopListLemmas::more, crate::proofs::StopListLemmas::all_of))]
 fn push_extents(
     stops: &mut Vec<u64>,
@@ -53,7 +54,7 @@ fn push_extents(
     Ok(())
 }
 
-/// Adds these addresses of a record.
+/// Adds the addresses at which a record of a half begins or has ended.
 fn push_line(
     stops: &mut Vec<u64>,
     half: Half,
@@ -76,7 +77,7 @@ fn push_line(
     }
 }
 
-/// Adds these addresses of records.
+/// Adds the addresses at which records of a half begin or have ended.
 #[tactic(auto, using(crate::proofs::StopListLemmas::more, crate::proofs::StopListLemmas::all_of))]
 fn push_lines(
     stops: &mut Vec<u64>,
@@ -92,7 +93,8 @@ fn push_lines(
     Ok(())
 }
 
-/// These addresses of two files, sorted, each once; none if the files differ nowhere.
+/// The addresses at which the two files are compared, sorted, each once. There are none if the
+/// files differ nowhere.
 pub(crate) fn half_stops(
     alloc: Global,
     half: Half,

@@ -21,7 +21,8 @@ pub struct RuleAlias {
     pub first: RulePlace,
 }
 
-/// The long rules of both files that have the words of a rule of the first file, in the order of their places.
+/// The long rules of both files whose words are those of a rule of the first file, in the order of
+/// their places.
 #[derive(Drop)]
 pub struct RuleAliases {
     pub mine: Vec<RuleAlias>,
@@ -172,7 +173,7 @@ fn aliases_in(
     Ok(aliases)
 }
 
-/// None.
+/// No rules.
 pub(crate) fn no_rule_aliases(alloc: Global) -> RuleAliases
     ensures { (own other : List SymLine) → AreRuleAliasesOf own other result }
 {
@@ -211,7 +212,8 @@ fn first_in(aliases: &[RuleAlias], place: RulePlace) -> Option<RulePlace>
     Some(alias.first)
 }
 
-/// Whether the rules at two places have the same words, as far as their first places show.
+/// Whether the rules at two places are known to have the same words, by the places of those words
+/// in the first file.
 pub(crate) fn have_one_text(
     aliases: &RuleAliases,
     a: Option<RulePlace>,

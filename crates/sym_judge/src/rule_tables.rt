@@ -49,7 +49,7 @@ pub(crate) fn words_of(lines: &[SymLine], place: Option<RulePlace>) -> Option<&[
     Some(rule.tokens.as_slice())
 }
 
-/// No rule.
+/// A table without rules.
 fn no_rules() -> RuleTable
     ensures { (lines : List SymLine) → IsTable lines [] result }
 {
@@ -60,7 +60,7 @@ fn no_rules() -> RuleTable
     }
 }
 
-/// Puts a rule after those of a table.
+/// Adds a rule that comes after those of a table.
 fn put_rule(table: &mut RuleTable, rule: &RuleText, place: RulePlace)
     ensures { (lines : List SymLine) (rules : List RuleText) → words_at lines place ≡ Some rule.now.tokens → IsTable lines rules table.old → IsTable lines (rules ++ rule.now ∷ []) table.new }
 {
@@ -76,7 +76,7 @@ fn put_rule(table: &mut RuleTable, rule: &RuleText, place: RulePlace)
     }
 }
 
-/// Puts the rules of the record at a place after those of a table.
+/// Adds the rules of the record at a place, which come after those of a table.
 fn put_rules(table: &mut RuleTable, rules: &[RuleText], line: usize)
     ensures { (lines : List SymLine) (before : List RuleText) → rules_at lines line ≡ rules.now → IsTable lines before table.old → IsTable lines (before ++ rules.now) table.new }
 {

@@ -1,4 +1,4 @@
--- Cuts at spaces and at the end of a line (cut_word, trim_crs, trim_margin).
+-- Lines that are cut at spaces and at their ends (for `cut_word`, `trim_crs` and `trim_margin`).
 use Rattle.std.proofs.Common.{◌≡◌, ◌≢◌, ℕ, ◌+◌, ◌-◌, ◌<◌, ◌≤◌, ◌&&◌, cond, suc, Bool, true, false, List, [], ◌∷◌, ◌++◌, length, take, drop, get_or, refl, sym, ◌∙◌, ap, arith, append_assoc, append-nil}
 use Rattle.std.specs.List.{list_all}
 use Rattle.std.proofs.Math.Seq.{take-suc}
@@ -33,7 +33,6 @@ pub from_nothing : from 32 [] ≡ []
 unfolding from
 from_nothing = refl
 
--- one more of a front
 pub take_next : (xs : List ℕ) (i : ℕ) → i < length xs → take (i + 1) xs ≡ take i xs ++ get_or xs i 0 ∷ []
 take_next xs i within = let e : i + 1 ≡ suc i = omega arith in ap (λ k. take k xs) e ∙ take-suc xs i 0 within
 
@@ -43,7 +42,7 @@ drop_past xs i past = grind (arith, common_steps)
 take_past : (xs : List ℕ) (i : ℕ) → length xs ≤ i → take i xs ≡ xs
 take_past xs i past = grind (arith, common_steps)
 
--- a search for a space ends at one
+-- The search for a space ends at a space.
 pub word_stop : (bytes : List ℕ) (i : ℕ) → i < length bytes → get_or bytes i 0 ≡ 32 → before 32 bytes ≡ take i bytes ++ before 32 (drop i bytes) → take i bytes ≡ before 32 bytes
 word_stop bytes i within is front =
     sym (front ∙ ap (λ l. take i bytes ++ l) (at_drop_more (before 32) bytes i 0 within ∙ before_halt (get_or bytes i 0) (drop (i + 1) bytes) is) ∙ append-nil (take i bytes))
@@ -52,7 +51,7 @@ pub rest_stop : (bytes : List ℕ) (i : ℕ) → i < length bytes → get_or byt
 rest_stop bytes i within is rest =
     sym (rest ∙ at_drop_more (from 32) bytes i 0 within ∙ from_halt (get_or bytes i 0) (drop (i + 1) bytes) is ∙ sym (at_drop_more (λ l. l) bytes i 0 within))
 
--- and goes on at another byte
+-- The search for a space goes on at another byte.
 pub word_more : (bytes : List ℕ) (i : ℕ) → i < length bytes → get_or bytes i 0 ≢ 32 → before 32 bytes ≡ take i bytes ++ before 32 (drop i bytes) → before 32 bytes ≡ take (i + 1) bytes ++ before 32 (drop (i + 1) bytes)
 word_more bytes i within other front =
     front ∙ ap (λ l. take i bytes ++ l) (at_drop_more (before 32) bytes i 0 within ∙ before_go (get_or bytes i 0) (drop (i + 1) bytes) other)
@@ -73,7 +72,6 @@ all_but : (p : ℕ → Bool) (xs : List ℕ) (b : ℕ) → p b ≡ true → list
 all_but p [] b is = both {b = true} is refl
 all_but p (x ∷ xs) b is = ap (λ t. p x && t) (all_but p xs b is)
 
--- the last byte of a front that is trimmed
 trim_dropped : (p : ℕ → Bool) (xs : List ℕ) (b : ℕ) → p b ≡ true → trim_end p (xs ++ b ∷ []) ≡ trim_end p xs
 unfolding trim_end
 trim_dropped p [] b is = ap (λ t. cond t [] (b ∷ [])) (both {b = true} is refl)
@@ -84,16 +82,15 @@ trim_dropped p (x ∷ xs) b is =
 trim_halt : (p : ℕ → Bool) (xs : List ℕ) (b : ℕ) → p b ≡ false → trim_end p (xs ++ b ∷ []) ≡ xs ++ b ∷ []
 trim_halt p xs b is = trim_kept p (xs ++ b ∷ []) (end_behind p xs b [] ∙ last_one p b ∙ is)
 
--- a front by its last byte
 last_taken : (bytes : List ℕ) (e : ℕ) → 0 < e → e ≤ length bytes → take e bytes ≡ take (e - 1) bytes ++ get_or bytes (e - 1) 0 ∷ []
 last_taken bytes e some within = let same : e ≡ (e - 1) + 1 = omega arith in ap (λ k. take k bytes) same ∙ take_next bytes (e - 1) (omega arith)
 
--- a trimming ends at a byte of another kind
+-- Trimming ends at a byte that is not to be trimmed.
 pub trim_stop : (p : ℕ → Bool) (bytes : List ℕ) (e : ℕ) → 0 < e → e ≤ length bytes → p (get_or bytes (e - 1) 0) ≡ false → trim_end p bytes ≡ trim_end p (take e bytes) → take e bytes ≡ trim_end p bytes
 trim_stop p bytes e some within other front =
     sym (front ∙ ap (trim_end p) (last_taken bytes e some within) ∙ trim_halt p (take (e - 1) bytes) (get_or bytes (e - 1) 0) other ∙ sym (last_taken bytes e some within))
 
--- and goes on at one of the kind
+-- Trimming goes on at a byte that is to be trimmed.
 pub trim_more : (p : ℕ → Bool) (bytes : List ℕ) (e : ℕ) → 0 < e → e ≤ length bytes → p (get_or bytes (e - 1) 0) ≡ true → trim_end p bytes ≡ trim_end p (take e bytes) → trim_end p bytes ≡ trim_end p (take (e - 1) bytes)
 trim_more p bytes e some within is front =
     front ∙ ap (trim_end p) (last_taken bytes e some within) ∙ trim_dropped p (take (e - 1) bytes) (get_or bytes (e - 1) 0) is

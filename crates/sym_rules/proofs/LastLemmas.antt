@@ -1,4 +1,4 @@
--- The last member of a list, as the code finds it, and the names that the code compares with; for `end_in_cr`, `ends_with`, `is_register`, `is_symbol`, `last_ends_in_cr`.
+-- The last member of a list, and known names, as the code looks for them.
 use Rattle.std.proofs.Common.{◌≡◌, ℕ, ◌+◌, ◌-◌, ◌<◌, ◌≤◌, ◌==◌, ◌&&◌, ◌||◌, suc, Bool, true, false, not, List, [], ◌∷◌, length, drop, get_or, slice_get, Some, None, refl, sym, ◌∙◌, ap, arith}
 use Rattle.std.specs.List.{list_any}
 use Rattle.std.specs.Option.{option_map_or}
@@ -12,7 +12,7 @@ use Rattle.sym_rules.specs.RuleReading.{begins_symbol, is_symbol}
 next_got : {A : Type 0} (x y : A) (ys : List A) → slice_get (x ∷ y ∷ ys) (length (x ∷ y ∷ ys) - 1) ≡ slice_get (y ∷ ys) (length (y ∷ ys) - 1)
 next_got x y ys = let e : length (x ∷ y ∷ ys) - 1 ≡ suc (length (y ∷ ys) - 1) = omega arith in ap (slice_get (x ∷ y ∷ ys)) e
 
--- the last member by its place
+-- The last member by its place.
 pub last_got : {A : Type 0} (p : A → Bool) (xs : List A) → option_map_or p (slice_get xs (length xs - 1)) false ≡ last_is p xs
 unfolding last_is
 last_got p [] = refl
@@ -29,7 +29,7 @@ first_is : (xs : List ℕ) (b : ℕ) → Some b ≡ slice_get xs 0 → get_or xs
 first_is [] b is = cc
 first_is (x ∷ xs) b is = cc
 
--- a name of a rule by its first byte
+-- The test of a name in a rule by its first byte.
 pub symbol_begins : (xs : List ℕ) (b : ℕ) (r : Bool) → Some b ≡ slice_get xs 0 → r ≡ last_is (λ c. c == 58) xs → (begins_symbol b && not r) ≡ is_symbol xs
 unfolding is_symbol
 symbol_begins xs b r is ends = sym (ap (λ c. begins_symbol c && not (last_is (λ d. d == 58) xs)) (first_is xs b is) ∙ ap (λ t. begins_symbol b && not t) (sym ends))
@@ -46,7 +46,7 @@ unfolding is_symbol
 symbol_nothing [] is = refl
 symbol_nothing (x ∷ xs) is = cc
 
--- a search for a register by its name
+-- The search for a register by its name.
 register_here : (name : List ℕ) (i : ℕ) → i < 16 → list_any (bytes_eq name) (drop i register_names) ≡ (bytes_eq name (register_name i) || list_any (bytes_eq name) (drop (i + 1) register_names))
 unfolding register_name register_names
 register_here name i within = at_drop_more (list_any (bytes_eq name)) register_names i [] within

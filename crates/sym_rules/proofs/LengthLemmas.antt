@@ -1,4 +1,4 @@
--- How long frame rules are; for `rule_length`, `rules_length`, `tokens_length`.
+-- The length of frame rules (for `rule_length`, `rules_length` and `tokens_length`).
 use Rattle.std.proofs.Common.{◌≡◌, ℕ, ◌+◌, ◌-◌, ◌^◌, ◌<◌, ◌≤◌, min, List, [], ◌∷◌, ◌++◌, length, take, get_or, refl, ◌∙◌, ap, arith, length-append}
 use Rattle.std.specs.List.{flat_map}
 use Rattle.std.proofs.lemmas.List.{take_all}
@@ -13,7 +13,7 @@ rule_spelled : (r : RuleText) → parted (rule_words r) ≡ spelled_rule r
 unfolding spelled_rule
 rule_spelled r = ap (λ l. 32 ∷ (target_word r.target ++ l)) (flat_map-map (λ f. 32 ∷ f) token_word r.tokens)
 
--- the words of rules with one space in front of each
+-- The words of rules, with one space before each, are the spelling of the rules.
 pub rules_spelled : (rules : List RuleText) → parted (flat_map rule_words rules) ≡ spelled_rules rules
 unfolding spelled_rules
 rules_spelled [] = refl
@@ -21,7 +21,7 @@ rules_spelled (r ∷ rules) =
     flat_map-append (λ f. 32 ∷ f) (rule_words r) (flat_map rule_words rules) ∙ ap (λ l. l ++ parted (flat_map rule_words rules)) (rule_spelled r)
     ∙ ap (λ l. spelled_rule r ++ l) (rules_spelled rules)
 
--- one more piece, where the greatest number stands for more
+-- The length with one more piece, at most 2^64 - 1.
 pub pieces_length : {X : Type 0} (f : X → List ℕ) (xs : List X) (i : ℕ) (d : X) (total piece : ℕ) → i < length xs → d ≡ get_or xs i d → total ≡ min (length (flat_map f (take i xs))) (2 ^ 64 - 1) → piece ≡ min (length (f d)) (2 ^ 64 - 1) → min (total + piece) (2 ^ 64 - 1) ≡ min (length (flat_map f (take (i + 1) xs))) (2 ^ 64 - 1)
 pieces_length f xs i d total piece within is first second =
     let more : length (flat_map f (take (i + 1) xs)) ≡ length (flat_map f (take i xs)) + length (f d) = ap length (pieces_more f xs i d within is) ∙ length-append (flat_map f (take i xs)) (f d) in

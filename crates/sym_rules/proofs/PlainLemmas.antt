@@ -1,4 +1,4 @@
--- Frame rules without names of their own can be spelled, and are short; for sym_records.
+-- Frame rules without `Other` names can be spelled, and are short (for `sym_records`).
 use Rattle.std.proofs.Common.{◌≡◌, ◌^◌, ◌<◌, ◌≤◌, suc, true, false, pos, negsuc, List, [], ◌∷◌, length, nat_lt, refl, arith, length-append, ◌*◌}
 use Rattle.std.specs.List.{list_all, flat_map}
 use Rattle.std.proofs.lemmas.Bool.{lt-ltb, ltb-true, leb-true}

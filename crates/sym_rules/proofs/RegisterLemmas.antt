@@ -1,4 +1,4 @@
--- The numbers of registers by their names: for register_named and register_of.
+-- The numbers of registers, given their names (for `register_named` and `register_of`).
 use Rattle.std.proofs.Common.{◌≡◌, ◌≢◌, ℕ, List, ◌∷◌, [], length, Option, None, refl, sym, ◌∙◌, arith}
 use Rattle.std.specs.Str.{bytes_eq}
 use Rattle.std.proofs.lemmas.Iterator.Adapters.{position_from-zero}

@@ -1,4 +1,4 @@
--- The words of targets and tokens are read as these; for the lemmas of PlainLemmas, RuleListLemmas.
+-- Targets and tokens are read from the words that spell them.
 use Rattle.std.proofs.Common.{◌≡◌, ℕ, ◌+◌, ◌-◌, ◌^◌, ◌<◌, ◌≤◌, ◌==◌, ◌&&◌, ◌||◌, cond, suc, Bool, true, false, not, ℤ, pos, negsuc, neg_ℤ, List, [], ◌∷◌, ◌++◌, length, take, drop, get_or, codes, Some, None, ok_or, Ok, Err, nat_lt, nat_le, refl, ◌∙◌, ap, arith, length-append}
 use Rattle.std.specs.List.{list_all, list_any, prefix_len}
 use Rattle.std.specs.Option.{option_or, option_map, option_map_or}
@@ -27,7 +27,7 @@ use Rattle.sym_rules.specs.declared.rules.Token.{Token}
 use Rattle.sym_rules.specs.declared.rules.Token.TheVariants as token
 use Rattle.sym_rules.specs.declared.text_fault.TextKind.TheVariants.{Rule}
 
--- what the name of a register is
+-- Facts about the name of a register.
 pub record RegisterParts (number : ℕ) : Type 0 where
   pub symbol : is_symbol (register_name number) ≡ true
   pub within : list_all is_within_field (register_name number) ≡ true
@@ -113,7 +113,6 @@ or_false false b is = (refl, is)
 one_more : (n : ℕ) → 1 + n ≡ suc n
 one_more n = omega arith
 
--- a name that is none of a list is not found in it
 none_found : (p : List ℕ → Bool) (known : List (List ℕ)) → list_any p known ≡ false → prefix_len (λ x. not (p x)) known ≡ length known
 none_found p [] none = refl
 none_found p (x ∷ known) none =
@@ -130,7 +129,7 @@ no_register name none =
     let same : n ≡ length register_names = none_found (bytes_eq name) register_names none in
     ap (λ k. cond (nat_lt k (length register_names)) (Some k) None) same
 
--- what a name without a variant of its own is
+-- Facts about a name without a variant of its own.
 pub record OtherParts (known : List (List ℕ)) (name : List ℕ) : Type 0 where
   pub within : list_all is_within_field name ≡ true
   pub symbol : is_symbol name ≡ true
@@ -158,7 +157,7 @@ other_token name none =
     ∙ ap (λ t. cond t token.Undef (option_map_or token.Reg (register_of name) (token.Other name))) second.0
     ∙ ap (λ o. option_map_or token.Reg o (token.Other name)) (no_register name second.1)
 
--- what the name of a target is
+-- Facts about the name of a target.
 pub record TargetParts (t : Target) : Type 0 where
   pub within : list_all is_within_field (target_name t) ≡ true
   pub symbol : is_symbol (target_name t) ≡ true
@@ -207,7 +206,6 @@ target_is_word t is =
     let some : 0 < length (target_word t) = omega (arith, length-append (target_name t) (58 ∷ [])) in
     word_of (target_word t) some (all_behind is_within_field (target_name t) (58 ∷ []) parts.within refl)
 
--- a decimal digit is one of the ten
 digit_byte : (p : ℕ → Bool) → ((c : ℕ) → 48 ≤ c → c ≤ 57 → p c ≡ true) → (ds : List ℕ) → AllDigits 10 ds → list_all p ds ≡ true
 digit_byte p one [] all = refl
 digit_byte p one (d ∷ ds) all = let range = digit_from_value d all.0 in both (one d range.0 range.1) (digit_byte p one ds all.1)
@@ -246,7 +244,7 @@ no_margin c is = let low = ten_low c is in grind (arith, nat_tests)
 minus_not : (c : ℕ) → 48 ≤ c → (c == 45) ≡ false
 minus_not c low = grind (arith, nat_tests)
 
--- what the digits of a number are
+-- Facts about the digits of a number.
 pub record DecimalParts (n : ℕ) (ds : List ℕ) : Type 0 where
   pub some : 0 < length ds
   pub few : length ds ≤ 19
@@ -275,7 +273,7 @@ decimal_parts n small =
       value = numeral.1;
     }
 
--- what the word of a token is
+-- Facts about the word of a token.
 pub record TokenParts (t : Token) : Type 0 where
   pub reads : token_at (token_word t) ≡ Ok t
   pub is : is_word (token_word t) ≡ true
@@ -352,7 +350,7 @@ number_parts (negsuc n) fits =
       ends = λ _. minus_ends ds parts.some (last_none is_margin is_ten no_margin ds parts.ten);
     }
 
--- a byte of a field that is no CR is no margin
+-- A byte of a field that is not CR is neither a space nor CR.
 field_margin : (b : ℕ) → is_within_field b ≡ true → is_cr b ≡ false → is_margin b ≡ false
 field_margin b within is = ap (λ t. t || is_cr b) (not_true (and_true {a = not (b == 32)} within).0) ∙ is
 

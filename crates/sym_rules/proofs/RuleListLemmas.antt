@@ -1,4 +1,4 @@
--- Frame rules are read from their words; for sym_records.
+-- Frame rules are read from the words that spell them (for `sym_records`).
 use Rattle.std.proofs.Common.{◌≡◌, ℕ, ◌<◌, ◌==◌, ◌||◌, Bool, true, false, List, [], ◌∷◌, ◌++◌, length, map, Ok, nat_lt, refl, sym, ◌∙◌, ap, arith, append-nil}
 use Rattle.std.specs.List.{list_all, flat_map}
 use Rattle.std.proofs.lemmas.List.Folds.{list_all-append}
@@ -14,7 +14,7 @@ use Rattle.sym_rules.specs.RuleValidity.{is_target, is_token, is_rule, ends_in_c
 use Rattle.sym_rules.specs.declared.rules.Token.{Token}
 use Rattle.sym_rules.specs.declared.rules.RuleText.{RuleText}
 
--- what a rule is
+-- Facts about the words of a rule.
 pub record RuleParts (r : RuleText) : Type 0 where
   pub target : is_target r.target ≡ true
   pub some : 0 < length r.tokens
@@ -57,7 +57,7 @@ groups_nothing : groups [] ≡ []
 unfolding groups
 groups_nothing = refl
 
--- the words of rules are grouped by rule
+-- The words of rules are grouped by rule.
 groups_are : (rules : List RuleText) → list_all is_rule rules ≡ true → groups (flat_map rule_words rules) ≡ map rule_words rules
 groups_are [] all = groups_nothing
 groups_are (r ∷ rules) all =
@@ -72,7 +72,7 @@ rules_words (r ∷ rules) all =
     list_all-append is_word (rule_words r) (flat_map rule_words rules)
     ∙ both (both (target_is_word r.target parts.target) (tokens_words r.tokens parts.tokens)) (rules_words rules (and_true all).1)
 
--- the last word of a rule is its last token's
+-- The last word of a rule is that of its last token.
 tokens_end : (ts : List Token) → list_all is_token ts ≡ true → last_is ends_in_cr ts ≡ false → last_is (last_is is_margin) (map token_word ts) ≡ false
 tokens_end [] all ends = last_nothing (last_is is_margin)
 tokens_end (t ∷ []) all ends =
@@ -110,7 +110,7 @@ parted_end (f ∷ g ∷ fs) all ends =
     end_behind is_margin (32 ∷ f) 32 (g ++ parted fs)
     ∙ parted_end (g ∷ fs) (and_true {a = is_word f} {b = list_all is_word (g ∷ fs)} all).1 (sym (last_later (last_is is_margin) f g fs) ∙ ends)
 
--- what the rules of a record are
+-- Facts about the words of a record's rules.
 pub record RulesParts (rules : List RuleText) : Type 0 where
   pub some : 0 < length rules
   pub all : list_all is_rule rules ≡ true
@@ -132,7 +132,7 @@ rules_parts rules good =
       ends = parted_end (flat_map rule_words rules) (rules_words rules all) (rules_end rules all (not_true (and_true good).1));
     }
 
--- rules are read from their words
+-- Rules are read from their words.
 pub rules_read : (rules : List RuleText) → are_rules rules ≡ true → rules_at (parted (flat_map rule_words rules)) ≡ Ok rules
 unfolding rules_at
 rules_read [] good = absurd (let parts = rules_parts [] good in let some = parts.some in omega arith)
@@ -143,7 +143,7 @@ rules_read (r ∷ rules) good =
 margin_cr : (b : ℕ) → is_margin b ≡ false → is_cr b ≡ false
 margin_cr b is = elim_bool (b == 32) (λ t. (t || (b == 13)) ≡ false → (b == 13) ≡ false) (λ _ h. cc) (λ _ h. h) is
 
--- what ends in no margin ends in no CR
+-- Bytes that do not end in a space or CR do not end in CR.
 pub cr_none : (xs : List ℕ) → last_is is_margin xs ≡ false → last_is is_cr xs ≡ false
 unfolding last_is
 cr_none [] ends = refl

@@ -1,4 +1,4 @@
--- What is read as frame rules is spelled by words; for sym_records.
+-- Frame rules that were read can be spelled (for `sym_records`).
 use Rattle.std.proofs.Common.{◌≡◌, ℕ, ◌-◌, ◌+◌, ◌<◌, ◌≤◌, ◌==◌, ◌&&◌, ◌||◌, cond, zero, suc, Bool, true, false, not, ℤ, pos, neg_ℤ, List, [], ◌∷◌, length, take, drop, get_or, codes, Option, Some, None, ok_or, Result, Ok, Err, nat_lt, refl, sym, ◌∙◌, ap, arith, subst, ⊎_elim}
 use Rattle.std.specs.List.{list_all, list_any, prefix_len}
 use Rattle.std.specs.Option.{option_or, option_map, option_map_or}
@@ -94,7 +94,7 @@ target_sound w t within is =
     (λ h. cc)
     (chosen (ends_in_colon w && is_symbol (but_last w)) (gives (named_target (but_last w))) refuses (Ok t) is)
 
--- a token that was read, and its end
+-- A token that was read, and the last byte of its word.
 pub record ReadToken (w : List ℕ) (t : Token) : Type 0 where
   pub is : is_token t ≡ true
   pub ends : last_is is_cr w ≡ false → ends_in_cr t ≡ false
@@ -116,7 +116,7 @@ token_named name within symbol =
     (λ _. record { is = refl; ends = λ _. refl })
     (λ second. register_read name (register_of name) refl within symbol first second))
 
--- a sign that was read, or what is read otherwise
+-- If an operator was read, it is a token; otherwise the word is read in another way.
 abbrev IfRead : List ℕ → Option Token → Type 0
 IfRead w None = Unit {0}
 IfRead w (Some t) = ReadToken w t
@@ -136,7 +136,7 @@ sign_read w =
     (sign_step w (bytes_eq w (codes "@")) token.Align _ refl refl
     (sign_step w (bytes_eq w (codes "^")) token.Fetch None refl refl tt))))))
 
--- an integer that was read
+-- If an integer was read, it is in the range of i64.
 abbrev IfFits : Option ℤ → Type 0
 IfFits None = Unit {0}
 IfFits (Some z) = fits_i64 z ≡ true
@@ -174,11 +174,11 @@ token_sound w t within is =
 abbrev within : List ℕ → Bool
 within w = list_all is_within_field w
 
--- a word that ends in CR, or is none
+-- Whether a word ends in CR or is empty.
 abbrev bad_end : List ℕ → Bool
 bad_end w = last_is is_cr w || not (within w)
 
--- a rule that was read
+-- A rule that was read.
 pub record ReadRule (group : List (List ℕ)) (r : RuleText) : Type 0 where
   pub is : is_rule r ≡ true
   pub ends : last_is bad_end group ≡ false → last_is ends_in_cr r.tokens ≡ false
@@ -222,7 +222,7 @@ rule_sound (word ∷ later) r is all =
       ends = λ ends. each_last token_at bad_end ends_in_cr token_end later third.0 reads (sym (later_end word later given.0) ∙ ends);
     })
 
--- no bad word is the last where all are within fields and the last does not end in CR
+-- The last word does not end in CR and is not empty.
 good_ends : (ws : List (List ℕ)) → list_all within ws ≡ true → last_is (last_is is_cr) ws ≡ false → last_is bad_end ws ≡ false
 unfolding last_is
 good_ends [] all ends = refl
@@ -274,7 +274,7 @@ nothing_read rules is =
     let refused : (some_of {A = List (List ℕ)} [] >>= each rule_at) ≡ gives rules = sym (ap (λ gs. some_of gs >>= each rule_at) none) ∙ is in
     cc
 
--- rules that were read from bytes of one line that end in no space and no CR
+-- Rules that were read from bytes without LF that do not end in a space or CR.
 pub rules_sound : (bytes : List ℕ) (rules : List RuleText) → list_all is_within_line bytes ≡ true → last_is is_margin bytes ≡ false → rules_at bytes ≡ Ok rules → are_rules rules ≡ true
 unfolding rules_at
 rules_sound [] rules line ends is = nothing_read rules is

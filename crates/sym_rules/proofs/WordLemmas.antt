@@ -1,4 +1,4 @@
--- The words of a line, and the groups of words; for the lemmas of LengthLemmas, RuleLemmas, RuleListLemmas, RuleSoundLemmas.
+-- The words of a line, and the groups of words.
 use Rattle.std.proofs.Common.{◌≡◌, ℕ, ◌==◌, ◌||◌, cond, Bool, true, false, not, List, [], ◌∷◌, ◌++◌, Result, Ok, refl, sym, ◌∙◌, ap, map}
 use Rattle.std.specs.List.{list_all, flat_map}
 use Rattle.sym_rules.proofs.BoolLemmas.{and_true, both, not_true, not_false, elim_bool, bind_ok}
@@ -11,7 +11,7 @@ use Rattle.sym_rules.specs.declared.text_fault.TextKind.{TextKind}
 no_space : (x : ℕ) → is_within_field x ≡ true → (x == 32) ≡ false
 no_space x is = not_true (and_true is).0
 
--- bytes with one space in front of each of them
+-- Words with one space before each.
 abbrev pub parted : List (List ℕ) → List ℕ
 parted fs = flat_map (λ f. 32 ∷ f) fs
 
@@ -19,7 +19,7 @@ ends_parted : (fs : List (List ℕ)) → ends_word (parted fs) ≡ true
 ends_parted [] = refl
 ends_parted (f ∷ fs) = refl
 
--- a word that is followed by others
+-- A word that is followed by others.
 words_first : (x : ℕ) (w : List ℕ) (fs : List (List ℕ)) → list_all is_within_field (x ∷ w) ≡ true → words (parted fs) ≡ fs → words ((x ∷ w) ++ parted fs) ≡ (x ∷ w) ∷ fs
 unfolding words
 words_first x [] fs all rest =
@@ -32,7 +32,7 @@ words_first x (y ∷ w) fs all rest =
     ∙ ap (λ t. cond t ((x ∷ []) ∷ words ((y ∷ w) ++ parted fs)) (onto x (words ((y ∷ w) ++ parted fs)))) (no_space y (and_true later.1).0)
     ∙ ap (onto x) (words_first y w fs later.1 rest)
 
--- a word of one byte or more, without spaces and LFs
+-- A word of at least one byte, without spaces and LFs.
 abbrev pub is_word : List ℕ → Bool
 is_word [] = false
 is_word (x ∷ w) = list_all is_within_field (x ∷ w)
@@ -49,12 +49,12 @@ words_nothing : words [] ≡ []
 unfolding words
 words_nothing = refl
 
--- words with one space in front of each are read as these words
+-- Words with one space before each are read as these words.
 pub words_are : (fs : List (List ℕ)) → list_all is_word fs ≡ true → words (parted fs) ≡ fs
 words_are [] all = words_nothing
 words_are (f ∷ fs) all = words_space (f ++ parted fs) ∙ words_behind f fs (and_true all).0 (words_are fs (and_true all).1)
 
--- the words of bytes that end in no space and no CR
+-- The words of bytes that do not end in a space or CR.
 pub record WordsOf (bytes : List ℕ) : Type 0 where
   pub first : ℕ
   pub word : List ℕ
@@ -82,7 +82,6 @@ words_one x line margin =
       ends = parts.1;
     }
 
--- one byte more, in front of the first word
 onto_first : (x c : ℕ) (w : List ℕ) (ws : List (List ℕ)) → last_is (last_is is_cr) ((x ∷ c ∷ w) ∷ ws) ≡ last_is (last_is is_cr) ((c ∷ w) ∷ ws)
 unfolding last_is
 onto_first x c w [] = refl
@@ -127,7 +126,7 @@ words_sound x (y ∷ ys) line ends =
     let parts = and_true {a = is_within_line x} {b = list_all is_within_line (y ∷ ys)} line in
     words_more x y ys parts.0 (words_sound y ys parts.1 (sym (last_later is_margin x y ys) ∙ ends))
 
--- a group ends where another begins
+-- The next word begins a rule, or there is none.
 abbrev pub Begun : List (List ℕ) → Type 0
 Begun [] = Unit {0}
 Begun (word ∷ later) = ends_in_colon word ≡ true
@@ -143,7 +142,7 @@ groups_first word (next ∷ given) rest all begun =
     ap (λ t. cond t ((word ∷ []) ∷ groups (next ∷ (given ++ rest))) (onto word (groups (next ∷ (given ++ rest))))) (not_true (and_true all).0)
     ∙ ap (onto word) (groups_first next given rest (and_true all).1 begun)
 
--- the groups of words have all of them, and the last word at their end
+-- The groups together have all words, in order.
 pub record GroupsOf (ws : List (List ℕ)) : Type 0 where
   pub first : List ℕ
   pub group : List (List ℕ)
@@ -187,7 +186,7 @@ pub groups_sound : (word : List ℕ) (ws : List (List ℕ)) → GroupsOf (word �
 groups_sound word [] = group_one word
 groups_sound word (next ∷ ws) = group_more word next ws (groups_sound next ws)
 
--- the members of a reading
+-- Facts about the results of reading each member.
 pub record EachOf {A B : Type 0} (f : A → Result B TextKind) (x : A) (xs : List A) (ys : List B) : Type 0 where
   pub head : B
   pub tail : List B
@@ -212,14 +211,14 @@ each_nothing : {A B : Type 0} (f : A → Result B TextKind) (ys : List B) → ea
 unfolding each
 each_nothing f ys is = ok_same [] ys is
 
--- what holds of all that is read
+-- What holds of each result.
 pub each_all : {A B : Type 0} (f : A → Result B TextKind) (p : A → Bool) (q : B → Bool) → ((x : A) (y : B) → f x ≡ Ok y → p x ≡ true → q y ≡ true) → (xs : List A) (ys : List B) → each f xs ≡ Ok ys → list_all p xs ≡ true → list_all q ys ≡ true
 each_all f p q one [] ys is all = ap (list_all q) (each_nothing f ys is)
 each_all f p q one (x ∷ xs) ys is all =
     let parts = each_cons f x xs ys is in
     ap (list_all q) parts.is ∙ both (one x parts.head parts.reads (and_true all).0) (each_all f p q one xs parts.tail parts.later (and_true all).1)
 
--- and of the last
+-- What holds of the last result.
 pub each_last : {A B : Type 0} (f : A → Result B TextKind) (p : A → Bool) (q : B → Bool) → ((x : A) (y : B) → f x ≡ Ok y → p x ≡ false → q y ≡ false) → (xs : List A) (ys : List B) → each f xs ≡ Ok ys → last_is p xs ≡ false → last_is q ys ≡ false
 each_last f p q one [] ys is ends = ap (last_is q) (each_nothing f ys is) ∙ last_nothing q
 each_last f p q one (x ∷ []) ys is ends =
@@ -232,7 +231,7 @@ each_last f p q one (x ∷ w ∷ xs) ys is ends =
     let rest = each_last f p q one (w ∷ xs) parts.tail parts.later (sym (last_later p x w xs) ∙ ends) in
     ap (last_is q) (parts.is ∙ ap (λ l. parts.head ∷ l) more.is) ∙ last_later q parts.head more.head more.tail ∙ sym (ap (last_is q) more.is) ∙ rest
 
--- what is read from spellings
+-- The members are read from their spellings.
 pub each_are : {A B : Type 0} (f : A → Result B TextKind) (spelled : B → A) (good : B → Bool) → ((y : B) → good y ≡ true → f (spelled y) ≡ Ok y) → (ys : List B) → list_all good ys ≡ true → each f (map spelled ys) ≡ Ok ys
 unfolding each
 each_are f spelled good one [] all = refl

@@ -1,4 +1,4 @@
--- The words by which faults of a symbol file are printed.
+-- The words that are printed for the faults of a symbol file.
 use Rattle.std.specs.Prelude.{ℕ, List, codes}
 use Rattle.sym_rules.specs.declared.text_fault.TextKind.{TextKind}
 use Rattle.sym_rules.specs.declared.text_fault.TextKind.TheVariants.{Empty, Unknown, Fields, Hex, Decimal, Rule, Misplaced, LongLine, Windows, NoModule}

@@ -1,5 +1,6 @@
--- The reading of frame rules (Breakpad's symbol_files.md). The rest of the line is split into words at spaces. A word that ends with `:` begins a
--- rule. Any fault inside the rules has the kind `Rule`.
+-- The reading of frame rules (Breakpad's symbol_files.md). The rest of a line after its numbers is
+-- split into words at spaces. A word that ends with `:` begins a rule. Any fault inside the rules
+-- has the kind `Rule`.
 use Rattle.std.specs.Prelude.{ℕ, ◌-◌, ◌==◌, ◌||◌, ◌&&◌, Bool, true, false, not, nat_lt, nat_le, if◌then◌else◌, ℤ, pos, neg_ℤ, List, [], ◌∷◌, length, take, drop, slice_index, codes, Option, Some, None, ok_or, Result, Ok, Err}
 use Rattle.std.specs.Option.{option_or, option_map, option_map_or}
 use Rattle.std.specs.List.{list_all, position}
@@ -23,7 +24,7 @@ abbrev pub ends_word : List ℕ → Bool
 ends_word [] = true
 ends_word (b ∷ bytes) = b == 32
 
--- the words of bytes: a byte before a space or before the end is the last byte of a word
+-- the words of bytes: a word ends before a space or at the end of the bytes
 unfoldable pub words : List ℕ → List (List ℕ)
 words [] = []
 words (b ∷ bytes) =
@@ -40,7 +41,7 @@ abbrev pub begins_rule : List (List ℕ) → Bool
 begins_rule [] = false
 begins_rule (word ∷ later) = ends_in_colon word
 
--- words in groups: each word that ends with `:` begins a group
+-- the words of each rule: each word that ends with `:` begins a rule
 unfoldable pub groups : List (List ℕ) → List (List (List ℕ))
 groups [] = []
 groups (word ∷ later) = if begins_rule later then (word ∷ []) ∷ groups later else onto word (groups later)
@@ -116,7 +117,7 @@ token_at word =
     if is_symbol word then Ok (named_token word)
     else ok_or (option_or (option_map token.Number (integer_of word)) (sign_of word)) Rule
 
--- f of each member, in order, or the first fault
+-- the results of `f` for all members, in order, or the first fault
 unfoldable pub each : {A B : Type 0} → (A → Result B TextKind) → List A → Result (List B) TextKind
 each f [] = Ok []
 each f (x ∷ xs) = do
@@ -124,7 +125,7 @@ each f (x ∷ xs) = do
   ys ← each f xs
   Ok (y ∷ ys)
 
--- a list with at least one member; the empty list is a fault
+-- the list, or a fault if it is empty
 abbrev pub some_of : {A : Type 0} → List A → Result (List A) TextKind
 some_of [] = Err Rule
 some_of (x ∷ xs) = Ok (x ∷ xs)
@@ -138,7 +139,7 @@ rule_at (word ∷ later) = do
   tokens ← each token_at given
   Ok (record { target = target; tokens = tokens })
 
--- the rules of a line: at least one
+-- the rules of a line, or a fault if there is none
 unfoldable pub rules_at : List ℕ → Result (List RuleText) TextKind
 rules_at bytes = do
   given ← some_of (groups (words bytes))

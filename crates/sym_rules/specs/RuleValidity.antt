@@ -1,4 +1,4 @@
--- Which frame rules a text can spell.
+-- Which frame rules a line can spell.
 use Rattle.std.specs.Prelude.{ℕ, ◌==◌, ◌&&◌, Bool, true, false, not, nat_lt, nat_le, List, ◌∷◌, length, codes}
 use Rattle.std.specs.List.{list_all, list_any}
 use Rattle.std.specs.Str.{bytes_eq}
@@ -12,15 +12,15 @@ use Rattle.sym_rules.specs.declared.rules.Token.{Token}
 use Rattle.sym_rules.specs.declared.rules.Token.TheVariants as token
 use Rattle.sym_rules.specs.declared.rules.RuleText.{RuleText}
 
--- a name in a rule that is none of the known names
+-- a name in a rule that is none of the `known` names
 unfoldable pub is_other : List (List ℕ) → List ℕ → Bool
 is_other known name = list_all is_within_field name && is_symbol name && not (list_any (bytes_eq name) known)
 
--- the names for which a target has a variant
+-- the names of targets that are not stored as `Other`
 abbrev pub target_names : List (List ℕ)
 target_names = codes ".cfa" ∷ codes ".ra" ∷ register_names
 
--- the names for which a token has a variant
+-- the names of tokens that are not stored as `Other`
 abbrev pub token_names : List (List ℕ)
 token_names = codes ".cfa" ∷ codes ".undef" ∷ register_names
 
@@ -65,11 +65,12 @@ ends_in_cr token.Rem = false
 ends_in_cr token.Align = false
 ends_in_cr token.Fetch = false
 
--- the last token of the last rule is a name with CR as its last byte
+-- whether the last token of the last rule is a name with CR as its last byte
 unfoldable pub end_in_cr : List RuleText → Bool
 end_in_cr rules = last_is (λ rule. last_is ends_in_cr rule.tokens) rules
 
--- the rules of a record: at least one rule, and no CR at the end of the line
+-- whether a record can have these rules: there is at least one, words can spell each, and the line
+-- does not end in CR
 unfoldable pub are_rules : List RuleText → Bool
 are_rules rules = nat_lt 0 (length rules) && list_all is_rule rules && not (end_in_cr rules)
 
@@ -95,7 +96,7 @@ is_plain_token token.Rem = true
 is_plain_token token.Align = true
 is_plain_token token.Fetch = true
 
--- a rule with such a target and one to four such tokens
+-- a rule whose target is not `Other` and that has one to four tokens, none of which is `Other`
 unfoldable pub is_plain_rule : RuleText → Bool
 is_plain_rule rule =
     is_plain_target rule.target && nat_lt 0 (length rule.tokens) && nat_le (length rule.tokens) 4 && list_all is_plain_token rule.tokens

@@ -1,4 +1,5 @@
--- The words of frame rules (Breakpad's symbol_files.md): the name of a target with `:` after it, then the words of a postfix expression.
+-- The words of a frame rule (Breakpad's symbol_files.md): the name of the target with `:` after it,
+-- and then the words of a postfix expression.
 use Rattle.std.specs.Prelude.{ℕ, List, [], ◌∷◌, ◌++◌, map, codes}
 use Rattle.std.specs.List.{flat_map}
 use Rattle.std.specs.Fmt.{signed_decimal}

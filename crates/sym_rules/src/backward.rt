@@ -1,5 +1,6 @@
-//! Text that is written backward: each call writes bytes that end just before `end`, and returns where they start. So each digit is written directly
-//! to its final place, and a line needs no second buffer.
+//! Text that is written backward: each call writes bytes that end just before `end`, and returns
+//! where they start. So each digit is written directly to its place, and a line needs no second
+//! buffer.
 ghost use Rattle.std.specs.Prelude.{◌≡◌, ◌+◌, ◌<◌, ◌≤◌, [], ◌∷◌, ◌++◌, false, length, drop};
 ghost use Rattle.std.specs.Fmt.{decimal, signed_decimal, digits};
 
@@ -37,7 +38,7 @@ pub fn write_last(byte: u8, line: &mut [u8]) -> usize
     start
 }
 
-/// Writes a byte.
+/// Writes a byte before `end`.
 #[inline]
 #[tactic(auto, using(crate::proofs::BackwardLemmas::byte_before))]
 pub fn write_byte(byte: u8, line: &mut [u8], end: usize) -> usize
@@ -51,7 +52,7 @@ pub fn write_byte(byte: u8, line: &mut [u8], end: usize) -> usize
     start
 }
 
-/// Writes bytes.
+/// Writes bytes before `end`.
 #[inline]
 #[tactic(auto, using(crate::proofs::BackwardLemmas::bytes_before))]
 pub fn write_bytes(bytes: &[u8], line: &mut [u8], end: usize) -> usize

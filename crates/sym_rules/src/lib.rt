@@ -1,10 +1,12 @@
 //! The rules of frame records in a Breakpad symbol file: their words, their spelling and their reading.
 //!
-//! A rule says how to find a register of the caller. It has a target, whose name is followed by `:`, and the words of a postfix expression
-//! (Breakpad's symbol_files.md). `are_rules` tests whether a line can carry rules, and `rules_length` gives their length in bytes. There are two ways
-//! to spell. `put_rules` and the calls with it hand rules that are in memory to a sink, forward, through a buffer, and allocate no memory. The
-//! `write_` calls write numbers and names into a line that has room for them, backward from its end. `cut_word` and the calls with it cut a line into
-//! its fields.
+//! A rule says how to find a register of the caller. It has a target, whose name is followed by
+//! `:`, and the words of a postfix expression (Breakpad's symbol_files.md). `are_rules` tests
+//! whether a line can carry rules, and `rules_length` gives their length in bytes. There are two
+//! ways to spell. `put_rules` and the other `put` calls hand rules to a sink, through a buffer, and
+//! allocate no memory. The `write_` calls write numbers and names into a line that has room for
+//! them, backward from its end. `cut_word`, `skip_spaces` and the `trim_` calls cut a line into its
+//! fields.
 #![tactic(auto)]
 
 // The rules, and the faults of a text with rules.

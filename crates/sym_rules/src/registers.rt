@@ -6,7 +6,8 @@ ghost use Rattle.sym_rules.specs.internal.Registers.{register_in};
 
 use crate::backward::write_bytes;
 
-/// What is made of the name of a register; a number above 15 has no name.
+/// Continues with the name of a register, or with `$other` for a number above 15, which has no
+/// name.
 macro_rules! with_name {
     ($number:expr, $name:ident => $then:expr, $other:expr) => {
         match $number {

@@ -9,7 +9,8 @@ use sym_edges::{ByteRun, ListOf, OutOfMemory};
 /// The bytes of a field or a name in a text.
 pub type ByteText = ByteRun;
 
-/// A name that has no variant of its own, which contracts see as its bytes. It is stored as one pointer, so that tokens stay small.
+/// A name that has no variant of its own; contracts see its bytes. It is stored as one pointer, so
+/// that tokens stay small.
 #[derive(Debug, Drop)]
 pub struct RuleName {
     text: Box<ByteText>,
@@ -39,7 +40,7 @@ impl RuleName {
     }
 }
 
-/// What a frame rule gives a value for.
+/// The register or other name for which a frame rule gives a value.
 #[derive(Debug, Drop)]
 pub enum Target {
     /// `.cfa`, the canonical frame address (DWARF 5, 6.4.1).
@@ -81,13 +82,13 @@ pub enum Token {
     Fetch,
 }
 
-/// A postfix expression, which contracts see as the list of its words.
+/// A postfix expression; contracts see the list of its words.
 #[derive(Debug, Drop)]
 pub struct Tokens {
     kept: KeptTokens,
 }
 
-/// The words: only a list whose length is not one, three or four needs memory of its own.
+/// The words of an expression. One, three or four words are stored without an allocation.
 #[derive(Debug, Drop)]
 enum KeptTokens {
     One([Token; 1]),

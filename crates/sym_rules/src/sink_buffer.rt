@@ -6,7 +6,7 @@ ghost use Rattle.sym_rules.specs.Buffer.{Hands};
 use crate::waiting_bytes::Waiting;
 use sym_edges::{Failed, Sink, write_all};
 
-/// Hands on the bytes that wait.
+/// Hands all bytes that wait to the sink.
 pub fn hand_on<O: Sink, const N: usize>(
     sink: &mut O,
     waiting: &mut Waiting<N>,
@@ -26,8 +26,8 @@ pub fn hand_on<O: Sink, const N: usize>(
     }
 }
 
-/// Puts bytes after those that wait. If they do not fit, the bytes that wait are handed on first; bytes that do not fit into an empty buffer go
-/// directly to the sink.
+/// Puts bytes after those that wait. If they do not fit into the buffer, the bytes that wait are
+/// handed to the sink first. Bytes that do not fit into an empty buffer go directly to the sink.
 #[tactic(auto, using(crate::proofs::BufferLemmas::hands_held, crate::proofs::BufferLemmas::hands_failed, crate::proofs::BufferLemmas::hands_next, crate::proofs::BufferLemmas::hands_through, crate::proofs::BufferLemmas::hands_through_failed))]
 pub fn put<O: Sink, const N: usize>(
     sink: &mut O,
@@ -54,7 +54,7 @@ pub fn put<O: Sink, const N: usize>(
     }
 }
 
-/// Puts a word after one space.
+/// Puts a space and a word after the bytes that wait.
 pub fn put_word<O: Sink, const N: usize>(
     sink: &mut O,
     waiting: &mut Waiting<N>,

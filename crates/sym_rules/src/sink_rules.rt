@@ -1,4 +1,4 @@
-//! Rules that are spelled through a buffer in front of a sink.
+//! Puts frame rules into a buffer before a sink.
 ghost use Rattle.std.specs.Prelude.{◌≡◌, ◌∷◌};
 ghost use Rattle.std.specs.List.{flat_map};
 ghost use Rattle.sym_rules.specs.Buffer.{Hands};
@@ -11,7 +11,7 @@ use crate::words::{target_name, token_word};
 use itoa::Buffer;
 use sym_edges::{Failed, Sink};
 
-/// Puts a target's name after one space, with `:` after it.
+/// Puts a space, the name of a target, and `:`.
 fn put_target<O: Sink, const N: usize>(
     sink: &mut O,
     waiting: &mut Waiting<N>,
@@ -26,7 +26,7 @@ fn put_target<O: Sink, const N: usize>(
     put(sink, waiting, b":")
 }
 
-/// Puts a token after one space.
+/// Puts a space and a token.
 fn put_token<O: Sink, const N: usize>(
     sink: &mut O,
     waiting: &mut Waiting<N>,

@@ -1,6 +1,6 @@
-//! What may be wrong with a text that has rules.
+//! The faults of the text of a symbol file.
 
-/// What is wrong with a line of a symbol file, in the order of the kinds' numbers.
+/// The kinds of faults in a line of a symbol file, in the order of their numbers.
 #[derive(Clone, Copy, Debug, PartialEq, Eq)]
 pub enum TextKind {
     /// No line has a record.

@@ -33,7 +33,7 @@ fn begins_symbol(b: u8) -> bool
     b == b'$' || b == b'.' || (b'A' <= b && b <= b'Z') || (b'a' <= b && b <= b'z')
 }
 
-/// Whether the bytes begin as a name in a rule does, and do not end with `:`.
+/// Whether the bytes are a name in a rule: they begin like one, and do not end with `:`.
 #[tactic(auto, using(crate::proofs::LastLemmas::symbol_ends, crate::proofs::LastLemmas::symbol_other, crate::proofs::LastLemmas::symbol_nothing))]
 fn is_symbol(bytes: &[u8]) -> bool
     ensures { result ≡ is_symbol bytes.now }

@@ -1,9 +1,9 @@
-//! The buffer in front of a sink.
+//! The buffer of bytes that wait for a sink.
 ghost use Rattle.std.specs.Prelude.{◌≡◌, ◌+◌, ◌≤◌, [], ◌++◌, length};
 
 use std::marker::Model;
 
-/// At most `N` bytes that wait to be handed on, which contracts see as the list of these bytes.
+/// At most `N` bytes that wait for a sink; contracts see the list of these bytes.
 #[derive(Drop)]
 pub struct Waiting<const N: usize> {
     held: [u8; N],

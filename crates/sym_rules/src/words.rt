@@ -1,4 +1,4 @@
-//! The words of rules, and the length of rules.
+//! The words of rules, and how many bytes rules take.
 ghost use Rattle.std.specs.Prelude.{◌≡◌, ◌^◌, ◌-◌, min, length};
 ghost use Rattle.std.specs.List.{flat_map};
 ghost use Rattle.sym_rules.specs.Rules.{target_name, token_word, spelled_token, spelled_rule, spelled_rules};
@@ -38,7 +38,7 @@ pub(crate) fn token_word<'a>(token: &'a Token, buffer: &'a mut Buffer) -> &'a [u
     }
 }
 
-/// How many bytes the token takes, with the space before it, or the greatest `usize` if there are more.
+/// How many bytes the token takes with the space before it, at most 2^64 - 1.
 fn token_length(token: &Token) -> usize
     ensures { result ≡ min (length (spelled_token token.now)) (2 ^ 64 - 1) }
 {
@@ -65,7 +65,7 @@ fn rule_length(rule: &RuleText) -> usize
     name.saturating_add(tokens_length(rule.tokens.as_slice()))
 }
 
-/// How many bytes the rules take, with a space before each word, or the greatest `usize` if there are more.
+/// How many bytes the rules take with a space before each word, at most 2^64 - 1.
 #[tactic(auto, unfolding(crate::specs::Rules::spelled_rules), using(crate::proofs::LengthLemmas::pieces_length, crate::proofs::LengthLemmas::pieces_whole))]
 pub fn rules_length(rules: &[RuleText]) -> usize
     ensures { result ≡ min (length (spelled_rules rules.now)) (2 ^ 64 - 1) }

@@ -29,7 +29,8 @@ abbrev pub is_among : ℕ → List ℕ → Bool
 is_among attribute [] = false
 is_among attribute (other ∷ others) = other == attribute || is_among attribute others
 
--- for each slot, at its number, whether its attribute is among these
+-- for each slot, in the order of the slots' numbers, whether `attributes` has the attribute of the
+-- slot
 abbrev pub filled_by : List ℕ → List Bool
 filled_by attributes =
     is_among 0x11 attributes ∷
@@ -60,14 +61,15 @@ free_in filled wanted = if get_or filled (slot_number wanted) false then slot.Pa
 abbrev pub fill_in : List Bool → Slot → List Bool
 fill_in filled wanted = slice_set filled (slot_number wanted) true
 
--- an attribute is given its slot if that is free, and then the slot is filled
+-- an attribute is given its slot if that is free, otherwise `Passed`; then the slot is filled
 pub record Fills (before after : List Bool) (attribute : ℕ) (given : Slot) : Type 0 where
   pub wanted : Slot
   pub is : IsSlot wanted attribute
   pub free : given ≡ free_in before wanted
   pub filled : after ≡ fill_in before wanted
 
--- the slot for the value of an attribute after the attributes `before`; `Passed` if entries are not kept
+-- the slot that is given to an attribute after the attributes `before`: its own if none of these
+-- has the same slot, otherwise `Passed`; always `Passed` if entries are not kept
 abbrev pub GoesTo : Bool → List SpecFields → ℕ → Slot → Type 0
 GoesTo false before attribute given = given ≡ slot.Passed
 GoesTo true before attribute given = (wanted : Slot) × (IsSlot wanted attribute) × (given ≡ free_in (filled_by (attributes_of before)) wanted)
@@ -77,7 +79,7 @@ abbrev pub FilledFor : Bool → List SpecFields → List Bool → Type 0
 FilledFor false before filled = Prim.Unit {0}
 FilledFor true before filled = filled ≡ filled_by (attributes_of before)
 
--- an attribute was given a slot; `Passed` if entries are not kept
+-- the slot that is given to an attribute; always `Passed` if entries are not kept
 abbrev pub GivesSlot : Bool → List Bool → List Bool → ℕ → Slot → Type 0
 GivesSlot false before after attribute given = given ≡ slot.Passed
 GivesSlot true before after attribute given = Fills before after attribute given

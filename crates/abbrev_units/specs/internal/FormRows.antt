@@ -11,12 +11,13 @@ use Rattle.abbrev_units.specs.SpecFields.{SpecFields}
 use Rattle.abbrev_units.specs.FormValue.{value_by}
 use Rattle.abbrev_units.specs.Values.{value_at}
 
--- the row of a form, made from what is kept of it
+-- the row of a form, made from its code and from its layout and class, which are stored
 abbrev pub row_said : ℕ → Option Known → Option FormRow
 row_said form None = None
 row_said form (Some known) = Some (record { code = form; layout = known.layout; class = known.class })
 
--- a list has rows of the table of forms, each at the index that is the form's code
+-- at each of its indices, a list has the row of the form with that code, or says that there is no
+-- row
 abbrev pub AreRows : Bool → List (Option Known) → Type 0
 AreRows wide rows = (form : ℕ) (known : Option Known) → slice_get rows form ≡ Some known → row_said form known ≡ form_row form (forms wide)
 

@@ -11,21 +11,22 @@ use Rattle.abbrev_units.specs.SpecFields.{SpecFields, Abbrev}
 use Rattle.abbrev_units.specs.KeptTags.{is_kept_tag}
 use Rattle.abbrev_units.specs.internal.Takes.{AreTakes}
 
--- the members of a run, and that all of them are in the list
+-- the members of a list that a run selects; and that the run is inside the list
 abbrev pub part : {A : Type 0} → Run → List A → List A
 part run xs = slice_range xs run.from run.to
 
 abbrev pub IsInside : {A : Type 0} → Run → List A → Type 0
 IsInside run xs = (run.from ≤ run.to) × (run.to ≤ length xs)
 
--- an abbreviation given its head, and all abbreviations of a table
+-- an abbreviation, given its head; and all abbreviations of a table, given their heads
 abbrev pub abbrev_in : List SpecFields → Head → Abbrev
 abbrev_in specs head = record { code = head.code; tag = head.tag; children = head.children; specs = part head.specs specs }
 
 abbrev pub abbrevs_in : List SpecFields → List Head → List Abbrev
 abbrevs_in specs heads = map (abbrev_in specs) heads
 
--- a head's attributes and takes are in the lists, the takes are those of its attributes, and it says whether its entries are kept
+-- the runs of a head are inside the lists, and the head says whether its entries are kept; if it
+-- has takes, they read its attributes
 pub record IsHeld (lists : Lists) (head : Head) : Type 0 where
   pub kept : head.kept ≡ is_kept_tag head.tag
   pub specs : IsInside head.specs lists.specs.items
@@ -35,7 +36,7 @@ pub record IsHeld (lists : Lists) (head : Head) : Type 0 where
 abbrev pub AreHeld : Lists → List Head → Type 0
 AreHeld lists heads = AllByRecursion (IsHeld lists) heads
 
--- a list is a prefix of another; and so is each list of a table
+-- the list `before` is a prefix of the list `after`; and this holds for both lists of a table
 abbrev pub Starts : {A : Type 0} → List A → List A → Type 0
 Starts before after = after ≡ before ++ drop (length before) after
 
@@ -43,13 +44,13 @@ pub record Grown (before after : Lists) : Type 0 where
   pub specs : Starts before.specs.items after.specs.items
   pub takes : Starts before.takes.items after.takes.items
 
--- GivesAt for a call that leaves the value `a` in a variable instead of returning it
+-- the same as `GivesAt`, for a call that leaves the value `a` in a variable instead of returning it
 abbrev pub LeavesAt : {U A F : Type 0} → Result U (Stop F) → A → Ahead → Result (A × Ahead) F → Type 0
 LeavesAt (Ok x) a c given = given ≡ Ok (a, c)
 LeavesAt (Err (Fault fault)) a c given = given ≡ Err fault
 LeavesAt (Err NoMemory) a c given = Unit {0}
 
--- a reading gives the next head, whose parts are in these lists, or the end of the abbreviations
+-- a reading gives the next head, whose runs are inside these lists, or the end of the abbreviations
 abbrev pub ReadsAt : {F : Type 0} → Result (Option Head) (Stop F) → Lists → Ahead → Result (Option Abbrev × Ahead) F → Type 0
 ReadsAt (Ok None) lists c given = given ≡ Ok (None, c)
 ReadsAt (Ok (Some head)) lists c given = IsHeld lists head × (given ≡ Ok (Some (abbrev_in lists.specs.items head), c))

@@ -74,17 +74,20 @@ has_numbers kind.U64 = true
 has_numbers kind.Uleb = true
 has_numbers _ = false
 
--- a number of the class `class` stands for the value that a form of the class `form` makes of that number
+-- a number with the class `class` stands for the value that a form of the class `form` has if its
+-- operand is this number
 abbrev pub MakesNumbers : FormClass → Class → Type 0
 MakesNumbers form class = (implicit : ℤ) (n : ℕ) → value_in class n ≡ Some (value_of form implicit (operand.Num n))
 
--- the constant for an operand without bytes
+-- the number that stands for a value without bytes: 1 for a flag, or the constant in the
+-- abbreviation modulo 2^64
 abbrev pub HasConstant : FormClass → ℤ → ℕ → Type 0
 HasConstant form.Present implicit constant = constant ≡ 1
 HasConstant form.Implicit implicit constant = cast_signed w64 constant ≡ implicit
 HasConstant _ implicit constant = Prim.Unit {0}
 
--- a slot keeps the same of a form's value as of the number with this class that stands for that value
+-- each slot keeps the same, whether it is given the value of the form or the operand's number with
+-- the class `class`
 abbrev pub HasClass : FormClass → Kind → Class → Type 0
 HasClass form layout class =
     (implicit : ℤ) (constant : ℕ) (c d : Ahead) (x : Operand) (s : Slot) →
@@ -92,7 +95,7 @@ HasClass form layout class =
     kind_at layout c ≡ Ok (x, d) →
     option_and_then (kept_by s) (value_in class (number_of constant x)) ≡ kept_by s (value_of form implicit x)
 
--- the take of an attribute whose form has this row
+-- what the take of an attribute has, if the form of the attribute has this row
 pub record TakesValue (spec : SpecFields) (row : FormRow) (front : ℕ) (given : Slot) (take : Take) : Type 0 where
   pub bytes : take.bytes ≡ front
   pub into : take.slot ≡ given

@@ -4,7 +4,7 @@ use Rattle.std.specs.List.{All}
 use Rattle.sym_edges.specs.Addresses.{Range}
 use Rattle.range_set.specs.Canonical.{IsCanonical}
 
--- the set of a number
+-- the set with a number; empty if there is no such set
 abbrev pub set_of : List (List Range) → ℕ → List Range
 set_of sets number = get_or sets number []
 

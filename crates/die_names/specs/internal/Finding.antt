@@ -11,7 +11,7 @@ use Rattle.debug_units.specs.UnitEntries.{Placed, entry_in, entry_of}
 abbrev pub is_at : ℕ → Placed → Bool
 is_at place p = p.die.at == place
 
--- the entry of a number in a unit
+-- the entry with a number in a unit
 abbrev pub found_in : ℕ → List DieFields → Option ℕ → Option Placed
 found_in unit dies None = None
 found_in unit dies (Some entry) = option_map (λ die. record { unit = unit; entry = entry; die = die }) (slice_get dies entry)
@@ -26,12 +26,12 @@ abbrev pub found : List UnitRead → Option EntryRef → Option Placed
 found units None = None
 found units (Some s) = entry_of units s.unit s.entry
 
--- the same entry in a list with `count` more units in front
+-- the numbers of an entry, after `count` units were added in front of the list
 abbrev pub moved : ℕ → Option Standing → Option Standing
 moved count None = None
 moved count (Some s) = Some (record { unit = count + s.unit; entry = s.entry })
 
--- how many entries a unit has; `IsInside`: there is an entry with these numbers
+-- how many entries a unit has; and that there is an entry with these numbers
 abbrev pub die_count : Option UnitRead → ℕ
 die_count None = 0
 die_count (Some part) = length part.die.dies

@@ -13,7 +13,8 @@ is_omitted Omitted = true
 is_omitted Linkage = false
 is_omitted Joined = false
 
--- what the name is after the entry `p`, if no linkage name follows
+-- which entry gives the name after the way was followed up to the entry `p`, if no later entry has
+-- a linkage name
 abbrev pub noted : NameRef → Placed → NameRef
 noted best p = if is_omitted best.how && has_name p then name_at p Joined else best
 

@@ -52,7 +52,7 @@ is_elsewhere_home home.Elsewhere = true
 abbrev pub no_site : SiteFields
 no_site = record { low = None; high = None; ranges = None; call_file = None; call_line = 0 }
 
--- the site that picks give
+-- the site of an entry with these picks
 abbrev pub site_by : PickFields → SiteFields
 site_by picks = record {
   low = picks.low;
@@ -62,7 +62,7 @@ site_by picks = record {
   call_line = line_of (option_and_then as_number picks.call_line);
 }
 
--- a value that is there only if the condition holds
+-- the value if the condition holds, otherwise none
 abbrev pub where_said : {A : Type 0} → Bool → A → Option A
 where_said true x = Some x
 where_said false x = None
@@ -81,18 +81,19 @@ link_of head = head.flags / 4 % 4
 abbrev pub rest_of : Head → ℕ
 rest_of head = head.flags / 16
 
--- the head with a rest, given the kind of the rest and its index
+-- the head after its rest was added, given the kind of the rest (1 or 2) and its index
 abbrev pub with_rest : Head → ℕ → ℕ → Head
 with_rest head rest number = record head { flags = head.flags + 16 * rest; number = number }
 
--- the target, if it is the origin; and if it is the declaration
+-- the target of a head as the origin of the entry, and as its declaration; none if the target is
+-- not of that kind
 abbrev pub origin_said : ℕ → ℕ → Option ℕ
 origin_said link n = where_said (link == 1) n
 
 abbrev pub spec_said : ℕ → ℕ → Option ℕ
 spec_said link n = where_said (link == 2) n
 
--- an entry, given its head and its site; then one whose rest is a wide entry
+-- an entry, given its head and its site; and an entry, given its head and its wide entry
 abbrev pub slim : Homes → Head → SiteFields → DieFields
 slim homes head site = record {
   at = head.at;
@@ -114,7 +115,7 @@ slim homes head site = record {
 abbrev pub broad : Homes → Head → WideFields → DieFields
 broad homes head wide = record (slim homes head wide.site) { tag = wide.tag; origin = wide.origin; spec = wide.spec }
 
--- the rest of a head, if it is of the kind `rest`; then the entry of a head
+-- the rest of a head, if it has the kind `rest`; and the entry of a head
 abbrev pub found_in : {A : Type 0} → ℕ → Head → List A → Option A
 found_in rest head xs = if rest_of head == rest then slice_get xs head.number else None
 
@@ -125,7 +126,7 @@ held_by homes head site (Some wide) = broad homes head wide
 abbrev pub held_in : Homes → List SiteFields → List WideFields → Head → DieFields
 held_in homes sites wides head = held_by homes head (found_in 1 head sites) (found_in 2 head wides)
 
--- the site or the wide entry that a head names is there
+-- the site or the wide entry to which a head refers is in its list
 abbrev pub IsThere : ℕ → ℕ → Head → Type 0
 IsThere sites wides head = (rest_of head ≡ 1 → head.number < sites) × (rest_of head ≡ 2 → head.number < wides)
 
@@ -150,7 +151,7 @@ abbrev pub FitsPlace : List ℕ → Option ℕ → Option (List ℕ) → Type 0
 FitsPlace bytes None text = text ≡ None
 FitsPlace bytes (Some place) text = text ≡ text_from bytes place
 
--- a target gives both links of an entry
+-- the links of an entry are those that a target gives
 abbrev pub IsTarget : ℕ → ℕ → Links → Type 0
 IsTarget link place links = (origin_said link place ≡ links.origin) × (spec_said link place ≡ links.spec)
 
@@ -165,7 +166,7 @@ pub record IsHead (head : Head) (parts : Parts) : Type 0 where
   pub linkage : head.linkage ≡ parts.names.linkage.place
   pub flags : head.flags < 16
 
--- the same with the tag and the target
+-- a head as in `IsHead`, which also has the entry's tag and target
 pub record IsWhole (head : Head) (parts : Parts) (tag : ℕ) : Type 0 where
   pub says : IsHead head parts
   pub tagged : head.tag ≡ tag
@@ -180,7 +181,7 @@ pub record Says (sections : DebugSections) (unit : Unit) (base : Option ℕ) (pi
   pub origin : parts.links.origin ≡ option_and_then (as_reference sections unit) picks.origin
   pub spec : parts.links.spec ≡ option_and_then (as_reference sections unit) picks.spec
 
--- one entry was added: that of these picks, if its parts have their values
+-- one entry was added. It is the entry of these picks, if the parts have the values of the picks
 abbrev pub IsAdded : HeldEntries → HeldEntries → Parts → ℕ → PickFields → Type 0
 IsAdded before after parts tag picks =
     (sections : DebugSections) (unit : Unit) (base : Option ℕ) → before.homes ≡ homes_of sections → Says sections unit base picks parts

@@ -1,4 +1,4 @@
--- A list of the nearest scopes around the first entries of a unit.
+-- A list that has, for the first entries of a unit, the nearest scope around each of them.
 use Rattle.std.specs.Prelude.{◌≡◌, ℕ, List, Option, Some}
 use Rattle.std.specs.List.{slice_get}
 use Rattle.die_walk.specs.EntryTable.{DieFields}

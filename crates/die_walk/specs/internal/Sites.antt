@@ -1,4 +1,4 @@
--- What an entry has besides its names and its place in the tree.
+-- What a site and a wide entry hold, and kept entries with the sections of their texts.
 use Rattle.std.specs.Prelude.{ℕ, List, Option}
 use Rattle.abbrev_units.specs.declared.value.Value.{Value}
 use Rattle.die_walk.specs.EntryTable.{DieFields}
@@ -11,7 +11,7 @@ pub record SiteFields : Type 0 where
   pub call_file : Option ℕ
   pub call_line : ℕ
 
--- the same, with the tag and the links that do not fit into a head
+-- a site, together with the tag and the links, if these do not fit into a head
 pub record WideFields : Type 0 where
   pub tag : ℕ
   pub origin : Option ℕ

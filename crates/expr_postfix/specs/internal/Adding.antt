@@ -12,7 +12,8 @@ abbrev pub first_tokens : Standing → List Token
 first_tokens Free = []
 first_tokens OverCfa = token.Cfa ∷ []
 
--- the words so far and those of the steps that are left, if the bytes that are left are made of steps
+-- the words so far, and then those of the steps that are left; none if the bytes that are left are
+-- not made of steps
 abbrev pub added : Option (List Step) → List Token → Option (List Token)
 added None held = None
 added (Some left) held = Some (held ++ steps_tokens left)

@@ -23,7 +23,7 @@ kept_state s = record { registers = s.registers; rows = map kept_row s.rows; seq
 abbrev pub kept_lines : Lines → Lines
 kept_lines l = record { sequences = map kept_sequence l.sequences; first = l.first; files = l.files }
 
--- what was read, with its rows as they are stored
+-- a state that was read, with its rows as they are stored, or its fault
 abbrev pub or_kept_state : Result State Fault → Result State Fault
 or_kept_state (Ok state) = Ok (kept_state state)
 or_kept_state (Err fault) = Err fault

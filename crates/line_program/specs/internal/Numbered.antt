@@ -1,4 +1,4 @@
--- The lines of rows with path numbers.
+-- The lines of rows, with numbers instead of paths.
 use Rattle.std.specs.Prelude.{ℕ, ◌-◌, ◌==◌, nat_lt, Bool, if◌then◌else◌, List, Option, Some, None}
 use Rattle.std.specs.List.{slice_get}
 use Rattle.line_program.specs.declared.row.Row.{Row}
@@ -15,7 +15,7 @@ abbrev pub numbered_line_by : ℕ → Option ℕ → PathLine
 numbered_line_by line None = no_line
 numbered_line_by line (Some path) = if line == 0 then no_line else record { path = path; line = line }
 
--- path number and line of a row
+-- path number and line of a row; line 0 if there is none
 abbrev pub numbered_line_of : ℕ → List ℕ → Option Row → PathLine
 numbered_line_of first numbers None = no_line
 numbered_line_of first numbers (Some r) = numbered_line_by r.line (number_of first numbers r.file)

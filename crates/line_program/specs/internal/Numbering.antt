@@ -1,4 +1,4 @@
--- Paths and their numbers, as the code stores them.
+-- Paths and their numbers, in the form in which the code stores them.
 use Rattle.std.specs.Prelude.{◌≡◌, ◌≢◌, ℕ, ◌<◌, ◌-◌, ◌^◌, nat_lt, if◌then◌else◌, List, [], ◌∷◌, map, length, drop, slice_index, slice_index_or, Some}
 use Rattle.std.specs.List.{slice_get}
 use Rattle.leb_cursor.specs.Readings.{fixed_sum}
@@ -10,7 +10,7 @@ use Rattle.line_program.specs.LineMaps.{no_line, AreDistinct}
 abbrev pub picked : List (List ℕ) → List ℕ → List (List ℕ)
 picked texts places = map (λ k. slice_index_or texts k []) places
 
--- the last eight bytes of a path as a number, or 0 for a shorter path
+-- the last eight bytes of a path as a number, the lowest byte first; 0 for a shorter path
 unfoldable pub ending_of : List ℕ → ℕ
 ending_of text = if nat_lt (length text) 8 then 0 else fixed_sum 8 (drop (length text - 8) text)
 
@@ -25,7 +25,8 @@ AreNumbered paths (n ∷ numbers) (file ∷ files) = (slice_get paths n ≡ Some
 abbrev pub AllBelow : ℕ → List ℕ → Type 0
 AllBelow bound numbers = (k : ℕ) → k < length numbers → slice_index numbers k < bound
 
--- `firsts` has indices of texts, lines and files have numbers of paths, and no two paths are equal
+-- what the code stores of a table is consistent: `firsts` has indices of texts, lines and files
+-- have numbers of paths, and no two paths are equal
 pub record IsLineMap (lines : Stepping PathLine) (texts : List (List ℕ)) (firsts files : List ℕ) : Type 0 where
   pub texts_there : AllBelow (length texts) firsts
   pub files_named : AllBelow (length firsts) files

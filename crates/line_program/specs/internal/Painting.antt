@@ -1,11 +1,12 @@
--- How the code paints the lines of a table.
+-- How the lines of a table are painted.
 use Rattle.std.specs.Prelude.{ℕ, ◌+◌, ◌≤◌, ◌&&◌, min, nat_le, Bool, if◌then◌else◌, List, [], ◌∷◌, Option, Some, None}
 use Rattle.std.specs.List.{slice_get}
 use Rattle.step_maps.specs.declared.stretch.Stretch.{Stretch}
 use Rattle.step_maps.specs.declared.stretch.FirstItem.{FirstItem}
 use Rattle.line_program.specs.declared.row.Row.{Row}
 
--- a sequence that counts: the first and the last address that it covers, and its rows in the order of their addresses
+-- a sequence that counts: the first and the last address that it covers, and its rows in the order
+-- of their addresses
 pub record Counted : Type 0 where
   pub first : ℕ
   pub last : ℕ
@@ -25,7 +26,7 @@ abbrev pub SortedFrom : ℕ → List Row → Type 0
 SortedFrom low [] = Unit {0}
 SortedFrom low (r ∷ rows) = (low ≤ r.address) × SortedFrom r.address rows
 
--- no row above an address
+-- no row is above the address `high`
 abbrev pub AllUpTo : ℕ → List Row → Type 0
 AllUpTo high [] = Unit {0}
 AllUpTo high (r ∷ rows) = (r.address ≤ high) × AllUpTo high rows
@@ -40,17 +41,18 @@ unfoldable pub last_at : List Row → ℕ → Option Row
 last_at [] a = None
 last_at (r ∷ rows) a = or_row (last_at rows a) (if nat_le r.address a then Some r else None)
 
--- the row at an address, by the first counted sequence that covers it
+-- the row at an address in the first counted sequence that covers it
 unfoldable pub counted_row : List Counted → ℕ → Option Row
 counted_row [] a = None
 counted_row (k ∷ kept) a = if has k a then last_at k.rows a else counted_row kept a
 
--- the row at an address, by the last counted sequence that covers it; if none does, the row `under`
+-- the row at an address in the last counted sequence that covers it; if none does, the row `under`
 unfoldable pub back_row : Option Row → List Counted → ℕ → Option Row
 back_row under [] a = under
 back_row under (k ∷ kept) a = back_row (if has k a then last_at k.rows a else under) kept a
 
--- the counted sequence that a first item names, and the row of a counted sequence at an address
+-- the counted sequence whose index a first item has; the row at an address in a counted sequence
+-- that may be missing
 abbrev pub covering : List Counted → Option FirstItem → Option Counted
 covering kept None = None
 covering kept (Some item) = slice_get kept item.index
@@ -59,7 +61,7 @@ abbrev pub row_by : Option Counted → ℕ → Option Row
 row_by None a = None
 row_by (Some k) a = last_at k.rows a
 
--- the lesser of the least address so far, if there is one, and another address
+-- the lesser of the least address so far, which may be missing, and another address
 abbrev pub least_step : Option ℕ → ℕ → Option ℕ
 least_step None address = Some address
 least_step (Some other) address = Some (min address other)

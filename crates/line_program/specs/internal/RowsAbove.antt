@@ -10,7 +10,7 @@ abbrev pub line_or : PathLine → ℕ → List ℕ → Option Row → PathLine
 line_or line first numbers None = line
 line_or line first numbers (Some r) = numbered_line_of first numbers (Some r)
 
--- the rows above `start`, and the line of the last row at or below it
+-- the rows above `start`, and the line of the last row at or below `start`
 pub record Parts (first : ℕ) (numbers : List ℕ) (rows : List Row) (start : ℕ) (line : PathLine) (above : List Row) : Type 0 where
   pub sorted : SortedFrom start above
   pub rest : (a : ℕ) → start ≤ a → line_or line first numbers (last_at above a) ≡ numbered_line_of first numbers (last_at rows a)

@@ -12,13 +12,14 @@ use Rattle.module_stacks.specs.ModuleAt.{module_at}
 abbrev pub stretch_of : ℕ → Module → Stretch
 stretch_of place m = record { first = m.start; last = m.end - 1; index = place; class = 0 }
 
--- the stretches of the modules that have any addresses; their places count from `place` on
+-- the stretches of the modules that have any addresses; the first of `modules` has the number
+-- `place`
 unfoldable pub stretches_from : ℕ → List Module → List Stretch
 stretches_from place [] = []
 stretches_from place (m ∷ modules) =
     if nat_lt m.start m.end then stretch_of place m ∷ stretches_from (place + 1) modules else stretches_from (place + 1) modules
 
--- s starts below t, or at the same address and is not after t in the list of modules
+-- s starts below t, or they start at the same address and s is not after t in the list of modules
 abbrev pub Upto : Stretch → Stretch → Type 0
 Upto s t = (s.first < t.first) ⊎ ((s.first ≡ t.first) × (s.index ≤ t.index))
 

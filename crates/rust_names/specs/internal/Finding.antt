@@ -1,4 +1,5 @@
--- What a name shows, as the functions find it: if it begins with `_R`, it is no legacy name.
+-- What a name shows, in the form in which the functions find it: a name that begins with `_R` is
+-- not read as a legacy name.
 use Rattle.std.specs.Prelude.{ℕ, nat_eq, if◌then◌else◌, List, codes, Option}
 use Rattle.std.specs.List.{starts_with}
 use Rattle.rust_names.specs.V0Names.{v0_text}

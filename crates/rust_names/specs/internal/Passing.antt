@@ -1,4 +1,5 @@
--- The loop that reads frames; paths of v0 names that are not shown; constants that were read.
+-- What is promised of three things: the loop that reads frames, paths of v0 names that are not
+-- shown, and constants that were read before.
 use Rattle.std.specs.Prelude.{◌≡◌, ℕ, ◌+◌, ◌<◌, ◌≤◌, Bool, true, false, List, [], ◌++◌, length, reverse, take, drop, Option, Some, IfSome, MatchOption}
 use Rattle.std.specs.Borrow.{Bor}
 use Rattle.std.specs.Option.{option_and_then, option_to_list}
@@ -32,7 +33,8 @@ abbrev pub is_hidden : Part → Bool
 is_hidden (Within inner.ImplPath) = true
 is_hidden p = false
 
--- a turn of the loop: from frames and a state to frames, a text, and the bytes left
+-- one turn of the loop: it replaces frames and a state by other frames, a text, and the bytes that
+-- are left
 pub record Turned (name : List ℕ) (old : List Frame) (s : State) (new : List Frame) (text : List ℕ) (opened : Bool) (o : Option (Bor (List ℕ))) : Type 0 where
   pub same : run name (reverse old) s ≡ option_and_then (λ a. run name (reverse new) (at a.now text opened)) o
   pub lighter : IfSome o (λ _. weight (length name) new < weight (length name) old)
@@ -45,7 +47,7 @@ pub record Stopped (name : List ℕ) (old : List Frame) (s : State) (stops : Boo
   pub ends : IsEnd name stop.rest.now
   pub hidden : MatchOption stop.hidden (new ≡ []) (λ f. (stops ≡ true) × (is_hidden f.part ≡ true))
 
--- a path that is not shown is read up to `after`, whatever is bound and was shown before
+-- reading a path that is not shown leaves the bytes `after`, whatever is bound and was shown before
 abbrev pub Reads : List ℕ → ℕ → List ℕ → Bool → List ℕ → Bool → Type 0
 Reads name levels rest opened after leaves = (bound : ℕ) (text : List ℕ) → read_level name levels (Deep kind.Path) (dark bound) (at rest text opened) ≡ Some (at after text leaves)
 
@@ -56,7 +58,7 @@ is_constant leaf.Boolean = true
 is_constant leaf.Character = true
 is_constant a = false
 
--- what is known of the constant that bytes begin with
+-- what is known of the constant at the start of the bytes
 pub record IsConstant (bytes : List ℕ) (c : Constant) : Type 0 where
   pub digits : hex_digits bytes ≡ Some (take c.count bytes, drop (c.count + 1) bytes)
   pub value : hex_from 0 (take c.count bytes) ≡ c.value

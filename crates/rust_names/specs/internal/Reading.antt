@@ -1,4 +1,5 @@
--- The reading of a legacy name from left to right, as the functions do it: the piece or the part that bytes begin with, and then all of them. The
+-- The reading of a legacy name from left to right, as the functions do it: first the piece or the
+-- part at the start of the bytes, then all pieces or parts. In `pieces_from` and `parts_from`, the
 -- first `k` bytes belong to the piece or the part before.
 use Rattle.std.specs.Prelude.{ℕ, zero, suc, ◌+◌, ◌-◌, ◌*◌, ◌==◌, ◌&&◌, nat_le, nat_lt, nat_eq, Bool, true, false, if◌then◌else◌, List, [], ◌∷◌, ◌++◌, length, take, drop, codes, slice_index, Option, None, Some, not}
 use Rattle.std.specs.List.{flat_map, list_all, starts_with}
@@ -28,7 +29,7 @@ byte_of None low = None
 byte_of (Some high) None = None
 byte_of (Some high) (Some low) = if nat_le 32 (high * 16 + low) && nat_le (high * 16 + low) 126 then Some (Code (high * 16 + low)) else None
 
--- the byte that an escape stands for
+-- the byte that an escape `$uHH$` stands for
 unfoldable pub code_of : List ℕ → Option Piece
 code_of bytes =
     if nat_lt (length bytes) 5 then None
@@ -43,7 +44,7 @@ or_code None bytes = code_of bytes
 abbrev pub plain_piece : ℕ → Option Piece
 plain_piece b = if nat_le 33 b && nat_le b 126 then Some (Plain b) else None
 
--- the piece that bytes begin with
+-- the piece at the start of the bytes
 abbrev pub front_piece : ℕ → List ℕ → Option Piece
 front_piece b bytes =
     if b == 36 then or_code (sign_of bytes) bytes
@@ -58,7 +59,7 @@ piece_of (b ∷ bytes) = front_piece b (b ∷ bytes)
 abbrev pub is_plain : ℕ → Bool
 is_plain b = nat_le 33 b && nat_le b 126 && not (b == 36) && not (b == 46)
 
--- bytes as pieces
+-- the pieces that bytes are made of
 unfoldable pub pieces_from : ℕ → List ℕ → Option (List Piece)
 pieces_from zero [] = Some []
 pieces_from (suc k) [] = None
@@ -68,7 +69,7 @@ pieces_from (suc k) (b ∷ bytes) = pieces_from k bytes
 unfoldable pub pieces_of : List ℕ → Option (List Piece)
 pieces_of bytes = pieces_from 0 bytes
 
--- the bytes of a part whose length is known, and what stands after them
+-- the bytes of a part whose length is known, and the bytes after them
 abbrev pub cut_by : List ℕ → Option ℕ → Option (List ℕ × List ℕ)
 cut_by after None = None
 cut_by after (Some n) = Some (take n after, drop n after)
@@ -77,7 +78,7 @@ cut_by after (Some n) = Some (take n after, drop n after)
 unfoldable pub cut_of : List ℕ → Option (List ℕ × List ℕ)
 cut_of bytes = cut_by (drop (length (digits_in_front bytes)) bytes) (number_upto (length (drop (length (digits_in_front bytes)) bytes)) (digits_in_front bytes))
 
--- the part that bytes begin with
+-- the part at the start of the bytes
 abbrev pub part_by : List ℕ → Option (List ℕ × List ℕ) → Option Part
 part_by number None = None
 part_by number (Some cut) = option_map (λ ps. record { number = number; bytes = cut.0; pieces = ps }) (pieces_of (undashed cut.0))
@@ -89,7 +90,7 @@ part_of bytes = part_by (digits_in_front bytes) (cut_of bytes)
 abbrev pub part_length : Part → ℕ
 part_length p = length p.number + length p.bytes
 
--- bytes as parts
+-- the parts that bytes are made of
 unfoldable pub parts_from : ℕ → List ℕ → Option (List Part)
 parts_from zero [] = Some []
 parts_from (suc k) [] = None
@@ -103,7 +104,7 @@ parts_of bytes = parts_from 0 bytes
 unfoldable pub is_tail : List ℕ → Bool
 is_tail bytes = starts_with nat_eq bytes (codes "17h") && (slice_index bytes 19 == 69) && list_all is_low_hex (take 16 (drop 3 bytes))
 
--- what stands between `_ZN` and the hash
+-- the bytes between `_ZN` and the hash
 unfoldable pub middle_of : List ℕ → Option (List ℕ)
 middle_of name =
     if starts_with nat_eq name (codes "_ZN") && nat_le 23 (length name) && is_tail (drop (length name - 20) name)
@@ -122,7 +123,7 @@ text_if text = if is_shown_text text then Some text else None
 unfoldable pub legacy_of : List ℕ → Option (List ℕ)
 legacy_of name = option_and_then text_if (option_and_then some_joined (option_and_then parts_of (middle_of name)))
 
--- what bytes show as pieces, as one or more parts, and as parts after others
+-- what bytes show as pieces, as one or more parts, and as parts that follow others
 unfoldable pub pieces_text : List ℕ → Option (List ℕ)
 pieces_text bytes = option_map (flat_map shown) (pieces_of bytes)
 

@@ -1,4 +1,5 @@
--- The reading of a v0 name by a stack of frames: each is a part with its scope, and how many levels and symbols may still nest in it.
+-- The reading of a v0 name by a stack of frames. Each frame is a part with its scope, and with the
+-- numbers of levels and symbols that may still nest in it.
 use Rattle.std.specs.Prelude.{◌≡◌, ◌≢◌, ℕ, zero, suc, ◌+◌, ◌-◌, ◌*◌, nat_lt, Bool, true, false, List, [], ◌∷◌, ◌++◌, ◌≤◌, length, map, reverse, Option, Some, None}
 use Rattle.std.specs.Option.{option_map, option_and_then}
 use Rattle.rust_names.specs.declared.words.Word.{Word}
@@ -24,7 +25,8 @@ use Rattle.rust_names.specs.V0Names.{State, read_within, read_level}
 abbrev pub inside : Scope → ℕ → ℕ → Part → Frame
 inside scope levels width part = record { part = part; scope = scope; levels = levels; width = width }
 
--- frames of parts on a stack, the first on top, if parts were found; and the bytes that are left
+-- the frames of parts are put onto a stack, the first on top, if parts were found; and the bytes
+-- that are left
 abbrev pub onto : List Frame → Nest → List Part → List Frame
 onto stack nest parts = stack ++ reverse (map (inside nest.scope nest.levels nest.width) parts)
 
@@ -34,7 +36,7 @@ pushed stack nest found = option_map (λ x. (onto stack nest x.0, x.1)) found
 abbrev pub pushed_own : List Frame → Nest → Option (List Part × Scope × List ℕ) → Option (List Frame × List ℕ)
 pushed_own stack nest found = option_map (λ x. (onto stack (record nest { scope = x.1 }) x.0, x.2)) found
 
--- what stands before the generic arguments of a path
+-- the word that is shown before the generic arguments of a path
 abbrev pub opening : Kind → Word
 opening kind.ValuePath = word.Turbofish
 opening k = word.Less
@@ -45,7 +47,8 @@ in_scope scope levels width x = (map (inside scope levels width) x.0, x.1)
 abbrev pub in_own_scope : ℕ → ℕ → List Part × Scope × List ℕ → List Frame × List ℕ
 in_own_scope levels width x = (map (inside x.1 levels width) x.0, x.2)
 
--- the frames of which a level, a symbol within a level, and a symbol with a scope of its own are made
+-- the frames of which a level, a symbol within a level, and a symbol with a scope of its own are
+-- made
 abbrev pub level_by : ℕ → Scope → Part → List ℕ → Option (List Part × List ℕ)
 level_by size scope (Deep k) bytes = deep_parts k bytes
 level_by size scope (Back k) bytes = back_parts size k scope.visible bytes
@@ -80,14 +83,16 @@ expand_by size frame opened bytes part = level_frames size frame bytes
 unfoldable pub expand : ℕ → Frame → Bool → List ℕ → Option (List Frame × List ℕ)
 expand size frame opened bytes = expand_by size frame opened bytes frame.part
 
--- a stack before and after the frames that a frame is made of were put onto it
+-- the stack `new` is `old` with the frames that were found put onto it, and the bytes that are left
+-- are these; if no frames were found, there are no such bytes
 abbrev pub Expanded : List Frame → List Frame → Option (List Frame × List ℕ) → Option (List ℕ) → Type 0
 Expanded old new None None = Unit {0}
 Expanded old new None (Some after) = ⊥
 Expanded old new (Some x) None = ⊥
 Expanded old new (Some x) (Some after) = (new ≡ old ++ reverse x.0) × (length x.0 ≤ 10) × (x.1 ≡ after)
 
--- a part that is read by its parts: no leaf, no move, and no name of a nested path in a namespace in lower case
+-- a part that is read by reading its own parts. These are all parts except leaves, moves to another
+-- place, and names of nested paths in a namespace in lower case
 abbrev pub is_made : Part → Bool
 is_made (Made (phrase.Named space)) = nat_lt space 97
 is_made (Deep k) = true
@@ -128,11 +133,12 @@ unfoldable pub run : List ℕ → List Frame → State → Option State
 run name [] state = Some state
 run name (frame ∷ frames) state = option_and_then (run name frames) (read_frame name frame state)
 
--- the frames `old` from `before` on read the same as `new` from `after` on, whatever was read before
+-- reading the frames `old` at the bytes `before` gives the same as reading the frames `new` at the
+-- bytes `after`, whatever was read before
 abbrev pub SameRun : List ℕ → List Frame → List ℕ → List Frame → List ℕ → Type 0
 SameRun name old before new after = (text : List ℕ) (opened : Bool) → run name (reverse old) (at before text opened) ≡ run name (reverse new) (at after text opened)
 
--- the frame of the path that any type is, if it is one
+-- the frame of a path that is a type, if the type at the start of the bytes is a path
 abbrev pub BeginsPathType : Option (ℕ × List ℕ) → Type 0
 BeginsPathType None = ⊥
 BeginsPathType (Some x) = (basic_type x.0 ≡ None) × ((whole bytes : List ℕ) → type_parts whole x.0 bytes ≡ Some (Deep kind.Path ∷ [], whole))
@@ -141,7 +147,7 @@ abbrev pub IsTypePath : ℕ → Frame → Frame → List ℕ → Type 0
 IsTypePath size frame path bytes =
     (frame.part ≡ Made phrase.AnyType) × (frame.levels ≢ 0) × (frame.width ≢ 0) × (path ≡ inside frame.scope (frame.levels - 1) (size + 8) (Deep kind.Path)) × BeginsPathType (front bytes)
 
--- the frame of the backreference that a path is, and the bytes after its letter
+-- the frame of a path that is a backreference, and the bytes after its letter
 abbrev pub back_of : Part → Part
 back_of (Deep k) = Back k
 back_of p = p

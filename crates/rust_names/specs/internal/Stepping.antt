@@ -27,11 +27,13 @@ one_reads name levels width bound part s = read_within (read_level name levels) 
 abbrev pub stands : List ℕ → ℕ → Bool → List ℕ → State
 stands name place opened text = at (drop place name) text opened
 
--- a part is read up to `r.place`, if `r.levels` levels and `r.width` symbols may nest in it
+-- reading the part ends at `r.place`, if at least `r.levels` levels and `r.width` symbols may nest
+-- in it
 abbrev pub Passes : List ℕ → Part → ℕ → Bool → Reached → Type 0
 Passes name part place opened r = (levels width bound : ℕ) (text : List ℕ) → r.levels ≤ levels → r.width ≤ width → one_reads name levels width bound part (stands name place opened text) ≡ Some (stands name r.place r.opened text)
 
--- what is reached if `end` follows `now`
+-- the outcome `r` of two readings, of which `end` follows `now`: it has the place of `end`, and
+-- enough levels and symbols for both
 pub record IsJoined (now end r : Reached) : Type 0 where
   pub place : r.place ≡ end.place
   pub opened : r.opened ≡ end.opened
@@ -56,7 +58,8 @@ Fits (Deep k) levels width = 1 ≤ levels
 Fits (Back k) levels width = 1 ≤ levels
 Fits p levels width = 1 ≤ width
 
--- to read a part is to read, from `now` on, the `parts` of it that are left
+-- reading a part gives the same as reading, from `now` on, those of its parts that are left
+-- (`parts`)
 abbrev pub Begins : List ℕ → Begun → List Part → Reached → Type 0
 Begins name b parts now = (levels width bound : ℕ) (text : List ℕ) → Fits b.part levels width → now.levels ≤ inner_levels b.part levels → now.width ≤ inner_width name b.part width
     → one_reads name levels width bound b.part (stands name b.from.place b.from.opened text) ≡ reads name (inner_levels b.part levels) (inner_width name b.part width) bound parts (stands name now.place now.opened text)
@@ -65,7 +68,7 @@ abbrev pub CanEnd : List ℕ → Step → Reached → Type 0
 CanEnd name (Read p) now = Unit {0}
 CanEnd name (End b) now = Begins name b [] now
 
--- to read `first` is to read `parts`, and then to do the steps from the top on
+-- reading `first` gives the same as reading `parts` and then doing the steps, the top one first
 abbrev pub Waits : List ℕ → Begun → List Step → List Part → Reached → Type 0
 Waits name first [] parts now = (levels width bound : ℕ) (text : List ℕ) → now.levels ≤ levels → now.width ≤ width
     → one_reads name levels width bound first.part (stands name first.from.place first.from.opened text) ≡ reads name levels width bound parts (stands name now.place now.opened text)
@@ -75,7 +78,7 @@ Waits name first (End b ∷ steps) parts now = Begins name b parts now × Waits 
 abbrev pub read_of : Frame → Step
 read_of f = Read f.part
 
--- the part of a number
+-- the part for which a number stands
 abbrev pub coded : ℕ → Part
 coded zero = Deep kind.Path
 coded (suc zero) = Deep kind.ValuePath
@@ -92,7 +95,8 @@ coded (suc (suc (suc (suc (suc (suc (suc (suc (suc (suc (suc zero))))))))))) = M
 coded (suc (suc (suc (suc (suc (suc (suc (suc (suc (suc (suc (suc zero)))))))))))) = Made (phrase.Items item.Bound Many)
 coded k = Made phrase.LaterBindings
 
--- what a part is known by: its place, its number, and whether the last trait's arguments are left open there
+-- the key of what is known of a part: its place, its number, and whether the last trait's arguments
+-- are open at that place
 abbrev pub key : ℕ → ℕ → Bool → ℕ
 key place code opened = 32 * place + 2 * code + (if opened then 1 else 0)
 

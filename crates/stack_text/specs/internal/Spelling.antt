@@ -1,4 +1,4 @@
--- The text of threads so far, for all files that agree with what was found.
+-- The text of the threads so far, for all files that agree with what was found.
 use Rattle.std.specs.Prelude.{◌≡◌, ℕ, List, ◌++◌}
 use Rattle.sym_edges.specs.Outside.{Files}
 use Rattle.core_file.specs.Core.{CoreParts}

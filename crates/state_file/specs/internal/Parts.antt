@@ -33,7 +33,7 @@ HasRegister Blank = Unit {0}
 HasRegister (Register register value) = HasPlace register
 HasRegister (Run run) = Unit {0}
 
--- what a call gives: the value or the fault of a reading, or out of memory
+-- what a call returns is the value or the fault of a reading, or it ran out of memory
 abbrev pub Gives : {A F : Type 0} → Result A (Stop F) → Result A F → Type 0
 Gives (Ok x) read = read ≡ Ok x
 Gives (Err (Fault f)) read = read ≡ Err f

@@ -1,5 +1,7 @@
--- Blocks of records: a FUNC with the INLINE and line records directly under it, or an INIT with the changes directly after it. If the blocks of two
--- files at an address say the same, the files do not differ there.
+-- Blocks of records. In one half of a file, the names, a block is a FUNC with the INLINE and line
+-- records directly under it. In the other half, the frame rules, it is an INIT with the changes
+-- directly after it. If the blocks of two files at an address say the same, the files do not differ
+-- there.
 use Rattle.std.specs.Prelude.{◌≡◌, ℕ, ◌+◌, ◌<◌, ◌^◌, ◌==◌, ◌&&◌, Bool, true, false, List, [], ◌∷◌, drop, get_or, Option, None, Some, slice_get}
 use Rattle.std.specs.Str.{bytes_eq}
 use Rattle.sym_records.specs.declared.line.Extent.{Extent}
@@ -30,7 +32,7 @@ changes [] = []
 changes (record_line.Change address rules ∷ lines) = record_line.Change address rules ∷ changes lines
 changes (_ ∷ lines) = []
 
--- the records of a block after its first, given all records after its first
+-- the records of a block after its first record, given all records of the file after that one
 abbrev pub inside : Half → List SymLine → List SymLine
 inside Names lines = under lines
 inside Frames lines = changes lines
@@ -70,11 +72,12 @@ is_told told n = get_or told n false
 abbrev pub are_told : List Bool → ℕ → ℕ → Bool
 are_told told a b = (a == b) && is_told told a
 
--- if the list is true at a number, both files have the same under it
+-- if the list is true at a number, both files have the same name under it
 pub record AreTold (same : List SymLine → List SymLine → ℕ → ℕ → Bool) (own other : List SymLine) (told : List Bool) : Type 0 where
   pub holds : (n : ℕ) → is_told told n ≡ true → same own other n n ≡ true
 
--- the same addresses; the same line of a file; the same ranges of a level; the same function called from the same line
+-- what is compared of two records: the addresses; the line and the file; the level and the ranges;
+-- the call and the called function
 abbrev pub same_run : ℕ → ℕ → ℕ → ℕ → Bool
 same_run address size start many = (address == start) && (size == many)
 

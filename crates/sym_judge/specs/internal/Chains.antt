@@ -28,7 +28,7 @@ Shown = List ℕ × (Option (List ℕ) × ℕ)
 abbrev pub shown : Call → Shown
 shown call = (call_name call, call_spot_of call)
 
--- the same for a call that is given by a file's numbers
+-- what is compared of a call that is given by a file's numbers
 abbrev pub shown_call : List SymLine → CallSpot → Shown
 shown_call own call = (unwrap_or (option_and_then (text_origin own) call.origin) (codes "<name omitted>"), spot_view own call.spot)
 
@@ -41,7 +41,7 @@ abbrev pub calls_of_tree : List SymLine → ChainTree → List Shown
 calls_of_tree own (One call) = shown_call own call ∷ []
 calls_of_tree own (Two front back) = calls_of_tree own front ++ calls_of_tree own back
 
--- the entry of a number, with the entries of the numbers in it, stores the chain of a tree
+-- in the list of entries, the number stands for the tree of a chain
 abbrev pub IsNumberOf : List Entry → ChainTree → ℕ → Type 0
 IsNumberOf entries (One call) n = slice_get entries n ≡ Some (entry.Call call)
 IsNumberOf entries (Two front back) n = (i : ℕ) × (j : ℕ) × (slice_get entries n ≡ Some (entry.Joined i j)) × IsNumberOf entries front i × IsNumberOf entries back j
@@ -52,18 +52,18 @@ pub record Means (own : List SymLine) (entries : List Entry) (n : ℕ) (calls : 
   pub number : IsNumberOf entries tree n
   pub are : calls ≡ calls_of_tree own tree
 
--- each number keeps its entry
+-- each number keeps its entry in the new list
 abbrev pub Keeps : List Entry → List Entry → Type 0
 Keeps old new = (n : ℕ) (e : Entry) → slice_get old n ≡ Some e → slice_get new n ≡ Some e
 
--- what a part says of the calls of some levels, and whether each level has one
+-- a part stands for the calls of some levels; `full` says whether each level has a call
 abbrev pub IsPart : List SymLine → List Entry → List Shown → Bool → ChainPart → Type 0
 IsPart own entries calls full Nothing = (calls ≡ []) × (full ≡ false)
 IsPart own entries calls full (Whole n) = Means own entries n calls × (full ≡ true)
 IsPart own entries calls full (Ended n) = Means own entries n calls × (full ≡ false)
 IsPart own entries calls full Unlike = Unit {0}
 
--- the call of the INLINE at a place, if there is one; below, the calls at some places
+-- the call of the INLINE at a place, if there is one; then the calls at several places
 abbrev pub calls_there : List SymLine → Option ℕ → List Shown
 calls_there lines place = option_map_or (λ place. shown (call_at lines place) ∷ []) place []
 
@@ -79,7 +79,7 @@ is_full (level ∷ levels) x = option_map_or (λ place. is_full levels x) (place
 pub record AreMapped (own lines : List SymLine) (entries : List Entry) (levels : List (Stepping (Option FirstItem))) (map : Stepping ChainPart) : Type 0 where
   pub parts : (x : ℕ) → x < 2 ^ 64 → IsPart own entries (shown_calls lines (chain_in levels x)) (is_full levels x) (value_at Nothing map x)
 
--- the same, whether or not each level has a call
+-- the part stands for these calls, whether or not each level has a call
 pub record IsPartOf (own : List SymLine) (entries : List Entry) (calls : List Shown) (part : ChainPart) : Type 0 where
   pub full : Bool
   pub is : IsPart own entries calls full part
@@ -104,7 +104,8 @@ pub record AreNumbered (own other : List SymLine) (mine theirs : List FuncChains
   pub first : AreFuncChains own own entries mine
   pub second : AreFuncChains own other entries theirs
 
--- what is known of functions that meet
+-- what is known of functions that meet, which means that they are the first of their files at some
+-- address
 pub record AreFuncMeetings (own other : List SymLine) (met : FuncMeetings) : Type 0 where
   pub pairs : AreFuncPairs own other met.pairs.items
   pub chains : AreNumbered own other met.own.items met.other.items

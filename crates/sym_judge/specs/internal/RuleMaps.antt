@@ -26,18 +26,19 @@ place_in i = record { line = i.index; rule = i.class }
 abbrev pub rule_in : Stepping (Option FirstItem) → ℕ → Option RulePlace
 rule_in map x = option_map place_in (value_at None map x)
 
--- the last of some rules that reaches an address
+-- the last of the items that contain an address
 unfoldable pub last_rule : List Stretch → ℕ → Option RulePlace
 last_rule items x = option_map place_of (find (λ s. reaches s x) (reverse items))
 
--- the rules that count at each address, followed by a rule that counts from an address on, or by those of a record
+-- the rules that count at each address, with one more rule, or with those of a record, which count
+-- from an address on
 abbrev pub with_rule : ℕ → RuleText → (ℕ → List RuleText) → ℕ → List RuleText
 with_rule start rule done x = done x ++ (if nat_le start x then rule ∷ [] else [])
 
 abbrev pub with_rules : ℕ → List RuleText → (ℕ → List RuleText) → ℕ → List RuleText
 with_rules start rules done x = done x ++ (if nat_le start x then rules else [])
 
--- at each address the last of some items has the words of a target's last rule
+-- at each address, the last of the items that contain it has the words of the target's last rule
 abbrev pub AreLast : List SymLine → Target → List Stretch → (ℕ → List RuleText) → Type 0
 AreLast lines t items done = (x : ℕ) → x < 2 ^ 64 → words_in lines (last_rule items x) ≡ rule_for t (done x)
 
@@ -48,14 +49,14 @@ counted lines init x = rules_at lines init ++ changes_until x (drop (init + 1) l
 pub record IsRuleMap (lines : List SymLine) (init : ℕ) (t : Target) (map : Stepping (Option FirstItem)) : Type 0 where
   pub rules : (x : ℕ) → x < 2 ^ 64 → words_in lines (rule_in map x) ≡ rule_for t (counted lines init x)
 
--- the rule of a register at an address, by the registers' maps
+-- the place of a register's rule at an address, by the map of the register
 unfoldable pub register_rule : List (Stepping (Option FirstItem)) → ℕ → ℕ → Option RulePlace
 register_rule maps k x = option_and_then (λ (m : Stepping (Option FirstItem)). rule_in m x) (slice_get maps k)
 
 pub record AreRegisterMaps (lines : List SymLine) (init : ℕ) (maps : List (Stepping (Option FirstItem))) : Type 0 where
   pub rules : (k : ℕ) → k < length maps → (x : ℕ) → x < 2 ^ 64 → words_in lines (register_rule maps k x) ≡ rule_for (target.Reg k) (counted lines init x)
 
--- the list has the rules of the registers below a number
+-- the list has the rules of all registers below a number
 pub record AreRegisterRules (maps : List (Stepping (Option FirstItem))) (x count : ℕ) (registers : List (Option RulePlace)) : Type 0 where
   pub many : length registers ≡ 16
   pub rules : (k : ℕ) → k < count → get_or registers k None ≡ register_rule maps k x

@@ -1,4 +1,5 @@
--- Paths and lines of sources as the code stores them, and in what two answers differ.
+-- Paths and lines of sources as the code stores them, and the first aspect in which two answers
+-- differ.
 use Rattle.std.specs.Prelude.{ℕ, List, Option, None, Some, if◌then◌else◌}
 use Rattle.std.specs.Option.{option_and_then}
 use Rattle.std.specs.Str.{bytes_eq}

@@ -19,7 +19,7 @@ run_stops address size = if nat_lt (address + size) (2 ^ 64) then address ∷ (a
 abbrev pub extent_stops : Extent → List ℕ
 extent_stops e = run_stops e.address e.size
 
--- the stops of a record in one half
+-- the addresses of a record, in one half, at which something may change
 abbrev pub line_stops : Half → SymLine → List ℕ
 line_stops Names (record_line.Func many address size params name) = run_stops address size
 line_stops Names (record_line.Inline level line file origin ranges) = flat_map extent_stops ranges
@@ -45,7 +45,8 @@ pub record Compared : Type 0 where
   pub own : List SymLine
   pub other : List SymLine
 
--- an address at or above one at which the files differ is not looked at; for any other, the ruling takes what is found there
+-- an address at or above that of the ruling is not looked at; for any other, the ruling becomes
+-- what is found there
 abbrev pub is_settled : Ruling → ℕ → Bool
 is_settled Yes x = false
 is_settled (No address aspect) x = nat_le address x
@@ -61,7 +62,7 @@ unfoldable pub with_stops : Half → List SymLine → List SymLine → Ruling �
 with_stops half own other ruling [] = ruling
 with_stops half own other ruling (x ∷ stops) = with_stops half own other (with_stop half own other ruling x) stops
 
--- all stops of two files
+-- all addresses of two files at which something may change
 abbrev pub all_stops : Half → List SymLine → List SymLine → List ℕ
 all_stops half own other = 0 ∷ (stops_of half own ++ stops_of half other)
 
@@ -69,11 +70,11 @@ all_stops half own other = 0 ∷ (stops_of half own ++ stops_of half other)
 unfoldable pub half_ruling : Half → List SymLine → List SymLine → Ruling
 half_ruling half own other = with_stops half own other Yes (all_stops half own other)
 
--- the stops at which the files may differ
+-- of these addresses, those at which the files may differ
 abbrev pub doubted : Stepping Bool → List ℕ → List ℕ
 doubted doubts stops = filter (value_at false doubts) stops
 
--- the ruling with the lesser address; if the addresses are equal, the first
+-- of two rulings, the one with the lesser address; if the addresses are equal, the first one
 abbrev pub sooner : Ruling → Ruling → Ruling
 sooner Yes b = b
 sooner (No x p) Yes = No x p

@@ -36,13 +36,14 @@ pub record IsTable (lines : List SymLine) (rules : List RuleText) (table : RuleT
   pub many : length table.registers ≡ 16
   pub registers : (k : ℕ) → k < 16 → words_in lines (get_or table.registers k None) ≡ rule_for (target.Reg k) rules
 
--- a table of the rules at an address that has rules
+-- a table of the rules that count at an address, if an INIT covers it
 pub record IsTableAt (lines : List SymLine) (x : ℕ) (table : RuleTable) : Type 0 where
   pub rules : List RuleText
   pub is : text_rules lines x ≡ Some rules
   pub table_is : IsTable lines rules table
 
--- a table of the rules of an INIT and a prefix of its changes; the other changes start at a place
+-- a table of the rules of an INIT and of the first of its changes; the other changes begin at a
+-- place
 pub record IsTableUpTo (lines : List SymLine) (x place : ℕ) (table : RuleTable) : Type 0 where
   pub done : List RuleText
   pub is : text_rules lines x ≡ Some (done ++ changes_until x (drop place lines))
