@@ -45,7 +45,7 @@ const SECTIONS: [(&str, &[u8], &[u64], &[u8], Option<Reason>); 3] = [
     ("a restore alone", RESTORING, &[], b"", Some(Reason::State)),
 ];
 
-/// What is refused.
+/// The result, or the reason for a refusal; an error only if memory ran out.
 fn why<T>(answer: Result<T, Stop<Reason>>) -> Result<Result<T, Reason>, OutOfMemory> {
     match answer {
         Ok(value) => Ok(Ok(value)),

@@ -1,4 +1,4 @@
--- Lemmas on the last run that holds an address, by the stretches of runs.
+-- The last run that contains an address, found by the stretches of runs.
 use Rattle.std.proofs.Common.{◌≡◌, ◌-◌, ◌<◌, ◌≤◌, ◌^◌, ◌++◌, ℕ, zero, suc, Bool, true, false, cond, List, [], ◌∷◌, length, get_or, take, Option, None, Some, refl, sym, ap, ◌∙◌, arith, append_assoc, append-nil}
 use Rattle.std.specs.List.{slice_get}
 use Rattle.std.specs.Option.{option_map, option_map_or, option_and_then, option_or}
@@ -15,7 +15,7 @@ use Rattle.cfi_eval.specs.internal.Rising.{byte_in}
 use Rattle.cfi_eval.specs.internal.Finders.{run_stretch, stretches_to, byte_of, IsRunMap}
 use Rattle.cfi_eval.proofs.MemoryLemmas.{last_found}
 
--- run by run, from the last on
+-- The stretches, made run by run from the last on.
 pub stretches_more : (runs : List MemRun) (place : ℕ) (run : MemRun) (done next all : List Stretch) → 0 < place → place ≤ length runs → run ≡ get_or runs (place - 1) run → done ++ stretches_to place runs ≡ all → next ≡ done ++ run_stretch (place - 1) run
     → next ++ stretches_to (place - 1) runs ≡ all
 stretches_more runs zero run done next all some l is h n = absurd (omega arith)
@@ -32,11 +32,10 @@ pub stretches_all : (runs : List MemRun) (place : ℕ) (done all : List Stretch)
 stretches_all runs zero done all l h = sym (append-nil done) ∙ h
 stretches_all runs (suc place) done all l h = absurd (omega arith)
 
--- a run has the addresses of its stretch
+-- A run has the same addresses as its stretch.
 one_run : (n : ℕ) (run : MemRun) (x : ℕ) → x < 2 ^ 64 → index_at (run_stretch n run) x ≡ cond (holds x run) (Some n) None
 one_run n run x l = cut_at n run.start (length run.bytes) x l
 
--- the byte that the run of an index has
 abbrev byte_by : ℕ → List MemRun → Option ℕ → Option ℕ
 byte_by a runs found = option_and_then (byte_of a runs) found
 

@@ -1,4 +1,4 @@
--- Lemmas on the INIT whose rules count at an address.
+-- The INIT whose rules apply at an address.
 use Rattle.std.proofs.Common.{◌≡◌, ◌+◌, ◌<◌, ◌≤◌, ℕ, zero, suc, ltb, cond, Bool, true, false, not, inl, inr, List, [], ◌∷◌, ◌++◌, length, get_or, drop, None, Some, Result, Ok, Err, refl, sym, ap, ◌∙◌, arith}
 use Rattle.std.proofs.lemmas.Bool.{cases_lt, lt-ltb}
 use Rattle.std.proofs.lemmas.List.Quantifiers.{position-Some}
@@ -16,13 +16,13 @@ use Rattle.cfi_eval.specs.TextValue.{frame_of, text_frame}
 use Rattle.cfi_eval.specs.TextRules.{covers, text_rules, changes_until}
 use Rattle.cfi_eval.specs.Inits.{is_init_at, init_place}
 
--- a record that is no INIT over the address
+-- A record that is not an INIT that covers the address is skipped.
 pub passed_over : (x : ℕ) (line : SymLine) (lines : List SymLine) → is_init_at x line ≡ false → text_rules (line ∷ lines) x ≡ text_rules lines x
 unfolding text_rules
 passed_over x (Init address size rules) lines h = rw h refl
 passed_over x _ lines h = refl
 
--- and one that is
+-- An INIT that covers the address.
 pub counted : (x : ℕ) (line : SymLine) (lines : List SymLine) (address size : ℕ) (rules : List RuleText) → line ≡ Init address size rules → is_init_at x line ≡ true
     → text_rules (line ∷ lines) x ≡ Some (rules ++ changes_until x lines)
 unfolding text_rules
@@ -37,7 +37,7 @@ rules_at x (line ∷ lines) zero d address size rules l h before e = counted x l
 rules_at x (line ∷ lines) (suc i) d address size rules l h before e =
     passed_over x line lines (before 0 (omega arith)) ∙ rules_at x lines i d address size rules (omega arith) h (λ k lt. before (suc k) (omega arith)) e
 
--- the first of them counts
+-- The rules are those of the first INIT that covers the address.
 pub init_rules : (lines : List SymLine) (x i : ℕ) (line : SymLine) (address size : ℕ) (rules : List RuleText) → init_place lines x ≡ Some i → line ≡ get_or lines i line → line ≡ Init address size rules
     → text_rules lines x ≡ Some (rules ++ changes_until x (drop (i + 1) lines))
 unfolding init_place
@@ -54,7 +54,7 @@ init_within file lines x i same h =
     let long : length lines ≡ length file = ap length same in
     omega arith
 
--- what is said of a record that is no INIT
+-- The record is not an INIT.
 abbrev pub IsNoInit : SymLine → Type 0
 IsNoInit line = (address size : ℕ) (rules : List RuleText) → line ≡ Init address size rules → ⊥
 
@@ -66,7 +66,7 @@ pub init_is_init : (lines : List SymLine) (x i : ℕ) (line : SymLine) → init_
 unfolding init_place
 init_is_init lines x i line h e none = no_init x line none (ap (is_init_at x) e ∙ (position-Some (is_init_at x) lines i line h).1)
 
--- where there is none, there are no rules
+-- Without an INIT that covers the address there are no rules.
 none_first : (x : ℕ) (line : SymLine) (lines : List SymLine) (b : Bool) → is_init_at x line ≡ b → length (line ∷ lines) ≤ cond (not b) (1 + position_or_len (is_init_at x) lines) 0
     → (length lines ≤ position_or_len (is_init_at x) lines → text_rules lines x ≡ None) → text_rules (line ∷ lines) x ≡ None
 none_first x line lines true e h later = absurd (omega arith)
@@ -87,7 +87,7 @@ pub no_rules : (lines : List SymLine) (x : ℕ) → init_place lines x ≡ None 
 unfolding init_place
 no_rules lines x h = none_at x lines (none_there x lines (position_or_len (is_init_at x) lines) h)
 
--- the frame by those rules
+-- The frame at an address, given its rules.
 pub frame_is : (lines file : List SymLine) (x : ℕ) (regs : Regs) (memory : List MemRun) (rules : List RuleText) (r : Result Frame OutOfMemory) → lines ≡ file → text_rules lines x ≡ Some rules
     → IfOk r (λ frame. frame ≡ frame_of regs memory rules) → IfOk r (λ frame. text_frame file x regs memory ≡ Some frame)
 unfolding text_frame

@@ -1,4 +1,5 @@
--- Lemmas on bytes of memory: in the last run that holds an address, and by halves where runs ascend.
+-- Bytes of memory: in the last run that contains an address, and by binary search if the runs
+-- ascend.
 use Rattle.std.proofs.Common.{◌≡◌, ◌+◌, ◌-◌, ◌<◌, ◌≤◌, ℕ, zero, suc, leb, true, false, List, [], ◌∷◌, ◌++◌, length, get_or, take, drop, Option, None, Some, refl, sym, ap, ◌∙◌, arith}
 use Rattle.std.proofs.lemmas.Bool.{and_parts, and_from, and_left, and_right, leb-true, le-leb, lt-leb, le-ltb}
 use Rattle.std.proofs.lemmas.List.{drop_more, take_more, take_all, at_drop_all}
@@ -11,20 +12,19 @@ use Rattle.cfi_eval.specs.Bytes.{byte_at, holds}
 use Rattle.cfi_eval.specs.internal.Rising.{rise_from, byte_in, end_of, byte_behind}
 use Rattle.cfi_eval.proofs.OptionLemmas.{or_none, or_assoc}
 
--- one more run at the end
 pub byte_push : (xs : List MemRun) (run : MemRun) (a : ℕ) → byte_at (xs ++ run ∷ []) a ≡ option_or (byte_in a run) (byte_at xs a)
 unfolding byte_at
 byte_push [] run a = sym (or_none (byte_in a run))
 byte_push (x ∷ xs) run a = ap (λ o. option_or o (byte_in a x)) (byte_push xs run a) ∙ or_assoc (byte_in a run) (byte_at xs a) (byte_in a x)
 
--- what a run that begins above an address, or ends at or before it, says of it
+-- A run that begins above an address, or ends at or before it, does not contain it.
 pub above_byte : (a : ℕ) (run : MemRun) → a < run.start → byte_in a run ≡ None
 above_byte a run h = let e : holds a run ≡ false = and_left _ _ (lt-leb run.start a h) in rw e
 
 pub below_byte : (a : ℕ) (run : MemRun) → end_of run ≤ a → byte_in a run ≡ None
 below_byte a run h = let e : holds a run ≡ false = and_right _ _ (le-ltb a (end_of run) h) in rw e
 
--- runs that ascend from above an address on do not hold it
+-- Runs that ascend from above an address on do not contain it.
 pub rise_above : (low a : ℕ) (runs : List MemRun) → rise_from low runs ≡ true → a < low → byte_at runs a ≡ None
 unfolding byte_at rise_from
 rise_above low a [] h l = refl
@@ -35,7 +35,6 @@ rise_above low a (run ∷ runs) h l =
     let here : byte_in a run ≡ None = above_byte a run (omega arith) in
     rw (behind, here)
 
--- runs that ascend may be said to begin lower
 pub rise_lower : (low lower : ℕ) (runs : List MemRun) → rise_from low runs ≡ true → lower ≤ low → rise_from lower runs ≡ true
 unfolding rise_from
 rise_lower low lower [] h l = refl
@@ -44,7 +43,6 @@ rise_lower low lower (run ∷ runs) h l =
     let start : low ≤ run.start = leb-true _ _ parts.0 in
     and_from _ _ (le-leb lower run.start (omega arith)) parts.1
 
--- none of them begins lower
 pub rise_start : (low : ℕ) (runs : List MemRun) (j : ℕ) (d : MemRun) → rise_from low runs ≡ true → j < length runs → low ≤ (get_or runs j d).start
 unfolding rise_from
 rise_start low [] j d h l = absurd (omega arith)
@@ -55,7 +53,7 @@ rise_start low (run ∷ runs) (suc j) d h l =
     let later = rise_start (end_of run) runs j d parts.1 (omega arith) in
     omega arith
 
--- so their starts do not fall
+-- The starts of runs that ascend do not descend.
 pub rise_ordered : (low : ℕ) (runs : List MemRun) → rise_from low runs ≡ true → IsNonDecreasingBy (λ run. run.start) runs
 unfolding rise_from
 rise_ordered low [] h i j d le l = absurd (omega arith)
@@ -67,7 +65,7 @@ rise_ordered low (run ∷ runs) h (suc i) zero d le l = absurd (omega arith)
 rise_ordered low (run ∷ runs) h (suc i) (suc j) d le l =
     rise_ordered (end_of run) runs (and_parts (leb low run.start) (rise_from (end_of run) runs) h).1 i j d (omega arith) (omega arith)
 
--- where runs ascend, the last of those that begin at or before an address decides
+-- If runs ascend, the last of those that begin at or before an address decides.
 pub byte_by_halves : (low a : ℕ) (runs : List MemRun) (n : ℕ) → rise_from low runs ≡ true → n ≤ length runs
     → ((k : ℕ) (d : MemRun) → k < n → (get_or runs k d).start ≤ a) → ((k : ℕ) (d : MemRun) → n ≤ k → k < length runs → a < (get_or runs k d).start)
     → byte_at runs a ≡ byte_behind n a runs
@@ -89,7 +87,7 @@ byte_by_halves low a (run ∷ runs) (suc (suc n)) h l before behind =
     let later : byte_at runs a ≡ byte_behind (suc n) a runs = byte_by_halves (end_of run) a runs (suc n) parts.1 (omega arith) (λ k d lt. before (suc k) d (omega arith)) (λ k d le lt. behind (suc k) d (omega arith) (omega arith)) in
     rw (later, here) (or_none (byte_behind (suc n) a runs))
 
--- the test of runs one after another
+-- The test of the runs one after another.
 pub rise_not : (runs : List MemRun) (i low : ℕ) (run : MemRun) (start : ℕ) → i < length runs → run ≡ get_or runs i run → start ≡ run.start → start < low → false ≡ rise_from low (drop i runs)
 unfolding rise_from
 rise_not runs i low run start l e s h =
@@ -108,7 +106,7 @@ pub rise_all : (runs : List MemRun) (i low : ℕ) → length runs ≤ i → true
 unfolding rise_from
 rise_all runs i low h = sym (at_drop_all (rise_from low) runs i h)
 
--- the search from the last run on
+-- The search from the last run on.
 pub last_start : (runs : List MemRun) (a : ℕ) → byte_at runs a ≡ byte_at (take (length runs) runs) a
 last_start runs a = ap (λ r. byte_at r a) (sym (take_all (length runs) runs (omega arith)))
 
@@ -134,7 +132,7 @@ unfolding byte_at
 last_none runs a zero h = refl
 last_none runs a (suc place) h = absurd (omega arith)
 
--- the run that decides, as the code finds it
+-- The run that decides, as the code finds it.
 pub behind_none : (runs : List MemRun) (a n : ℕ) → n ≡ 0 → byte_at runs a ≡ byte_behind n a runs → None ≡ byte_at runs a
 behind_none runs a zero e h = sym h
 behind_none runs a (suc n) e h = absurd (omega arith)

@@ -1,4 +1,4 @@
--- Lemmas on options.
+-- Lemmas on values that may be missing.
 use Rattle.std.proofs.Common.{◌≡◌, Option, None, Some, refl, ap}
 use Rattle.std.specs.Option.{option_or, option_map}
 
@@ -17,7 +17,6 @@ map_map g f (Some x) = refl
 pub map_none : {A B : Type 0} (f : A → B) (x : Option A) → x ≡ None → option_map f x ≡ None
 map_none f x h = ap (option_map f) h
 
--- two functions that are the same
 pub map_alike : {A B : Type 0} (f g : A → B) (x : Option A) → ((a : A) → f a ≡ g a) → option_map f x ≡ option_map g x
 map_alike f g None h = refl
 map_alike f g (Some x) h = ap Some (h x)

@@ -1,4 +1,4 @@
--- Lemmas on the rules of a target.
+-- The last rule for a target.
 use Rattle.std.proofs.Common.{◌≡◌, ◌+◌, ◌<◌, ◌≤◌, ℕ, List, [], ◌∷◌, ◌++◌, length, get_or, drop, Option, refl, sym, ap, ◌∙◌}
 use Rattle.std.proofs.lemmas.Bool.{le-leb, lt-leb}
 use Rattle.std.proofs.lemmas.List.{drop_more, drop_all}
@@ -12,7 +12,7 @@ use Rattle.cfi_eval.specs.TextRules.{rule_for, changes_until}
 use Rattle.cfi_eval.specs.internal.Tables.{rule_in}
 use Rattle.cfi_eval.proofs.OptionLemmas.{or_none, or_assoc}
 
--- later rules come before earlier ones
+-- Later rules override earlier ones.
 pub rule_append : (t : Target) (xs ys : List RuleText) → rule_for t (xs ++ ys) ≡ option_or (rule_for t ys) (rule_for t xs)
 unfolding rule_for
 rule_append t [] ys = sym (or_none (rule_for t ys))
@@ -22,12 +22,12 @@ pub rule_push : (t : Target) (xs : List RuleText) (x : RuleText) → rule_for t 
 unfolding rule_for
 rule_push t xs x = rule_append t xs (x ∷ [])
 
--- the records behind an INIT, one after another
+-- The records after an INIT, one after another.
 pub changes_start : (t : Target) (x : ℕ) (first : List RuleText) (behind : List SymLine) (found : Option (List Token)) → found ≡ rule_for t first
     → rule_for t (first ++ changes_until x behind) ≡ option_or (rule_for t (changes_until x behind)) found
 changes_start t x first behind found e = rw e (rule_append t first (changes_until x behind))
 
--- what is said of a record that is no change
+-- The record is not a change.
 abbrev pub IsNoChange : SymLine → Type 0
 IsNoChange line = (address : ℕ) (rules : List RuleText) → line ≡ Change address rules → ⊥
 
@@ -47,7 +47,7 @@ pub changes_end : (t : Target) (x : ℕ) (behind : List SymLine) (i : ℕ) (foun
 unfolding rule_for changes_until
 changes_end t x behind i found h = rw (drop_all i behind h) refl
 
--- a change up to the address
+-- A change at or below the address.
 pub change_counts : (t : Target) (x : ℕ) (behind : List SymLine) (i : ℕ) (line : SymLine) (start : ℕ) (rules : List RuleText) (found : Option (List Token)) → i < length behind → line ≡ get_or behind i line
     → line ≡ Change start rules → start ≤ x
     → option_or (rule_for t (changes_until x (drop i behind))) found ≡ option_or (rule_for t (changes_until x (drop (i + 1) behind))) (option_or (rule_for t rules) found)
@@ -56,7 +56,7 @@ change_counts t x behind i line start rules found l e c h =
     let now : drop i behind ≡ Change start rules ∷ drop (i + 1) behind = drop_more behind i line l ∙ ap (λ s. s ∷ drop (i + 1) behind) (sym e ∙ c) in
     rw (now, le-leb start x h, rule_append t rules (changes_until x (drop (i + 1) behind))) (or_assoc (rule_for t (changes_until x (drop (i + 1) behind))) (rule_for t rules) found)
 
--- and one above it
+-- A change above the address.
 pub change_waits : (t : Target) (x : ℕ) (behind : List SymLine) (i : ℕ) (line : SymLine) (start : ℕ) (rules : List RuleText) (found : Option (List Token)) → i < length behind → line ≡ get_or behind i line
     → line ≡ Change start rules → x < start
     → option_or (rule_for t (changes_until x (drop i behind))) found ≡ option_or (rule_for t (changes_until x (drop (i + 1) behind))) found

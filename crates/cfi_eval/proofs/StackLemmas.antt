@@ -1,4 +1,4 @@
--- Lemmas on stacks of values, and on words done one after another.
+-- Stacks of values, and words that are evaluated one after another.
 use Rattle.std.proofs.Common.{◌≡◌, ℕ, ◌+◌, ◌<◌, ◌≤◌, true, false, List, [], ◌∷◌, ◌++◌, length, get_or, drop, reverse, Option, Result, Ok, Err, refl, sym, ap, ◌∙◌}
 use Rattle.std.proofs.lemmas.List.{drop_more, drop_all, reverse-append}
 use Rattle.sym_rules.specs.declared.rules.Token.{Token}
@@ -12,7 +12,7 @@ use Rattle.cfi_eval.specs.declared.outcome.Outcome.TheVariants.{Undefined, Faile
 use Rattle.cfi_eval.specs.Postfix.{on_one, on_two, with_token, or_failed, postfix_from, rule_value, one_value}
 use Rattle.cfi_eval.specs.internal.Stacks.{HasNoTwo, HasNone, is_undefined}
 
--- where there is none, there are no two
+-- An empty stack does not have two values.
 none_no_two_of : (stack : List ℕ) → ((sign : ℕ → Result ℕ Cause) → on_one sign stack ≡ Err cause.Stack) → (sign : ℕ → ℕ → Result ℕ Cause) → on_two sign stack ≡ Err cause.Stack
 none_no_two_of [] h sign = refl
 none_no_two_of (v ∷ stack) h sign = let no : Ok (0 ∷ stack) ≡ Err cause.Stack = h (λ w. Ok 0) in cc
@@ -20,7 +20,7 @@ none_no_two_of (v ∷ stack) h sign = let no : Ok (0 ∷ stack) ≡ Err cause.St
 pub none_no_two : (stack : List ℕ) → HasNone stack → HasNoTwo stack
 none_no_two stack h sign = none_no_two_of (reverse stack) h sign
 
--- nor where there is one alone
+-- A stack of one value does not have two.
 one_no_two_of : (stack : List ℕ) → ((sign : ℕ → Result ℕ Cause) → on_one sign stack ≡ Err cause.Stack) → (b : ℕ) (sign : ℕ → ℕ → Result ℕ Cause) → on_two sign (b ∷ stack) ≡ Err cause.Stack
 one_no_two_of [] h b sign = refl
 one_no_two_of (v ∷ stack) h b sign = let no : Ok (0 ∷ stack) ≡ Err cause.Stack = h (λ w. Ok 0) in cc
@@ -28,7 +28,7 @@ one_no_two_of (v ∷ stack) h b sign = let no : Ok (0 ∷ stack) ≡ Err cause.S
 pub one_no_two : (stack below : List ℕ) (b : ℕ) → reverse stack ≡ b ∷ reverse below → HasNone below → HasNoTwo stack
 one_no_two stack below b e h sign = rw e (one_no_two_of (reverse below) h b sign)
 
--- a rule is done word by word, but for `.undef` alone
+-- A rule is evaluated word by word, unless `.undef` is its only word.
 pub rule_undefined : (regs : Regs) (memory : List MemRun) (cfa : Option Outcome) (tokens : List Token) → is_undefined tokens ≡ true → rule_value regs memory cfa tokens ≡ Undefined
 unfolding rule_value
 rule_undefined regs memory cfa [] h = cc
@@ -41,7 +41,7 @@ rule_defined regs memory cfa [] h = refl
 rule_defined regs memory cfa (Undef ∷ []) h = cc
 rule_defined regs memory cfa (_ ∷ _) h = refl
 
--- one word
+-- One more word.
 pub words_more : (regs : Regs) (memory : List MemRun) (cfa : Option Outcome) (tokens : List Token) (i : ℕ) (token : Token) (stack next : List ℕ) → i < length tokens → token ≡ get_or tokens i token
     → with_token regs memory cfa token stack ≡ Ok next → postfix_from regs memory cfa (drop i tokens) stack ≡ postfix_from regs memory cfa (drop (i + 1) tokens) next
 unfolding postfix_from
@@ -60,6 +60,5 @@ pub words_end : (regs : Regs) (memory : List MemRun) (cfa : Option Outcome) (tok
 unfolding postfix_from
 words_end regs memory cfa tokens i stack l = rw (drop_all i tokens l) refl
 
--- a value on top
 pub push_reversed : (stack : List ℕ) (v : ℕ) → v ∷ reverse stack ≡ reverse (stack ++ v ∷ [])
 push_reversed stack v = sym (reverse-append stack (v ∷ []))

@@ -1,4 +1,4 @@
--- Lemmas on tables of rules.
+-- Tables of rules by target.
 use Rattle.std.proofs.Common.{◌≡◌, ◌+◌, ◌<◌, ◌≤◌, ◌==◌, ◌++◌, nat_lt, ℕ, zero, suc, Bool, cond, true, false, List, [], ◌∷◌, length, get_or, set, take, drop, replicate, Option, None, Some, refl, sym, ap, subst, ◌∙◌, arith}
 use Rattle.std.proofs.lemmas.Bool.Decides.{nat_tests}
 use Rattle.std.proofs.lemmas.List.{take_more, take_all}
@@ -23,7 +23,7 @@ Table = List (Option (Bor (List Token)))
 abbrev pub Find : Type 0
 Find = Target → Option (List Token)
 
--- a table says the same by equal words
+-- A table is one for any function with the same values.
 pub table_same : (find other : Find) (table : Table) → ((t : Target) → find t ≡ other t) → IsTable find table → IsTable other table
 table_same find other table same h = λ t. go t (target_place t) (h t)
   where
@@ -43,7 +43,7 @@ table_none n = λ t. go (target_place t)
     go None = tt
     go (Some p) = none_there n p
 
--- equal targets have one place, and others have two
+-- Equal targets have the same place, and different targets different places.
 register_place : (a b : ℕ) → (a == b) ≡ true → target_place (Reg b) ≡ target_place (Reg a)
 register_place a b h = let same : b ≡ a = grind (arith, nat_tests) in ap (λ n. target_place (Reg n)) same
 
@@ -84,7 +84,7 @@ place_other (Reg a) (Reg b) p q h k s e =
 place_other (Reg a) (Other b) p q h k s e = cc
 place_other (Other a) t p q h k s e = cc
 
--- one more rule
+-- One more rule in a table.
 words_set : (table : Table) (p : ℕ) (words : Option (Bor (List Token))) → p < length table → words_at (set table p words) p ≡ option_copied words
 words_set [] p words l = absurd (omega arith)
 words_set (w ∷ table) zero words l = refl
@@ -119,7 +119,7 @@ rule_past find table rule at h = λ t. go t (same_target rule.target t) refl (ta
     go t true s (Some q) k old = let none : None ≡ Some q = at ∙ sym (place_same rule.target t s) ∙ k in cc
     go t false s (Some q) k old = rw s old
 
--- rule by rule: what is held behind so many first ones
+-- The invariant of `put_rules`: the rules that are left override those in the table.
 abbrev pub Puts : List RuleText → Table → Table → Type 0
 Puts rules old new = (find : Find) → IsTable find old → IsTable (λ t. option_or (rule_for t rules) (find t)) new
 
@@ -137,7 +137,7 @@ puts_more rules i rule old table next l is before put = λ find h.
 pub puts_all : (rules : List RuleText) (i : ℕ) (old table : Table) → length rules ≤ i → Puts (take i rules) old table → Puts rules old table
 puts_all rules i old table l h = subst (λ r. Puts r old table) (take_all i rules l) h
 
--- what a table holds of each target
+-- The words that a table has for each target.
 abbrev pub held : Table → Find
 held table t = option_and_then (words_at table) (target_place t)
 
@@ -148,7 +148,7 @@ is_held table = λ t. go (target_place t)
     go None = tt
     go (Some p) = refl
 
--- record by record: the rules that are left come before those that are held
+-- The invariant of `table_at`: the rules of the records that are left override those in the table.
 abbrev pub Leads : List RuleText → ℕ → List SymLine → ℕ → Table → Type 0
 Leads first x behind i table = (t : Target) → IfSome (target_place t) (λ p. rule_for t (first ++ changes_until x behind) ≡ option_or (rule_for t (changes_until x (drop i behind))) (words_at table p))
 
@@ -199,7 +199,7 @@ leads_waits first x behind i line start rules table l is c h leads = λ t. go t 
     go t None at = tt
     go t (Some p) at = at ∙ change_waits t x behind i line start rules (words_at table p) l is c h
 
--- what stands at the place of a target
+-- The words at the place of a target.
 pub table_at : (find : Find) (table : Table) (t : Target) (p : ℕ) (words : Option (Bor (List Token))) → IsTable find table → Some p ≡ target_place t → p < length table → words ≡ get_or table p words → option_copied words ≡ find t
 table_at find table t p words h at l is =
     let there : slice_get table p ≡ Some words = slice_get-get_or table p words l ∙ ap Some (sym is) in

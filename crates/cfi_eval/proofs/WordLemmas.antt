@@ -1,4 +1,4 @@
--- Lemmas on words of memory, which are read from the lowest byte on.
+-- Words of memory, read from the lowest byte on.
 use Rattle.std.proofs.Common.{◌≡◌, ◌+◌, ◌-◌, ◌*◌, ◌^◌, ◌%◌, ◌<◌, ◌≤◌, ℕ, suc, ltb, cond, Bool, true, false, List, Option, None, Some, refl, sym, ap, ◌∙◌, arith, add-zero, add_assoc, lit<, inl, inr, Fits, w64}
 use Rattle.std.proofs.Math.Nat.{mul-le-mul_right, pow-le-pow_right}
 use Rattle.std.proofs.lemmas.Nat.{pow-add, shl_whole}
@@ -8,7 +8,7 @@ use Rattle.cfi_eval.specs.declared.memory.MemRun.{MemRun}
 use Rattle.cfi_eval.specs.Bytes.{byte_at, number_at, word_at}
 use Rattle.cfi_eval.proofs.OptionLemmas.{map_map, map_same, map_alike, map_none}
 
--- a number by its lowest byte
+-- A number by its lowest byte.
 pub number_known : (runs : List MemRun) (n a byte : ℕ) → a < 2 ^ 64 → Some byte ≡ byte_at runs a → number_at runs (suc n) a ≡ option_map (λ high. byte + 256 * high) (number_at runs n (a + 1))
 unfolding number_at
 number_known runs n a byte l h = rw (lt-ltb a (2 ^ 64) l, sym h) refl
@@ -25,7 +25,7 @@ pub number_past : (runs : List MemRun) (n a : ℕ) → 2 ^ 64 ≤ a → number_a
 unfolding number_at
 number_past runs n a l = rw (le-ltb a (2 ^ 64) l) refl
 
--- what the bytes before a place say of the word
+-- The word that the bytes read so far give.
 pub record Partly (runs : List MemRun) (a word place : ℕ) : Type 0 where
   pub small : word < 2 ^ (8 * place)
   pub value : word_at runs a ≡ option_map (λ high. word + 2 ^ (8 * place) * high) (number_at runs (8 - place) (a + place))
@@ -37,7 +37,7 @@ partly_none runs a = record {
   value = sym (map_same (λ high. 0 + 1 * high) (number_at runs 8 (a + 0)) (λ h. omega arith) ∙ ap (number_at runs 8) (add-zero a));
 }
 
--- a byte that is there
+-- The next byte is known.
 times_256 : (place : ℕ) → 2 ^ (8 * (place + 1)) ≡ 2 ^ (8 * place) * 256
 times_256 place = let e : 8 * (place + 1) ≡ 8 * place + 8 = omega arith in ap (λ n. 2 ^ n) e ∙ pow-add 2 (8 * place) 8
 
@@ -69,7 +69,7 @@ partly_more runs a word place byte h p l b e = record {
       ∙ ap (λ v. (word + byte * 2 ^ (8 * place) % 2 ^ 64) + v * high) (sym (times_256 place)));
 }
 
--- one that is not, or whose address is none
+-- The next byte is not known, or its address is not below 2^64.
 pub partly_unknown : (runs : List MemRun) (a word place : ℕ) → Partly runs a word place → place < 8 → None ≡ byte_at runs (a + place) → None ≡ word_at runs a
 partly_unknown runs a word place h p e =
     let left : 8 - place ≡ suc (8 - (place + 1)) = omega arith in
@@ -83,14 +83,13 @@ partly_past runs a word place h p l =
 times_0 : (word p : ℕ) → word + p * 0 ≡ word
 times_0 word p = omega arith
 
--- all of them
+-- All eight bytes were read.
 pub partly_all : (runs : List MemRun) (a word place : ℕ) → Partly runs a word place → place ≡ 8 → Some word ≡ word_at runs a
 unfolding number_at
 partly_all runs a word place h e =
     let none : 8 - place ≡ 0 = omega arith in
     sym (h.value ∙ ap (λ n. option_map (λ high. word + 2 ^ (8 * place) * high) (number_at runs n (a + place))) none ∙ ap Some (times_0 word (2 ^ (8 * place))))
 
--- what the code knows of an address past the last, and of the sum
 pub above_from : (a place from : ℕ) → from ≡ place → (a + from < 2 ^ 64 → ⊥) → 2 ^ 64 ≤ a + place
 above_from a place from e h = elim (cases_lt (a + place) (2 ^ 64)) [ inl l ↦ absurd (h (omega arith)) | inr le ↦ le ]
 

@@ -1,4 +1,5 @@
--- Worked values of rules (Breakpad's symbol_files.md, "STACK CFI"): each sign, each failure, names, and words of memory.
+-- Worked examples of the values of rules (Breakpad's symbol_files.md, "STACK CFI"): each operator,
+-- each failure, names, and words of memory.
 use Rattle.std.proofs.Common.{◌≡◌, ◌^◌, ◌-◌, ◌+◌, lit<, ◌∙◌, List, [], ◌∷◌, ◌++◌, codes, replicate, Option, Some, None, Result, Ok, refl}
 use Prim.Native.String.{String}
 use lib.Count.{ones, ones_cat}
@@ -15,26 +16,26 @@ use Rattle.cfi_eval.specs.declared.outcome.Outcome.TheVariants.{Value, Undefined
 use Rattle.cfi_eval.specs.Bytes.{byte_at, word_at}
 use Rattle.cfi_eval.specs.Postfix.{multiple_of, rule_value}
 
--- the words of the first rule that a text of rules has
+-- The words of the first rule in a text.
 abbrev tokens_in : Result (List RuleText) TextKind → List Token
 tokens_in (Ok (rule ∷ rules)) = rule.tokens
 tokens_in _ = []
 
--- no register has a value, and rbx and rip have one
+-- No register has a value; only rbx and rip have one.
 abbrev none_known : Regs
 none_known = record { values = replicate 16 None; rip = None }
 
 abbrev some_known : Regs
 some_known = record { values = None ∷ None ∷ None ∷ Some 0x2000 ∷ replicate 12 None; rip = Some 0x401000 }
 
--- eight bytes at 1000, and eight at the last addresses
+-- Eight bytes at 1000, and the last eight bytes below 2^64.
 abbrev known : List MemRun
 known =
     record { start = 0x1000; bytes = 0x40 ∷ 0x00 ∷ 0xfe ∷ 0x7f ∷ 0 ∷ 0 ∷ 0 ∷ 0x80 ∷ [] }
     ∷ record { start = 0xfffffffffffffff8; bytes = 1 ∷ 2 ∷ 3 ∷ 4 ∷ 5 ∷ 6 ∷ 7 ∷ 8 ∷ [] }
     ∷ []
 
--- the value of a text of words, where the CFA is 7ffe0020, undefined, failed, or not there
+-- The value of the words in a text, for a CFA of 7ffe0020 or another one.
 value_by : Regs → Option Outcome → String → Outcome
 unfolding cfi_eval_computes
 value_by regs cfa words = rule_value regs known cfa (tokens_in (rules_at (codes ".ra: " ++ codes words)))
@@ -42,7 +43,7 @@ value_by regs cfa words = rule_value regs known cfa (tokens_in (rules_at (codes 
 value : String → Outcome
 value words = value_by some_known (Some (Value 0x7ffe0020)) words
 
--- each sign with two values
+-- Each operator with two values.
 sum_row : value "4 3 +" ≡ Value 7
 unfolding cfi_eval_computes value value_by
 sum_row = refl
@@ -67,7 +68,7 @@ multiple_row : value "1023 16 @" ≡ Value 0x3f0
 unfolding cfi_eval_computes value value_by
 multiple_row = refl
 
--- the first counts from below: a sign is done before those after it
+-- Operators are applied from left to right.
 order_row : value "16 4 2 - -" ≡ Value 14
 unfolding cfi_eval_computes value value_by
 order_row = refl
@@ -76,7 +77,7 @@ left_first_row : value "16 4 - 2 -" ≡ Value 10
 unfolding cfi_eval_computes value value_by
 left_first_row = refl
 
--- and with too few
+-- Operators with too few values.
 sum_of_none_row : value "+" ≡ Failed Stack
 unfolding cfi_eval_computes value value_by
 sum_of_none_row = refl
@@ -129,7 +130,7 @@ fetch_of_none_row : value "^" ≡ Failed Stack
 unfolding cfi_eval_computes value value_by
 fetch_of_none_row = refl
 
--- one value is left at the end
+-- Not exactly one value is left at the end.
 two_left_row : value "1 2" ≡ Failed Stack
 unfolding cfi_eval_computes value value_by
 two_left_row = refl
@@ -138,7 +139,7 @@ one_left_row : value "5" ≡ Value 5
 unfolding cfi_eval_computes value value_by
 one_left_row = refl
 
--- by 0, also where there is a failure behind
+-- Division by 0, which is found before a later failure.
 divide_row : value "7 0 /" ≡ Failed Divide
 unfolding cfi_eval_computes value value_by
 divide_row = refl
@@ -151,7 +152,7 @@ first_failure_row : value "7 0 / $none ^" ≡ Failed Divide
 unfolding cfi_eval_computes value value_by
 first_failure_row = refl
 
--- multiples of powers of two alone
+-- The second operand of `@` must be a power of two.
 align_0_row : value "1 0 @" ≡ Failed Align
 unfolding cfi_eval_computes value value_by
 align_0_row = refl
@@ -179,7 +180,7 @@ one_bit = refl
 align_top_row : multiple_of (2 ^ 64 - 1) (2 ^ 63) ≡ Ok (2 ^ 63)
 align_top_row = let one : ones (2 ^ 63) ≡ 1 = ones_cat 63 1 0 (lit< tt) ∙ one_bit in rw one refl
 
--- modulo 2^64, and unsigned
+-- Values are modulo 2^64 and unsigned.
 negative_row : value "-8" ≡ Value 0xfffffffffffffff8
 unfolding cfi_eval_computes value value_by
 negative_row = refl
@@ -208,7 +209,7 @@ remainder_unsigned_row : value "-8 3 %" ≡ Value 2
 unfolding cfi_eval_computes value value_by
 remainder_unsigned_row = refl
 
--- names
+-- Names.
 register_row : value "$rbx" ≡ Value 0x2000
 unfolding cfi_eval_computes value value_by
 register_row = refl
@@ -237,7 +238,7 @@ cfa_row : value ".cfa" ≡ Value 0x7ffe0020
 unfolding cfi_eval_computes value value_by
 cfa_row = refl
 
--- no value
+-- No value.
 undefined_row : value ".undef" ≡ Undefined
 unfolding cfi_eval_computes value value_by
 undefined_row = refl
@@ -254,7 +255,7 @@ undefined_twice_row : value ".undef .undef" ≡ Failed UnknownName
 unfolding cfi_eval_computes value value_by
 undefined_twice_row = refl
 
--- words of memory: all eight bytes are there, below 2^64
+-- Words of memory: all eight bytes must be known and below 2^64.
 word_row : value "4096 ^" ≡ Value 0x800000007ffe0040
 unfolding cfi_eval_computes value value_by
 word_row = refl
@@ -279,7 +280,7 @@ word_none_row : value "0 ^" ≡ Failed (Unreadable 0)
 unfolding cfi_eval_computes value value_by
 word_none_row = refl
 
--- the CFA inside its own rule, where it is undefined, and where it failed
+-- `.cfa` inside its own rule, with an undefined CFA, and with one that failed.
 cfa_own_row : value_by some_known None ".cfa 8 +" ≡ Failed UnknownName
 unfolding cfi_eval_computes value_by
 cfa_own_row = refl
@@ -292,7 +293,7 @@ cfa_failed_row : value_by some_known (Some (Failed (Missing 7))) ".cfa 8 +" ≡ 
 unfolding cfi_eval_computes value_by
 cfa_failed_row = refl
 
--- rip without a value, and the rules that need no CFA where it failed
+-- Rip without a value, and rules without `.cfa` if the CFA failed.
 rip_missing_row : value_by none_known None "$rip" ≡ Failed (Missing 16)
 unfolding cfi_eval_computes value_by
 rip_missing_row = refl
@@ -301,12 +302,13 @@ cfa_unused_row : value_by some_known (Some (Failed (Missing 7))) "$rbx" ≡ Valu
 unfolding cfi_eval_computes value_by
 cfa_unused_row = refl
 
--- no words at all
+-- There are no words.
 no_words_row : rule_value some_known known None [] ≡ Failed Stack
 unfolding cfi_eval_computes
 no_words_row = refl
 
--- runs that overlap: the last that holds an address counts; a run may be empty, and may pass the last address
+-- Runs that overlap: the last that contains an address counts. A run may be empty, and may reach
+-- beyond 2^64 - 1.
 abbrev overlapping : List MemRun
 overlapping =
     record { start = 0x10; bytes = replicate 8 1 }

@@ -1,4 +1,5 @@
--- The index of the INIT whose rules a symbol file has at an address (Breakpad's symbol_files.md, "STACK CFI INIT").
+-- The index of the INIT whose rules apply at an address (Breakpad's symbol_files.md, "STACK CFI
+-- INIT").
 use Rattle.std.specs.Prelude.{ℕ, Bool, false, List, Option}
 use Rattle.std.specs.List.{position}
 use Rattle.sym_records.specs.declared.line.SymLine.{SymLine}

@@ -1,4 +1,5 @@
--- Values that are numbers of 64 bits, as in a processor. The definitions of values also allow larger numbers.
+-- Values of registers and bytes of memory that are in range, as in a processor. The definitions of
+-- values also allow larger numbers.
 use Rattle.std.specs.Prelude.{◌≡◌, ℕ, ◌<◌, ◌^◌, List, Some, Ok}
 use Rattle.cfi_eval.specs.declared.registers.Regs.{Regs}
 use Rattle.cfi_eval.specs.declared.memory.MemRun.{MemRun}
@@ -15,7 +16,7 @@ AreWords regs = (register v : ℕ) → register_value regs register ≡ Ok v →
 abbrev pub AreBytes : List MemRun → Type 0
 AreBytes memory = (a b : ℕ) → byte_at memory a ≡ Some b → b < 256
 
--- the CFA is a number of 64 bits, or it failed; it is not undefined
+-- the CFA is a number of 64 bits, or its rule failed; it is not undefined
 abbrev pub IsKnown : Outcome → Type 0
 IsKnown (Value v) = v < 2 ^ 64
 IsKnown Undefined = ⊥

@@ -1,4 +1,5 @@
--- The rules that a symbol file has at an address (Breakpad's symbol_files.md, "STACK CFI INIT" and "STACK CFI").
+-- The rules that apply at an address in a symbol file (Breakpad's symbol_files.md, "STACK CFI INIT"
+-- and "STACK CFI").
 use Rattle.std.specs.Prelude.{ℕ, ◌+◌, ◌&&◌, nat_lt, nat_le, Bool, true, false, if◌then◌else◌, List, [], ◌∷◌, ◌++◌, ◌==◌, Option, None, Some}
 use Rattle.std.specs.Option.{option_or}
 use Rattle.std.specs.Str.{bytes_eq}
@@ -9,7 +10,8 @@ use Rattle.sym_rules.specs.declared.rules.Target.TheVariants.{Cfa, Ra, Reg, Othe
 use Rattle.sym_rules.specs.declared.rules.Token.{Token}
 use Rattle.sym_rules.specs.declared.rules.RuleText.{RuleText}
 
--- the rules of those STACK CFI records directly after an INIT that have an address of at most x
+-- the rules of the STACK CFI records at the start of the list, as far as their addresses are at or
+-- below x
 unfoldable pub changes_until : ℕ → List SymLine → List RuleText
 changes_until x [] = []
 changes_until x (Change address rules ∷ lines) = (if nat_le address x then rules else []) ++ changes_until x lines
@@ -33,7 +35,7 @@ same_target (Reg a) (Reg b) = a == b
 same_target (Other a) (Other b) = bytes_eq a b
 same_target _ _ = false
 
--- the words of the last rule with a target: a later rule overrides an earlier one
+-- the words of the last rule with a target; so a later rule overrides an earlier one
 unfoldable pub rule_for : Target → List RuleText → Option (List Token)
 rule_for t [] = None
 rule_for t (rule ∷ rules) = option_or (rule_for t rules) (if same_target rule.target t then Some rule.tokens else None)

@@ -1,5 +1,6 @@
--- What the rules of a symbol file give at an address, given registers and memory: the CFA first, then the caller's return address and registers
--- (Breakpad's symbol_files.md, "STACK CFI"; System V ABI for AMD64, section 3.2.1, for registers without a rule).
+-- The values that the rules of a symbol file give at an address, given registers and memory: first
+-- the CFA, then the caller's return address and registers (Breakpad's symbol_files.md, "STACK
+-- CFI"). Registers without a rule follow the System V ABI for AMD64, section 3.2.1.
 use Rattle.std.specs.Prelude.{ℕ, List, map, Option, None, Some, Result, Ok, Err}
 use Rattle.std.specs.List.{range_with_len}
 use Rattle.std.specs.Option.{option_map}
@@ -21,7 +22,8 @@ abbrev pub outcome_of : Result ℕ Cause → Outcome
 outcome_of (Ok v) = Value v
 outcome_of (Err why) = Failed why
 
--- the CFA; inside its own rule `.cfa` has no value, and without a rule the CFA is undefined
+-- the CFA, given the words of its rule. Inside this rule `.cfa` has no value; without a rule the
+-- CFA is undefined
 abbrev pub cfa_by : Regs → List MemRun → Option (List Token) → Outcome
 cfa_by regs memory None = Undefined
 cfa_by regs memory (Some tokens) = rule_value regs memory None tokens
@@ -29,7 +31,7 @@ cfa_by regs memory (Some tokens) = rule_value regs memory None tokens
 unfoldable pub text_cfa : Regs → List MemRun → List RuleText → Outcome
 text_cfa regs memory rules = cfa_by regs memory (rule_for Cfa rules)
 
--- the return address; without a rule it is undefined
+-- the return address, given the words of its rule; without a rule it is undefined
 abbrev pub ra_by : Regs → List MemRun → Outcome → Option (List Token) → Outcome
 ra_by regs memory cfa None = Undefined
 ra_by regs memory cfa (Some tokens) = rule_value regs memory (Some cfa) tokens
@@ -37,7 +39,8 @@ ra_by regs memory cfa (Some tokens) = rule_value regs memory (Some cfa) tokens
 unfoldable pub text_ra : Regs → List MemRun → List RuleText → Outcome
 text_ra regs memory rules = ra_by regs memory (text_cfa regs memory rules) (rule_for Ra rules)
 
--- a register without a rule: a register that a call preserves has its present value, rsp is the CFA, and nothing is known of the others
+-- the value of a register without a rule. A register that a call preserves has its present value,
+-- rsp is the CFA, and all others are undefined
 abbrev pub default_value : Regs → Outcome → Default → ℕ → Outcome
 default_value regs cfa KeepsValue register = outcome_of (register_value regs register)
 default_value regs cfa IsCfa register = cfa
@@ -58,6 +61,6 @@ frame_of regs memory rules = record {
   regs = map (text_register regs memory rules) (range_with_len 0 16);
 }
 
--- what the text gives at an address; nothing if no INIT covers it
+-- the values at an address, or `None` if no INIT covers it
 unfoldable pub text_frame : List SymLine → ℕ → Regs → List MemRun → Option Frame
 text_frame lines x regs memory = option_map (frame_of regs memory) (text_rules lines x)

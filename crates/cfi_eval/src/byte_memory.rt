@@ -1,9 +1,10 @@
-//! Memory, as the rules of frame records read it.
+//! Memory that the rules of frame records read.
 ghost use Rattle.std.specs.Prelude.{◌≡◌, List};
 ghost use Rattle.cfi_eval.specs.declared.memory.MemRun.{MemRun};
 ghost use Rattle.cfi_eval.specs.Bytes.{byte_at, word_at};
 
-/// The known part of memory, byte by byte. A contract sees it as runs of bytes; the last run that contains an address counts.
+/// The known part of memory, byte by byte. Contracts see it as runs of bytes, of which the last
+/// that contains an address counts.
 pub trait ByteMemory {
     ghost runs: { Self → List MemRun };
 

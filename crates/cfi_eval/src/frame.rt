@@ -1,4 +1,4 @@
-//! What the rules of a symbol file give at an address.
+//! The values that the rules of a symbol file give at an address.
 ghost use Rattle.std.specs.Prelude.{◌≡◌, ◌<◌, Some, IfOk};
 ghost use Rattle.sym_edges.specs.Abi.{is_kept, default_of};
 ghost use Rattle.cfi_eval.specs.Inits.{init_place};
@@ -14,7 +14,7 @@ use sym_edges::OutOfMemory;
 use sym_records::SymFile;
 use sym_rules::Target;
 
-/// The CFA.
+/// The value of the CFA.
 #[tactic(auto, unfolding(crate::specs::TextValue::text_cfa))]
 fn cfa_at<M: ByteMemory>(
     alloc: Global,
@@ -30,7 +30,7 @@ fn cfa_at<M: ByteMemory>(
     }
 }
 
-/// The return address.
+/// The value of the return address.
 #[tactic(auto, unfolding(crate::specs::TextValue::text_ra))]
 fn ra_at<M: ByteMemory>(
     alloc: Global,
@@ -65,7 +65,7 @@ fn outcome_of(value: Result<u64, Cause>) -> Outcome
     }
 }
 
-/// A register without a rule.
+/// The value of a register without a rule.
 #[tactic(auto, unfolding(sym_edges::specs::Abi::default_of))]
 fn default_value(regs: &Regs, cfa: Outcome, register: u8) -> Outcome
     ensures { result ≡ default_value regs.now cfa (default_of register) register }
@@ -79,7 +79,7 @@ fn default_value(regs: &Regs, cfa: Outcome, register: u8) -> Outcome
     }
 }
 
-/// A register.
+/// The value of a register.
 #[tactic(auto, unfolding(crate::specs::TextValue::text_register))]
 fn register_at<M: ByteMemory>(
     alloc: Global,
@@ -99,7 +99,8 @@ fn register_at<M: ByteMemory>(
     }
 }
 
-/// What rules give: the CFA, the return address and the caller's registers (Breakpad's symbol_files.md, "STACK CFI").
+/// The values that rules give: the CFA, the return address and the caller's registers (Breakpad's
+/// symbol_files.md, "STACK CFI").
 #[tactic(auto, unfolding(crate::specs::TextValue::frame_of))]
 pub fn frame_of<M: ByteMemory>(
     alloc: Global,
@@ -122,7 +123,7 @@ pub fn frame_of<M: ByteMemory>(
     })
 }
 
-/// What the text gives at an address, given the index of the first INIT that covers it.
+/// The values at an address, given the index of the first INIT that covers it.
 #[tactic(auto, unfolding(crate::specs::TextValue::text_frame))]
 pub fn frame_from<M: ByteMemory>(
     alloc: Global,
@@ -139,8 +140,9 @@ pub fn frame_from<M: ByteMemory>(
     frame_of(alloc, &rules, regs, memory)
 }
 
-/// What the text gives at an address (Breakpad's symbol_files.md, "STACK CFI"). The rules are those of the first INIT that covers it and of the
-/// changes directly after that INIT, up to the address; a later rule overrides an earlier one. `None` if no INIT covers it.
+/// The values at an address (Breakpad's symbol_files.md, "STACK CFI"). The rules are those of the
+/// first INIT that covers it and of the changes directly after that INIT, up to the address. A
+/// later rule overrides an earlier one. `None` if no INIT covers the address.
 pub fn frame_at<M: ByteMemory>(
     alloc: Global,
     file: &SymFile,

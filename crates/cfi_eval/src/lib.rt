@@ -1,12 +1,14 @@
-//! What the rules of frame records evaluate to (Breakpad's symbol_files.md, "STACK CFI"): the caller's registers at an address, given registers and
-//! memory.
+//! The values of the rules of frame records (Breakpad's symbol_files.md, "STACK CFI"): the caller's
+//! registers at an address, given registers and memory.
 //!
-//! `eval` gives the value of a rule's words, given `Regs` and a memory. `Memory` is a memory of runs of bytes; another type is a memory if it gives
-//! its byte at each address by `ByteMemory`. `init_at` finds the record whose rules a symbol file has at an address. `RulesAt` is these rules,
-//! overridden by the changes after that record. `frame_of` evaluates rules, and `frame_from` and `frame_at` evaluate those at an address.
+//! `eval` gives the value of a rule's words, given `Regs` and a memory. `Memory` is a memory made
+//! of runs of bytes; any other type that gives a byte for each address can be one (`ByteMemory`).
+//! `init_at` finds the record whose rules apply at an address, and `RulesAt` has these rules,
+//! overridden by the changes after that record. `frame_of` evaluates rules, and `frame_from` and
+//! `frame_at` evaluate those that apply at an address.
 #![tactic(auto)]
 
-// What the values depend on.
+// Registers and memory.
 mod byte_memory;
 mod memory;
 mod registers;

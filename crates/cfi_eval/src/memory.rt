@@ -1,4 +1,4 @@
-//! The known part of memory.
+//! The known part of memory, as runs of bytes.
 ghost use Rattle.std.specs.Prelude.{◌≡◌, ◌<◌, ◌≤◌, ◌^◌, ◌++◌, true, length, IfOk, OnOk};
 ghost use Rattle.step_maps.specs.Covers.{AreStretches};
 ghost use Rattle.cfi_eval.specs.Bytes.{byte_at};
@@ -11,21 +11,21 @@ use std::marker::Model;
 use step_maps::{FirstItem, StepMap, Stretch, first_items};
 use sym_edges::{ByteRun, OutOfMemory};
 
-/// Bytes of memory from an address on.
+/// Bytes of memory from the address `start` on.
 #[derive(Debug, Drop)]
 pub struct MemRun {
     pub start: u64,
     pub bytes: ByteRun,
 }
 
-/// How the run that contains an address is found.
+/// How the last run that contains an address is found.
 #[derive(Drop)]
 pub enum Finder {
     /// By binary search: the runs are ascending and disjoint.
     Rising,
-    /// By a map of the runs.
+    /// By a map from addresses to runs.
     Map { map: StepMap<Option<FirstItem>> },
-    /// By a scan.
+    /// By looking at each run.
     Scan,
 }
 
@@ -94,7 +94,7 @@ fn count_to(runs: &[MemRun], a: u64) -> usize
     runs.partition_point(|run| run.start <= a)
 }
 
-/// The byte at an address, if the runs are ascending and disjoint.
+/// The byte at an address, by binary search. The runs must be ascending and disjoint.
 #[tactic(auto, using(crate::proofs::MemoryLemmas::behind_none, crate::proofs::MemoryLemmas::behind_some))]
 fn byte_by_halves(runs: &[MemRun], a: u64) -> Option<u8>
     requires { rise_from 0 runs.now ≡ true }
@@ -107,7 +107,8 @@ fn byte_by_halves(runs: &[MemRun], a: u64) -> Option<u8>
     byte_in(&runs[behind - 1], a)
 }
 
-/// Adds the stretch of a run, cut off after the greatest address, if the run is not empty.
+/// Adds the stretch of addresses of a run, if the run is not empty. It ends at 2^64 - 1 at the
+/// latest.
 #[tactic(auto, using(step_maps::proofs::StretchLemmas::stretches_push))]
 fn push_run(stretches: &mut Vec<Stretch>, index: u32, run: &MemRun) -> Result<(), OutOfMemory>
     requires { AreStretches stretches.old.items }
@@ -127,7 +128,7 @@ fn push_run(stretches: &mut Vec<Stretch>, index: u32, run: &MemRun) -> Result<()
     Ok(())
 }
 
-/// The stretches of runs, that of the last run first.
+/// The stretches of runs, with that of the last run first.
 fn stretches_of(alloc: Global, runs: &[MemRun]) -> Result<Vec<Stretch>, OutOfMemory>
     requires { length runs.now < 2 ^ 32 }
     ensures same { IfOk result (λ stretches. stretches.items ≡ stretches_to (length runs.now) runs.now) }
@@ -140,7 +141,7 @@ fn stretches_of(alloc: Global, runs: &[MemRun]) -> Result<Vec<Stretch>, OutOfMem
     Ok(stretches)
 }
 
-/// How the runs are found: in n log n steps for n runs, however they overlap.
+/// Chooses how runs are found. The time for n runs is O(n log n), however they overlap.
 fn finder_of(alloc: Global, runs: &[MemRun]) -> Result<Finder, OutOfMemory>
     ensures { IfOk result (λ finder. IsFinder runs.now finder) }
 {
@@ -155,7 +156,7 @@ fn finder_of(alloc: Global, runs: &[MemRun]) -> Result<Finder, OutOfMemory>
     Ok(Finder::Map { map })
 }
 
-/// The byte at an address, by a map of the runs.
+/// The byte at an address, by a map from addresses to runs.
 fn byte_by_map(runs: &[MemRun], map: &StepMap<Option<FirstItem>>, a: u64) -> Option<u8>
     requires { IsRunMap runs.now map.now }
     ensures { result ≡ byte_at runs.now a }
@@ -166,7 +167,7 @@ fn byte_by_map(runs: &[MemRun], map: &StepMap<Option<FirstItem>>, a: u64) -> Opt
     }
 }
 
-/// The byte at an address in the run with an index.
+/// The byte at an address in the run with this index.
 fn byte_of(runs: &[MemRun], place: usize, a: u64) -> Option<u8>
     ensures { result ≡ byte_of a runs.now place }
 {

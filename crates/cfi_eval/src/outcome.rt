@@ -1,25 +1,26 @@
-//! The result of a rule: a value, no value, or the cause of a failure.
+//! The result of a rule: a value, undefined, or the cause of a failure.
 
-/// Why a rule has no value.
+/// Why the value of a rule cannot be computed.
 #[derive(Clone, Copy, Debug, PartialEq, Eq)]
 pub enum Cause {
     /// The register with this DWARF number has no value; 16 is rip.
     Missing(u8),
-    /// Not all eight bytes of the word at this address, which `^` fetches, are known.
+    /// A byte of the word at this address, which `^` reads, is not known.
     Unreadable(u64),
     /// `/` or `%` by 0.
     Divide,
     /// `@` with a second operand that is not a power of two.
     Align,
-    /// An operator has too few operands, or the number of values left at the end is not one.
+    /// An operator has too few operands, or not exactly one value is left at the end.
     Stack,
-    /// A name that is none of the sixteen registers, `$rip` and `.cfa`; or `.cfa` inside its own rule.
+    /// A name other than the sixteen registers, `$rip` and `.cfa`; `.undef` among other words; or
+    /// `.cfa` inside its own rule.
     UnknownName,
-    /// `.cfa` if the CFA is undefined.
+    /// `.cfa` is used, but the CFA is undefined.
     NoCfa,
 }
 
-/// What a rule gives.
+/// The result of a rule.
 #[derive(Clone, Copy, Debug, PartialEq, Eq)]
 pub enum Outcome {
     Value(u64),

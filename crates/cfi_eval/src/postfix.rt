@@ -21,7 +21,7 @@ pub(crate) fn register_value(regs: &Regs, register: u8) -> Result<u64, Cause>
     }
 }
 
-/// The value of a name that is none of the sixteen registers.
+/// The value of a name that is not one of the sixteen registers.
 #[tactic(auto, unfolding(crate::specs::Postfix::name_value))]
 fn name_value(regs: &Regs, name: &[u8]) -> Result<u64, Cause>
     ensures { result ≡ name_value regs.now name.now }
@@ -35,7 +35,7 @@ fn name_value(regs: &Regs, name: &[u8]) -> Result<u64, Cause>
     }
 }
 
-/// The value of `.cfa`; it has no value inside its own rule.
+/// The value of `.cfa`. It has none inside its own rule.
 fn cfa_value(cfa: Option<Outcome>) -> Result<u64, Cause>
     ensures { result ≡ cfa_value cfa }
 {
@@ -98,7 +98,8 @@ fn pop_one(stack: &mut Vec<u64>) -> Result<u64, Cause>
     }
 }
 
-/// Pops the two values on top of the stack, and gives them in the order in which they were pushed.
+/// Pops the two values on top of the stack, and returns them in the order in which they were
+/// pushed.
 #[tactic(auto, using(crate::proofs::StackLemmas::none_no_two, crate::proofs::StackLemmas::one_no_two))]
 fn pop_two(stack: &mut Vec<u64>) -> Result<(u64, u64), Cause>
     ensures { MatchResult result
@@ -110,7 +111,7 @@ fn pop_two(stack: &mut Vec<u64>) -> Result<(u64, u64), Cause>
     Ok((a, b))
 }
 
-/// Pops the operands of a word, and gives the value that the word pushes.
+/// Pops the operands of a word, and returns the value that the word pushes.
 #[tactic(auto, unfolding(crate::specs::Postfix::with_token))]
 fn token_value<M: ByteMemory>(
     token: &Token,
@@ -160,7 +161,7 @@ fn token_value<M: ByteMemory>(
     }
 }
 
-/// Exactly one value must be left at the end.
+/// The value that is left at the end. It must be the only one.
 fn one_value(stack: &[u64]) -> Outcome
     ensures { result ≡ one_value (reverse stack.now) }
 {
@@ -170,7 +171,7 @@ fn one_value(stack: &[u64]) -> Outcome
     }
 }
 
-/// Whether the words are `.undef` alone.
+/// Whether `.undef` is the only word.
 fn is_undefined(tokens: &[Token]) -> bool
     ensures { result ≡ is_undefined tokens.now }
 {
@@ -180,8 +181,9 @@ fn is_undefined(tokens: &[Token]) -> bool
     }
 }
 
-/// The value of a rule's words (Breakpad's symbol_files.md, "STACK CFI"). `cfa` is what the rule of `.cfa` gave, and `None` inside that rule. A
-/// register with a number above 15 has no value. Memory is allocated only for the stack of values.
+/// The value of a rule's words (Breakpad's symbol_files.md, "STACK CFI"). `cfa` is the result of
+/// the rule of `.cfa`, and `None` inside that rule. A register with a number above 15 has no value.
+/// Memory is allocated only for the stack of values.
 #[tactic(auto, unfolding(crate::specs::Postfix::rule_value))]
 pub fn eval<M: ByteMemory>(
     alloc: Global,

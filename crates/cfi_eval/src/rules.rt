@@ -1,4 +1,4 @@
-//! The rules that a symbol file has at an address.
+//! The rules that apply at an address in a symbol file.
 ghost use Rattle.std.specs.Prelude.{◌≡◌, ◌<◌, ◌++◌, true, List, Option, Some, length, IfSome};
 ghost use Rattle.std.specs.Option.{is_some, option_copied, option_or};
 ghost use Rattle.cfi_eval.specs.Inits.{is_init_at, init_place};
@@ -36,10 +36,11 @@ pub fn init_at(file: &SymFile, address: u64) -> Option<usize>
         .position(|line| is_init_at(line, address))
 }
 
-/// How many targets there are in a frame.
+/// The number of targets in a frame.
 const TARGETS: usize = 18;
 
-/// The place of a target among those in a frame: the registers by their numbers, then the CFA and the return address.
+/// The place of a target among the targets of a frame: the registers by their numbers, then the CFA
+/// and the return address.
 fn place_of(target: &Target) -> Option<usize>
     ensures place { result ≡ target_place target.now }
     ensures within { IfSome result (λ place. place < 18) }
@@ -52,7 +53,7 @@ fn place_of(target: &Target) -> Option<usize>
     }
 }
 
-/// A rule overrides the earlier rules with its target.
+/// Puts a rule into a table, in place of earlier rules with its target.
 fn put_rule<'r>(table: &mut [Option<&'r Tokens>; TARGETS], rule: &'r RuleText)
     ensures { (find : Target → Option (List Token)) → IsTable find table.old → IsTable (λ t. option_or (rule_in t rule.now) (find t)) table.new }
 {
@@ -62,7 +63,7 @@ fn put_rule<'r>(table: &mut [Option<&'r Tokens>; TARGETS], rule: &'r RuleText)
     table[place] = Some(&rule.tokens);
 }
 
-/// Each rule of a record overrides the earlier rules with its target.
+/// Puts rules into a table, each in place of earlier rules with its target.
 fn put_rules<'r>(table: &mut [Option<&'r Tokens>; TARGETS], rules: &'r [RuleText])
     ensures { (find : Target → Option (List Token)) → IsTable find table.old → IsTable (λ t. option_or (rule_for t rules.now) (find t)) table.new }
 {
@@ -71,8 +72,8 @@ fn put_rules<'r>(table: &mut [Option<&'r Tokens>; TARGETS], rules: &'r [RuleText
     }
 }
 
-/// The words of the last rule for each target in a frame, found in one pass over `first` and the STACK CFI records at the start of `behind`, up to an
-/// address.
+/// The words of the last rule for each target of a frame. They are found in one pass over `first`
+/// and the STACK CFI records at the start of `behind`, up to an address.
 fn table_at<'r>(
     first: &'r [RuleText],
     behind: &'r [SymLine],
@@ -97,14 +98,15 @@ fn table_at<'r>(
     table
 }
 
-/// The rules that apply at an address: those of an INIT, then those of the changes directly after it, up to that address; a later rule overrides an
-/// earlier one. Contracts see the list of all these rules.
+/// The rules that apply at an address: those of an INIT, then those of the changes directly after
+/// it, up to that address. A later rule overrides an earlier one. Contracts see the list of all
+/// these rules.
 #[derive(Drop)]
 pub struct RulesAt<'r> {
     first: &'r [RuleText],
     behind: &'r [SymLine],
     address: u64,
-    /// The words of the last rule for each target in a frame.
+    /// The words of the last rule for each target of a frame.
     table: [Option<&'r Tokens>; TARGETS],
 }
 
@@ -122,7 +124,7 @@ impl<'r> Model for RulesAt<'r> {
 }
 
 impl<'r> RulesAt<'r> {
-    /// The rules at an address, given the index of the first INIT that covers it.
+    /// The rules that apply at an address, given the index of the first INIT that covers it.
     pub fn of(lines: &'r [SymLine], init: usize, address: u64) -> RulesAt<'r>
         requires within { init < length lines.now }
         requires first { init_place lines.now address ≡ Some init }
@@ -155,14 +157,14 @@ impl<'r> RulesAt<'r> {
         }
     }
 
-    /// The words of the rule for the return address.
+    /// The words of the last rule for the return address.
     pub fn ra(&self) -> Option<&'r Tokens>
         ensures { option_copied result ≡ rule_for Ra self.now }
     {
         self.tokens(&Target::Ra)
     }
 
-    /// The words of the last rule for a target in a frame.
+    /// The words of the last rule for a target of a frame.
     pub(crate) fn tokens(&self, target: &Target) -> Option<&'r Tokens>
         requires { is_some (target_place target.now) ≡ true }
         ensures { option_copied result ≡ rule_for target.now self.now }

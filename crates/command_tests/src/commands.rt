@@ -78,7 +78,8 @@ fn sink_of(alloc: Global, room: usize, step: usize, fail: &[u64]) -> Result<MemS
     Ok(MemSink::new(alloc, room, step.max(1), calls(alloc, fail)?)?)
 }
 
-/// Arguments and the file `d/a.out`, the edges of the run, and the label that is reported if the result is another.
+/// The arguments, the file `d/a.out`, the edges of the run, and the label that is reported if the
+/// result is not the wanted one.
 #[derive(Clone, Copy)]
 struct Asked<'a> {
     label: &'a str,
@@ -329,7 +330,7 @@ fn each_call_that_fails_has_its_status(rt: HostRuntime) -> Result<(), Fail> {
     Ok(())
 }
 
-/// The arguments give this status and these texts if a call of the store fails.
+/// These arguments must give this status and these texts if a call of the store fails.
 fn expect_without<R: Abort + Threads + Sync>(
     rt: &R,
     alloc: Global,

@@ -36,7 +36,8 @@ pub enum Given {
     InLongCode(&'static [Entry]),
     /// The same with this section as `.debug_info`.
     WithInfo(Section<'static>),
-    /// `f` with the lines of two files, and `g` in another unit: with the lines of the same table if true, else of a second table.
+    /// `f` with the lines of two files, and `g` in another unit. If true, `g` has the lines of the
+    /// same table, otherwise those of a second table.
     TwoUnits(bool),
     /// The function `f` of eight bytes at this address, and the symbol of the small file.
     Covered(u64),

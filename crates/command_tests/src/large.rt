@@ -1,4 +1,4 @@
-//! Sections and files whose sizes need more than 16 bits; they need no more memory than there is.
+//! Sections and files whose sizes need more than 16 bits. Memory suffices for them.
 use std::alloc::{AllocError, Global};
 use test_rows::elf::{ID, NULL, file_of, put};
 

@@ -1,4 +1,5 @@
--- What a proof unfolds to compute the definitions of debug_read and of the crates below it where the input is written out.
+-- The definitions of debug_read and of the crates below it that a proof unfolds to compute a worked
+-- example.
 use Rattle.std.specs.Prelude.{⊤}
 use Rattle.line_program.proofs.Computing.{line_program_computes}
 use Rattle.range_lists.proofs.Computing.{range_lists_computes}

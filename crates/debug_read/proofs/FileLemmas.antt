@@ -1,4 +1,4 @@
--- The units of a file, and of a file with its supplementary file: for src/units.rt.
+-- The units of a file, and of a file with its supplementary file; for src/units.rt.
 use Rattle.std.proofs.Common.{◌≡◌, ◌≤◌, ◌^◌, ℕ, true, false, List, [], ◌∷◌, ◌++◌, length, Option, None, Some, Result, Ok, Err, refl, sym, ap, subst, ◌∙◌}
 use Rattle.sym_edges.specs.Addresses.{Range}
 use Rattle.sym_edges.specs.Results.{◌>>=◌}
@@ -33,7 +33,7 @@ use Rattle.debug_read.proofs.SaidLemmas.{match_append}
 abbrev Fault : Type 0
 Fault = Located DwarfKind
 
--- the steps of a file
+-- The steps of reading a file.
 abbrev with_units : List Unit → List UnitSays → Result FileSays Fault
 with_units headers units = Ok (record { headers = headers; units = units })
 
@@ -62,7 +62,7 @@ pub headers_stop : {W : Type 0} (P : W → Type 0) (sections : DebugSections) (i
 headers_stop P sections info (stop.Fault fault) same is = headers_fault sections fault (ap units_in (sym same) ∙ is)
 headers_stop P sections info stop.NoMemory same is = tt
 
--- what a file says that was read, part by part
+-- What was read of a file, part by part.
 record Parts (sections : DebugSections) (code : List Range) (file : FileRead) : Type 0 where
   headers : units_in sections.info ≡ Ok file.headers
   units : Says (Match (IsUnitRead code)) (each_of (unit_says sections) (read_units file.headers)) file.parts.items
@@ -82,7 +82,7 @@ parts_of : (sections : DebugSections) (code : List Range) (file : FileRead) → 
 unfolding file_says
 parts_of sections code file says = parts_in sections code file (units_in sections.info) refl says
 
--- the units of both are units
+-- The entries of both files have their sets.
 both_paired : (parts more : List UnitRead) → ArePairs parts → ArePairs more → ArePairs (parts ++ more)
 both_paired [] more first later = later
 both_paired (part ∷ parts) more first later = (first.0, both_paired parts more first.1 later)
@@ -106,7 +106,7 @@ pub both_are_read : (image : ImageParts) (own sup : DebugSections) (code other_c
 both_are_read image own sup code other_code file other own_is sup_of small less says others =
     both_by_parts own sup code other_code file other (ap (λ (s : DebugSections). s.is_sup) own_is) (ap (λ (s : DebugSections). s.is_sup) sup_of ∙ sup_is image) small less (parts_of own code file says) (parts_of sup other_code other others)
 
--- the steps of both
+-- The steps of reading both files.
 abbrev join : FileSays → FileSays → Result BothSays DebugFault
 join own sup = Ok (record { headers = own.headers; sup_headers = sup.headers; units = own.units ++ sup.units })
 

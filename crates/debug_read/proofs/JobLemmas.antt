@@ -30,7 +30,7 @@ found_all reading spans found same long each =
     match_in_order (IsOwing spans reading.sections) reading.units found long
     (λ k d inside unit there. subst (λ (o : Option Unit). ReaderGives reading o (get_or found k d)) there (each k d inside) spans same)
 
--- the reader's result of a number
+-- The result that the job gives for a number.
 pub reader_found : (reader made : ReaderParts) (k : ℕ) (unit : Unit) (found : Owing) → reader ≡ made → slice_get made.units k ≡ Some unit → ((spans : List Range) → EncloseAlike made.code spans → IsOwing spans made.sections unit found) → ReaderGives reader (slice_get reader.units k) found
 reader_found reader made k unit found is there each =
     rw (is, there) each
@@ -42,7 +42,8 @@ found_in reading sections read units code spans shared found is picked same long
     (found_all made spans found same long
     (λ k d inside. subst (λ (r : ReaderParts). ReaderGives r (slice_get r.units k) (get_or found k d)) is (each k d inside)))
 
--- what is left to be joined, at the end of the reversed list, and what was
+-- The results that are still to be joined, from the end of the reversed list, and those that were
+-- joined.
 pub record Joining (spans : List Range) (sections : DebugSections) (units : List Unit) (left : List Owing) (parts : List UnitRead) : Type 0 where
   pub rest : List Unit
   pub owing : Match (IsOwing spans sections) rest (reverse left)
@@ -55,7 +56,7 @@ joining_begins spans sections units found left parts is none owing = record {
   going = going_begins (IsUnitRead spans) (each_of (unit_says sections) units) parts none;
 }
 
--- the next unit, and those after it
+-- The next unit, and the units after it.
 abbrev Next : List Range → DebugSections → List Unit → List Unit → Owing → List Owing → List UnitRead → Type 0
 Next spans sections units [] one less parts = ⊥
 Next spans sections units (unit ∷ rest) one less parts =

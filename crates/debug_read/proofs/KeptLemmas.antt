@@ -1,4 +1,5 @@
--- What a file says that was read, by what is kept of it: for the laws of this crate and for the records of a file.
+-- What a file says, if it was read, and what is kept of it; for the laws of this crate and for the
+-- records of a file.
 use Rattle.std.proofs.Common.{◌≡◌, Result, Ok, Err, refl}
 use Rattle.elf_sections.specs.Image.{ImageParts}
 use Rattle.debug_read.specs.DebugSays.{DebugSays, debug_says, IsKept, IsDebugRead}
@@ -7,7 +8,7 @@ use Rattle.debug_read.specs.UnitsRead.{IsUnitRead}
 use Rattle.debug_read.specs.declared.fault.DebugFault.{DebugFault}
 use Rattle.debug_read.specs.declared.found.DebugRead.{DebugRead}
 
--- what a file says that was read
+-- What a file says, if it was read.
 pub record Kept (image : ImageParts) (read : DebugRead) : Type 0 where
   pub says : DebugSays
   pub says_is : debug_says image ≡ Ok says

@@ -44,7 +44,7 @@ unfolding root_lines
 table_refused sections root offset fault there is =
     ap (lines_by sections root) there ∙ ap (λ (r : Result Lines (Located DwarfKind)). r >>= λ lines. Ok (Some lines)) is
 
--- whether there is a function, entry by entry
+-- Whether there is a function, entry by entry.
 function_step : (dies : List DieFields) (i : ℕ) (d : DieFields) → Some d ≡ slice_get dies i → list_any is_function (drop i dies) ≡ (is_function d || list_any is_function (drop (i + 1) dies))
 function_step dies i d is = grind (arith, drop_more dies i d (slice_get_within dies i d (sym is)), get_or_from_slice_get dies i d d (sym is))
 

@@ -1,4 +1,5 @@
--- For src/named_tables.rt and src/unit_tables.rt: a line table has the same faults whichever unit names it.
+-- A line table has the same faults, whichever unit names it; for src/named_tables.rt and
+-- src/unit_tables.rt.
 use Rattle.std.proofs.Common.{◌≡◌, ◌≤◌, ℕ, nat_lt, Bool, true, false, cond, if◌then◌else◌, List, [], drop, length, Option, Some, unwrap_or, Result, Ok, Err, refl, sym, ap, subst, ◌∙◌, arith}
 use Rattle.std.proofs.lemmas.Bool.{cond-false, le-ltb}
 use Rattle.sym_edges.specs.Addresses.{Range}
@@ -35,7 +36,7 @@ use Rattle.debug_read.proofs.LineLemmas.{table_kept, table_refused}
 abbrev LineFault : Type 0
 LineFault = Located DwarfKind
 
--- what a table says but for the directory of the compilation
+-- What a table says, apart from the compilation directory.
 record TableParts : Type 0 where
   header : HeaderFields
   tables : Tables
@@ -56,7 +57,7 @@ parts_at sections c = as_header Line c.at (table_at c) >>= with_header sections 
 abbrev named : List ℕ → TableParts → Result Lines LineFault
 named comp_dir parts = Ok (lines_of comp_dir parts.header.program.version parts.tables parts.state)
 
--- the chain with its end
+-- The last steps of reading a table.
 abbrev end_rows : List ℕ → HeaderFields → Tables → State → Result Lines LineFault
 end_rows comp_dir header tables state = Ok (lines_of comp_dir header.program.version tables state)
 
@@ -118,7 +119,7 @@ fault_refused sections offset at comp_dir fault inside is other dir =
     inside_is sections offset other dir inside
     ∙ faults_by (parts_at sections (ahead_at sections offset)) comp_dir dir fault (sym (inside_is sections offset at comp_dir inside) ∙ is)
 
--- the fault of an answer
+-- The fault of a call that ended with a fault.
 pub stop_fault : {A F : Type 0} (P : A → Type 0) (Q : F → Type 0) (R : Type 0) (stop : Stop F) (fault : F) → stop ≡ Fault fault → MatchStop {A = A} (Err stop) P Q R → Q fault
 stop_fault {A} {F} P Q R stop fault is holds = subst (λ (s : Stop F). MatchStop {A = A} (Err s) P Q R) is holds
 
@@ -126,7 +127,8 @@ says_ok : (code : ℕ → ℕ → Bool) (read : Result Lines LineFault) (table :
 says_ok code (Ok lines) table says = tt
 says_ok code (Err fault) table says = absurd says
 
--- a table inside the section is the same whichever unit with that compilation directory names it
+-- A table inside the section is the same for all units with that compilation directory that name
+-- it.
 pub whole_by : (spans : List Range) (sections : DebugSections) (offset at other : ℕ) (comp_dir : List ℕ) (table : LineMap) → offset ≤ length sections.line → SaysTable (encloses spans) (unit_lines sections offset at comp_dir) table → SaysTable (encloses spans) (unit_lines sections offset other comp_dir) table
 whole_by spans sections offset at other comp_dir table inside says =
     subst (λ (r : Result Lines LineFault). SaysTable (encloses spans) r table) (inside_is sections offset at comp_dir inside ∙ sym (inside_is sections offset other comp_dir inside)) says
@@ -135,7 +137,7 @@ pub whole_sound : (code : List Range) (sections : DebugSections) (offset : ℕ) 
 whole_sound code sections offset comp_dir table whole =
     sound_of sections offset 0 comp_dir (says_ok (encloses code) (unit_lines sections offset 0 comp_dir) table (whole code 0 (λ start end. refl)))
 
--- of a table without a fault, a unit without a function keeps nothing
+-- A unit without a function keeps nothing of a table without a fault.
 unasked_by : (spans : List Range) (read : Result Lines LineFault) → IsOk read → Says (KeepsLines spans false) (read >>= λ ls. Ok (Some ls)) no_lines
 unasked_by spans (Ok ls) ok = refl
 unasked_by spans (Err fault) ok = absurd ok
@@ -145,7 +147,7 @@ unfolding root_lines
 sound_by_root sections root offset spans kept there sound is =
     rw (there, is) (unasked_by spans (unit_lines sections offset root.at (unwrap_or root.comp_dir [])) (sound root.at (unwrap_or root.comp_dir [])))
 
--- a table that was read for the name that a root gives
+-- A table that was read for the name that a root gives.
 pub record IsNamed (code : List Range) (sections : DebugSections) (root : RootFields) (asked : Bool) (one : NamedTable) : Type 0 where
   pub table : IsTable code sections one
   pub offset : root.stmt_list ≡ Some one.name.offset

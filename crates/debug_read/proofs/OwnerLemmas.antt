@@ -1,4 +1,4 @@
--- The addresses that functions own are code: for the law `owners_are_code`.
+-- The addresses that functions own are code; for the law `owners_are_code`.
 use Rattle.std.proofs.Common.{◌≡◌, ℕ, ◌+◌, ◌≤◌, Bool, true, false, ◌&&◌, ◌||◌, nat_le, nat_lt, cond, List, [], ◌∷◌, ◌++◌, Some, arith, refl, sym, ◌∙◌}
 use Rattle.std.proofs.lemmas.Bool.Decides.{nat_tests}
 use Rattle.std.specs.List.{find, list_any}
@@ -19,7 +19,7 @@ use Rattle.debug_read.specs.DebugSays.{IsDebugRead}
 use Rattle.debug_read.specs.declared.found.DebugRead.{DebugRead}
 use Rattle.debug_read.proofs.KeptLemmas.{kept}
 
--- an address of a function is code, so it is not below the base
+-- An address of a function is code, so it is not below the base.
 code_above : (base start end : ℕ) (code : List Range) → AllFrom base code → encloses code start end ≡ true → base ≤ start
 unfolding encloses
 code_above base start end [] above is = absurd (cc)
@@ -29,7 +29,7 @@ pairs_above : (base a : ℕ) (code pairs : List Range) → AllFrom base code →
 pairs_above base a code [] above is = absurd (cc)
 pairs_above base a code (pair ∷ pairs) above is = grind (arith, nat_tests, is, code_above base pair.start pair.end code above, pairs_above base a code pairs above)
 
--- the entries of a unit, and those of all units
+-- The entries of a unit, and of all units.
 abbrev owns : ℕ → Covering → Bool
 owns a c = is_function c.die && holds_any c.spans a
 

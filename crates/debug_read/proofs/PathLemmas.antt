@@ -1,4 +1,4 @@
--- The paths of all line tables that are read are cleaned: for the law `paths_are_clean`.
+-- The paths of all line tables that are read are cleaned; for the law `paths_are_clean`.
 use Rattle.std.proofs.Common.{◌≡◌, ℕ, Bool, true, false, cond, nat_lt, length, map, drop, List, [], ◌∷◌, ◌++◌, Option, None, Some, unwrap_or, Result, Ok, Err, sym, subst}
 use Rattle.std.specs.List.{list_any}
 use Rattle.std.specs.Str.{bytes_eq}
@@ -40,7 +40,7 @@ use Rattle.clean_names.specs.Cleaning.{AreClean}
 use Rattle.debug_units.specs.CleanPaths.{HaveCleanPaths}
 use Rattle.clean_names.proofs.CleanLemmas.{cleaned_again}
 
--- what holds of what is read, where it is read
+-- What holds for the value of a result, if there is a value.
 abbrev Holds : {A F : Type 0} → (A → Type 0) → Result A F → Type 0
 Holds P (Ok x) = P x
 Holds P (Err fault) = Prim.Unit {0}
@@ -57,7 +57,7 @@ also_holds : {A B F : Type 0} (P : A → Type 0) (Q : B → Type 0) (first : Res
 also_holds P Q (Ok x) next holds each = each x holds
 also_holds P Q (Err fault) next holds each = tt
 
--- the paths of a line table
+-- The paths of a line table.
 files_clean : (directories : List (List ℕ)) (files : List FileFields) → AreClean (map (file_path directories) files)
 unfolding file_path
 files_clean directories [] = tt
@@ -85,7 +85,7 @@ unit_clean : (sections : DebugSections) (offset place : ℕ) (comp_dir : List �
 unfolding unit_lines
 unit_clean sections offset place comp_dir = cut_clean (nat_lt (length sections.line) offset) _ sections comp_dir (record { bytes = drop offset sections.line; at = offset })
 
--- those of a unit, where it has a table
+-- The paths of a unit, if it has a table.
 abbrev MayHaveClean : Option Lines → Type 0
 MayHaveClean None = Prim.Unit {0}
 MayHaveClean (Some lines) = HasCleanFiles lines
@@ -117,7 +117,7 @@ units_clean sections (unit ∷ units) =
     also_holds SaysClean AllSayClean (unit_says sections unit) _ (says_clean sections unit) (λ says clean.
     made_holds AllSayClean AllSayClean (each_of (unit_says sections) units) (λ rest. says ∷ rest) (units_clean sections units) (λ rest all. (clean, all)))
 
--- each path once
+-- Each path is listed once.
 with_clean : (paths : List (List ℕ)) (path : List ℕ) (there : Bool) → AreClean paths → cleaned path ≡ path → AreClean (cond there paths (paths ++ path ∷ []))
 with_clean paths path true clean is = clean
 with_clean paths path false clean is = push paths clean
@@ -132,7 +132,7 @@ paths_clean paths [] clean all = clean
 paths_clean paths (file ∷ files) clean all =
     paths_clean (with_path paths file) files (with_clean paths file (list_any (λ other. bytes_eq file other) paths) clean all.0) all.1
 
--- those that are kept
+-- The paths that are kept.
 kept_clean : (code : List Range) (asked : Bool) (lines : Option Lines) (kept : LineMap) → MayHaveClean lines → KeepsLines code asked lines kept → AreClean kept.paths
 kept_clean code true (Some lines) kept clean says = subst AreClean (sym says.paths) (paths_clean [] lines.files tt clean)
 kept_clean code true None kept clean says = subst (λ (m : LineMap). AreClean m.paths) (sym says) tt
@@ -145,7 +145,7 @@ all_clean code (s ∷ says) [] clean are = absurd are
 all_clean code (s ∷ says) (part ∷ parts) clean are =
     (kept_clean code (has_function s.table.dies) s.lines part.lines clean.0 are.0.lines, all_clean code says parts clean.1 are.1)
 
--- those of a file, and of its supplementary file
+-- The paths of a file, and of its supplementary file.
 both_clean : (all more : List UnitSays) → AllSayClean all → AllSayClean more → AllSayClean (all ++ more)
 both_clean [] more clean other = other
 both_clean (says ∷ all) more clean other = (clean.0, both_clean all more clean.1 other)

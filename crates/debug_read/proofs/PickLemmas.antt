@@ -7,7 +7,7 @@ use Rattle.abbrev_units.specs.Units.{units_in}
 use Rattle.abbrev_units.specs.UnitPlaces.{Follow, with_read, read_units}
 use Rattle.abbrev_units.proofs.UnitPlaceLemmas.{units_follow}
 
--- the units of a section are no more than its bytes
+-- A section has no more units than bytes.
 few_by : (unit : Unit) (which : UnitPart) (later : List Unit) (low high : ℕ) → low ≤ unit.start → unit.start < unit.end → length later + unit.end ≤ high → length (with_read unit which later) + low ≤ high
 few_by unit Read later low high start some few = omega arith
 few_by unit Passed later low high start some few = omega arith
@@ -22,6 +22,6 @@ units_few info units is small =
     let few : length (read_units units) + 0 ≤ length info = are_few 0 (length info) units (omega arith) (units_follow info units is) in
     omega arith
 
--- the loop
+-- The steps of the loop.
 abbrev pub Picks : List Unit → ℕ → List Unit → Type 0
 Picks units i read = read ++ read_units (drop i units) ≡ read_units units

@@ -1,4 +1,4 @@
--- What is kept of units has the owners, chains and lines of what they say. Serves the law.
+-- What is kept of units gives the same owners, chains and lines as what the units say; for the law.
 use Rattle.std.proofs.Common.{◌≡◌, ℕ, zero, suc, ◌+◌, ◌^◌, ◌<◌, ◌≤◌, ◌&&◌, ◌||◌, Bool, true, false, cond, List, [], ◌∷◌, ◌++◌, map, Option, None, Some, option_map, arith, refl, sym, ap, subst, ◌∙◌}
 use Rattle.std.specs.Prelude.{◌==◌, option_and_then}
 use Rattle.std.specs.List.{find, slice_get, list_any}
@@ -21,7 +21,7 @@ use Rattle.debug_read.specs.UnitsRead.{IsSet, IsUnitRead, KeepsLines, has_functi
 use Rattle.line_program.specs.LineMaps.{no_lines}
 use Rattle.debug_read.specs.SaidOwners.{SaidEntry, numbered_entries, said_entries, is_at, said_owner, said_inside, said_by, said_under, said_chain, said_line_in, said_line_under, said_line, said_place, kept_place}
 
--- an entry that was said and one that is kept, at an address
+-- An entry of what the units say and one of what is kept are alike at an address.
 pub record IsAlike (code : List Range) (a : ℕ) (e : SaidEntry) (c : Covering) : Type 0 where
   pub place : said_place e ≡ kept_place c
   pub held : holds_any c.spans a ≡ in_pairs code e.pairs a
@@ -52,7 +52,7 @@ all_alike code a unit (said ∷ says) (part ∷ units) are =
     match_append (IsAlike code a) (numbered_entries unit 0 said.table.dies said.pairs) (said_entries (unit + 1) says) (unit_covering unit 0 part.die.dies part.spans) (covering_from (unit + 1) units)
     (read_alike code a unit said part are.0) (all_alike code a (unit + 1) says units are.1)
 
--- the owner
+-- The owner.
 abbrev pub said_owns : List Range → ℕ → SaidEntry → Bool
 said_owns code a e = is_function e.die && is_at code a e
 
@@ -68,7 +68,7 @@ owns_alike code a e c is =
     let held = is.held in
     cc
 
--- what a search finds in both lists: entries that are alike, or none
+-- A search finds entries that are alike in both lists, or none in both.
 abbrev pub BothAlike : List Range → ℕ → Option SaidEntry → Option Covering → Type 0
 BothAlike code a None None = Prim.Unit {0}
 BothAlike code a (Some e) (Some c) = IsAlike code a e c
@@ -93,7 +93,7 @@ same_place code a (Some e) None is = absurd is
 pub owners_same : (code : List Range) (says : List UnitSays) (units : List UnitRead) (a : ℕ) → Match (IsUnitRead code) says units → option_map said_place (said_owner code says a) ≡ option_map kept_place (owner units a)
 owners_same code says units a are = same_place code a (said_owner code says a) (owner units a) (owners_alike code says units a are)
 
--- the unit of a number
+-- The unit with a number.
 abbrev pub BothRead : List Range → Option UnitSays → Option UnitRead → Type 0
 BothRead code None None = Prim.Unit {0}
 BothRead code (Some says) (Some part) = IsUnitRead code says part
@@ -106,7 +106,7 @@ both_read code (said ∷ says) [] n are = absurd are
 both_read code (said ∷ says) (part ∷ units) zero are = are.0
 both_read code (said ∷ says) (part ∷ units) (suc n) are = both_read code says units n are.1
 
--- the chain
+-- The chain.
 abbrev said_goes : List Range → List DieFields → ℕ → ℕ → SaidEntry → Bool
 said_goes code dies a entry e = is_inlined e.die && (is_at code a e && option_map_or (λ o. o == entry) (inside_of dies e.entry e.die.parent) false)
 
@@ -147,7 +147,7 @@ pub chains_same : (code : List Range) (says : List UnitSays) (units : List UnitR
 unfolding said_chain chain
 chains_same code says units a are = under_alike code says units a (said_owner code says a) (owner units a) are (owners_alike code says units a are)
 
--- the line: an owner's unit has a function, so its line table is kept
+-- The line: the unit of an owner has a function, so its line table is kept.
 function_there : (code : List Range) (a unit entry : ℕ) (dies : List DieFields) (pairs : List (List Range)) (e : SaidEntry) → find (said_owns code a) (numbered_entries unit entry dies pairs) ≡ Some e → (e.unit ≡ unit) × (list_any is_function dies ≡ true)
 function_there code a unit entry [] pairs e is = absurd (cc)
 function_there code a unit entry (die ∷ dies) [] e is = absurd (cc)
@@ -182,7 +182,7 @@ owner_function code a unit (said ∷ says) e is k =
         let rest = later is n in
         (omega (arith, rest.0), λ far. rest.1 (omega (arith, far)))
 
--- a table without paths names no line
+-- A table without paths gives no line a path.
 no_path : (at : Option (ℕ × ℕ)) → None ≡ named_line [] at
 no_path None = refl
 no_path (Some at) = refl

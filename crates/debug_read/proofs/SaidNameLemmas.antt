@@ -1,4 +1,5 @@
--- What is kept of units has the names of entries and the paths of calls of what they say. Serves the law.
+-- What is kept of units gives the same names of entries and paths of calls as what the units say;
+-- for the law.
 use Rattle.std.proofs.Common.{◌≡◌, ℕ, ◌+◌, ◌&&◌, Bool, true, false, cond, List, [], ◌∷◌, codes, map, Option, None, Some, unwrap_or, option_and_then, arith, refl, sym, ap, ◌∙◌}
 use Rattle.std.proofs.lemmas.Bool.Decides.{nat_tests}
 use Rattle.std.specs.Prelude.{◌==◌}
@@ -23,7 +24,7 @@ use Rattle.debug_read.specs.SaidOwners.{SaidEntry, said_entries, said_owner, sai
 use Rattle.debug_read.specs.SaidNames.{said_entries_alone, said_name, said_file_in, said_call_path}
 use Rattle.debug_read.proofs.SaidLemmas.{said_owns, BothAlike, owners_alike, BothRead, both_read, under_alike, HasFunction, owner_function}
 
--- names are made of entries alone
+-- Names depend on the entries alone.
 alone_said : (code : List Range) (says : List UnitSays) (units : List UnitRead) → Match (IsUnitRead code) says units → map said_entries_alone says ≡ alone units
 alone_said code [] [] are = refl
 alone_said code [] (part ∷ units) are = absurd are
@@ -35,7 +36,7 @@ pub names_same : (code : List Range) (says : List UnitSays) (units : List UnitRe
 unfolding said_name
 names_same code says units unit entry are = ap (λ us. entry_name us unit entry) (alone_said code says units are) ∙ sym (name_alone units unit entry)
 
--- the path of a file of a unit that has a function
+-- The path of a file, in a unit that has a function.
 no_file : (o : Option ℕ) → None ≡ option_and_then (slice_get no_lines.paths) o
 no_file None = refl
 no_file (Some k) = refl
@@ -51,7 +52,7 @@ file_by code file None (Some part) some are = absurd are
 file_by code file (Some said) None some are = absurd are
 file_by code file (Some said) (Some part) some are = file_kept code (has_function said.table.dies) said.lines part.lines file (some said refl) are.lines
 
--- the path of a call, by the place of its entry
+-- The path of a call, given the numbers of its entry.
 abbrev Place : Type 0
 Place = ℕ × ℕ × DieFields
 
@@ -72,7 +73,7 @@ unfolding said_call_path
 said_paths says [] = refl
 said_paths says (e ∷ es) = ap (λ l. said_path says (said_place e) ∷ l) (said_paths says es)
 
--- all copies of a chain are of one unit
+-- All copies of a chain are in one unit.
 abbrev AllIn : ℕ → List Covering → Type 0
 AllIn n [] = Unit {0}
 AllIn n (c ∷ cs) = (c.unit ≡ n) × AllIn n cs

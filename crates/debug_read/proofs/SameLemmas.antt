@@ -1,4 +1,4 @@
--- What is kept of a unit, two times, is the same. Serves the law.
+-- Two results of what is kept of one unit say the same; for the law.
 use Rattle.std.proofs.Common.{◌≡◌, Bool, true, false, List, [], ◌∷◌, Option, None, Some, Result, Ok, Err, refl, sym, ap, ◌∙◌}
 use Rattle.sym_edges.specs.Addresses.{Range}
 use Rattle.sym_edges.specs.declared.located.Located.{Located}
@@ -21,7 +21,7 @@ same_lines code true (Some lines) x y p q = record { line = λ a small. p.line a
 same_lines code true None x y p q = equal_lines x y (p ∙ sym q)
 same_lines code false lines x y p q = equal_lines x y (p ∙ sym q)
 
--- the sets of the entries' addresses are the same
+-- The sets of addresses of the entries are the same.
 same_sets : (code : List Range) (pairs xs ys : List (List Range)) → Match (IsSet code) pairs xs → Match (IsSet code) pairs ys → xs ≡ ys
 same_sets code [] [] [] p q = refl
 same_sets code [] [] (y ∷ ys) p q = absurd q

@@ -1,4 +1,4 @@
--- The set of an entry.
+-- The set of addresses of an entry.
 use Rattle.std.proofs.Common.{◌≡◌, ℕ, suc, ◌+◌, ◌<◌, Bool, true, false, List, [], ◌∷◌, ◌++◌, drop, length, replicate, get_or, Option, Some, Result, Ok, Err, refl, sym, ap, subst, ◌∙◌, add-one, length-append, arith}
 use Rattle.std.proofs.lemmas.Bool.Decides.{nat_tests}
 use Rattle.std.proofs.lemmas.List.{replicate-append-replicate}
@@ -22,7 +22,7 @@ use Rattle.debug_read.specs.UnitSays.{no_pairs}
 use Rattle.debug_read.specs.UnitsRead.{IsSet}
 use Rattle.debug_read.proofs.EachLemmas.{Going, going_begins, going_more, going_ends, going_stops}
 
--- the tests of an address
+-- The tests of an address.
 abbrev answer : Result Bool (Located DwarfKind) → Bool
 answer (Ok b) = b
 answer (Err fault) = false
@@ -39,12 +39,12 @@ pub set_refused : (code : List Range) (given : Result (List Range) (Located Dwar
 set_refused code given (Fault fault) is = is
 set_refused code given NoMemory is = tt
 
--- the sets of all entries
+-- The sets of all entries.
 abbrev pub Sets : DebugSections → Unit → RootFields → ℕ → List Range → List DieFields → ℕ → List (List Range) → Type 0
 Sets sections unit root base code dies i made =
     Going (IsSet code) (each_of (pairs_of sections unit root base) dies) (each_of (pairs_of sections unit root base) (drop i dies)) made
 
--- the same, with the set of each entry by its number
+-- The sets of the first entries, by their numbers.
 pub record SetsRead (sections : DebugSections) (unit : Unit) (root : RootFields) (base : ℕ) (code : List Range) (dies : List DieFields) (i : ℕ) (made : List (List Range)) : Type 0 where
   pub going : Sets sections unit root base code dies i made
   pub count : length made ≡ i
@@ -60,11 +60,11 @@ sets_more sections unit root base code dies i made more set inside read one is =
       each = each_more says made set read.each (subst (λ (n : ℕ). says n set) (sym read.count) one);
     })
 
--- an entry that gives nothing has the empty set
+-- An entry without pairs has the empty set.
 pub says_none : (code : List Range) (given : Result (List Range) (Located DwarfKind)) → given ≡ Ok [] → Says (IsSet code) given []
 says_none code given none = rw none (record { canonical = tt; each = λ a. refl })
 
--- an entry that gives the pairs of an earlier one has its set
+-- An entry with the pairs of an earlier entry has its set.
 says_again : (code : List Range) (given again : Result (List Range) (Located DwarfKind)) (set : List Range) → ((pairs : List Range) → given ≡ Ok pairs → again ≡ Ok pairs) → Says (IsSet code) given set → Says (IsSet code) again set
 says_again code (Ok pairs) again set same says = rw (same pairs refl) says
 says_again code (Err fault) again set same says = absurd says
@@ -91,7 +91,7 @@ sets_stopped sections unit root base code dies i made (Fault fault) inside read 
     (λ die there. subst (λ (o : Option DieFields). pairs_at sections unit root base o ≡ Err fault) there is)
 sets_stopped sections unit root base code dies i made NoMemory inside read is = tt
 
--- ranges of code are asked for nothing but what they enclose
+-- Only what the ranges of code enclose matters.
 same_answer : (code other pairs : List Range) (a : ℕ) → in_ranges code (Ok pairs) a ≡ in_ranges other (Ok pairs) a → in_pairs code pairs a ≡ in_pairs other pairs a
 same_answer code other pairs a same = ap answer same
 
@@ -104,12 +104,12 @@ sets_alike code other same (p ∷ pairs) (set ∷ sets) all = (
   sets_alike code other same pairs sets all.1,
 )
 
--- a set without addresses is empty
+-- A set without addresses is empty.
 pub no_address : (set : List Range) → IsCanonical set → ((a : ℕ) → holds_any set a ≡ false) → set ≡ []
 no_address [] canonical none = refl
 no_address (range ∷ ranges) canonical none = absurd (grind (arith, nat_tests, canonical.0, none range.start))
 
--- entries without addresses
+-- Entries without addresses.
 pub none_more : (n : ℕ) (sets more : List (List Range)) → sets ≡ replicate n [] → more ≡ sets ++ [] ∷ [] → more ≡ replicate (n + 1) []
 none_more n sets more are grown = grown ∙ ap (λ (s : List (List Range)). s ++ [] ∷ []) are ∙ replicate-append-replicate n 1 []
 

@@ -1,4 +1,4 @@
--- For src/shared_abbrevs.rt: abbreviations do not depend on the unit that names them.
+-- Abbreviations do not depend on the unit that names them; for src/shared_abbrevs.rt.
 use Rattle.std.proofs.Common.{◌≡◌, ◌<◌, ◌≤◌, ℕ, zero, suc, Bool, List, [], ◌∷◌, length, get_or, Option, None, Some, Result, Ok, refl, sym, ap, subst, ◌∙◌, arith}
 use Rattle.std.specs.List.{slice_get}
 use Rattle.std.proofs.lemmas.Bool.{cond-false, le-ltb}
@@ -45,7 +45,7 @@ pub shared_table : (sections : DebugSections) (firsts : List Unit) (tables : Lis
 shared_table sections firsts tables n first unit table match one two at wide inside =
     same_abbrevs sections first unit at wide inside ∙ match_at sections firsts tables n first table match one two
 
--- the workers' results
+-- The results of the workers.
 pub tables_match : (reader : AbbrevParts) (sections : DebugSections) (firsts read : List Unit) (tables : List Read) → reader ≡ record { sections = sections; firsts = read } → read ≡ firsts → length tables ≡ length read → ((k : ℕ) (d : Read) → k < length tables → AbbrevsGive reader (slice_get reader.firsts k) (get_or tables k d)) → Match (IsRead sections) firsts tables
 tables_match reader sections firsts read tables is picked long each =
     rw (← picked) (match_in_order (IsRead sections) read tables long (λ k d inside unit there. rw there at (rw is at (each k d inside))))

@@ -1,4 +1,4 @@
--- The places of a supplementary file to which entries lead, in their order.
+-- The places of a supplementary file to which entries lead, sorted.
 use Rattle.std.proofs.Common.{◌≡◌, ℕ, zero, suc, ◌+◌, ◌-◌, ◌<◌, ◌≤◌, ◌&&◌, ◌||◌, nat_le, nat_lt, Bool, true, false, if◌then◌else◌, List, [], ◌∷◌, ◌++◌, length, take, get_or, Option, Some, None, arith, refl, sym, ap, ◌∙◌}
 use Rattle.std.specs.List.{flat_map, list_any, slice_get, slice_index_or}
 use Rattle.std.specs.List.Sorted.{IsNonDecreasing, IsPartitionPoint, IsPermutation}
@@ -15,7 +15,7 @@ use Rattle.debug_units.specs.declared.unit_read.UnitRead.{UnitRead}
 use Rattle.debug_read.specs.SupUnits.{is_place_in, leads_into, lies_in, AreTargets, entries_of}
 use Rattle.debug_read.specs.internal.Targets.{sup_places, targets_of, unit_targets}
 
--- one entry more
+-- One entry more.
 take_some : {X : Type 0} (xs : List X) (i : ℕ) (x : X) → Some x ≡ slice_get xs i → take (i + 1) xs ≡ take i xs ++ x ∷ []
 take_some xs i x is = take_more xs i x (slice_get_within xs i x (sym is)) ∙ ap (λ y. take i xs ++ y ∷ []) (get_or_from_slice_get xs i x x (sym is))
 
@@ -29,7 +29,8 @@ all_pushed f before held xs i past is = is ∙ ap (λ l. before ++ flat_map f l)
 pub all_taken : {X : Type 0} (xs : List X) (n : ℕ) → length xs ≤ n → xs ≡ take n xs
 all_taken xs n past = sym (take_all n xs past)
 
--- a place of the supplementary file lies in a unit where the place through both files is one of it
+-- A place in the supplementary file is in a unit exactly if it is there when it is counted through
+-- the file and its supplementary file.
 shifted : (first place low high : ℕ) (b : Bool) → nat_le first place ≡ b → list_any (λ (p : ℕ). nat_le low p && nat_lt p high) (if b then (place - first) ∷ [] else []) ≡ (nat_le (first + low) place && nat_lt place (first + high))
 shifted first place low high true is = grind (arith, nat_tests, is)
 shifted first place low high false is = grind (arith, nat_tests, is)
@@ -52,7 +53,7 @@ units_lead unit [] = refl
 units_lead unit (u ∷ units) =
     grind (arith, list_any-append (lies_in unit) (unit_targets u) (flat_map unit_targets units), entries_lead unit u.die.dies, units_lead unit units, list_any-append (leads_into unit) u.die.dies (entries_of units))
 
--- the places in their order say the same
+-- Sorting the places does not change in which units they are.
 pub are_targets : (units : List UnitRead) (places sorted : List ℕ) → places ≡ flat_map unit_targets units → IsPermutation places sorted → AreTargets (entries_of units) sorted
 are_targets units places sorted is moved = record {
   each = λ unit. sym (list_any-IsPermutation (lies_in unit) places sorted moved) ∙ ap (list_any (lies_in unit)) is ∙ units_lead unit units;
@@ -62,12 +63,12 @@ pub front_targets : (units taken : List UnitRead) (count : ℕ) (held places sor
 front_targets units taken count held places sorted front none is moved =
     are_targets (take count units) places sorted (is ∙ ap (λ l. l ++ flat_map unit_targets taken) none ∙ ap (flat_map unit_targets) front) moved
 
--- places behind the end of a unit do not lie in it
+-- Places after the end of a unit are not in it.
 none_behind : (unit : Unit) (xs : List ℕ) → ((k d : ℕ) → k < length xs → unit.end ≤ get_or xs k d) → list_any (lies_in unit) xs ≡ false
 none_behind unit [] past = refl
 none_behind unit (x ∷ xs) past = grind (arith, nat_tests, past 0 0 (omega arith), none_behind unit xs (λ k d h. past (suc k) d (omega arith)))
 
--- there is a place, and it stands before the end
+-- There is a place, and it is before the end.
 abbrev pub ends_before : ℕ → Option ℕ → Bool
 ends_before end None = false
 ends_before end (Some place) = nat_lt place end
@@ -76,7 +77,7 @@ here_by : (unit : Unit) (x : ℕ) (xs : List ℕ) (b : Bool) → nat_lt x unit.e
 here_by unit x xs true is from later = grind (arith, nat_tests, is, from)
 here_by unit x xs false is from later = sym (none_behind unit (x ∷ xs) (λ k d h. grind (arith, nat_tests, is, later k d h)))
 
--- the first place that is not before the unit decides
+-- The first place that is not before the unit decides.
 first_decides : (unit : Unit) (xs : List ℕ) (i : ℕ) → IsNonDecreasing xs → ((k d : ℕ) → k < i → k < length xs → get_or xs k d < unit.start) → ((k d : ℕ) → i ≤ k → k < length xs → unit.start ≤ get_or xs k d) → ends_before unit.end (slice_get xs i) ≡ list_any (lies_in unit) xs
 first_decides unit [] i sorted low high = refl
 first_decides unit (x ∷ xs) zero sorted low high = here_by unit x xs (nat_lt x unit.end) refl (high 0 0 (omega arith) (omega arith)) (λ k d there. sorted 0 k d (omega arith) there)
@@ -89,7 +90,7 @@ found unit xs i sorted point within =
     (λ k d h l. (let is : nat_lt (slice_index_or xs k d) unit.start ≡ true = point.0 k d (omega arith) h in grind (arith, nat_tests)))
     (λ k d h l. (let is : nat_lt (slice_index_or xs k d) unit.start ≡ false = point.1 k d h l in grind (arith, nat_tests)))
 
--- where there is a place, and where there is none
+-- With a place, and without one.
 pub found_some : (unit : Unit) (xs : List ℕ) (i x : ℕ) → ends_before unit.end (slice_get xs i) ≡ list_any (lies_in unit) xs → i < length xs → x ≡ get_or xs i x → nat_lt x unit.end ≡ list_any (lies_in unit) xs
 found_some unit xs i x is within at = sym (ap (ends_before unit.end) (slice_get_read xs (length xs) i x refl within at)) ∙ is
 

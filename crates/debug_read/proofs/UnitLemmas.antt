@@ -1,4 +1,4 @@
--- What is kept of a unit, and what follows of it.
+-- What is kept of a unit, and what follows from it.
 use Rattle.std.proofs.Common.{◌≡◌, ◌<◌, ◌≤◌, ◌+◌, ◌^◌, ℕ, Bool, true, false, cond, List, [], ◌∷◌, map, length, Option, Result, Ok, Err, refl, sym, ap, subst, ◌∙◌, arith}
 use Rattle.sym_edges.specs.Addresses.{Range}
 use Rattle.sym_edges.specs.Results.{◌>>=◌}
@@ -28,7 +28,7 @@ use Rattle.debug_read.proofs.SetLemmas.{sets_alike, no_address}
 abbrev Fault : Type 0
 Fault = Located DwarfKind
 
--- a unit has no more entries than bytes
+-- A unit has no more entries than bytes.
 few_between : (low high : ℕ) (dies : List DieFields) → low ≤ high + 1 → RisesTo low high (map (λ (d : DieFields). d.at) dies) → length dies + low ≤ high + 1
 few_between low high [] below rise = omega arith
 few_between low high (die ∷ dies) below rise =
@@ -41,7 +41,7 @@ pub few_dies : (sections : DebugSections) (unit : Unit) (abbrevs : List Abbrev) 
 few_dies sections unit abbrevs table ordered inside small is =
     few_from (first_place sections.is_sup) unit.body unit.end table.dies ordered (omega (arith, inside, small)) (places_rise sections unit abbrevs table ordered inside is)
 
--- the steps of a unit
+-- The steps of reading a unit.
 abbrev with_lines : EntryTable → List (List Range) → Option Lines → Result UnitSays Fault
 with_lines table pairs lines = Ok (record { table = table; pairs = pairs; lines = lines })
 
@@ -69,7 +69,7 @@ unfolding unit_says
 unit_kept sections unit code spans abbrevs table sets lines abbrevs_is table_is same match keeps =
     rw (abbrevs_is, table_is) (says_pairs sections code spans table (unit_pairs sections unit table) sets lines same match keeps)
 
--- a unit whose table is still to be read
+-- A unit whose line table is still to be read.
 pairs_fault : (sections : DebugSections) (code : List Range) (table : EntryTable) (read : Result (List (List Range)) Fault) (sets : List (List Range)) (fault : Fault) → Says (Match (IsSet code)) read sets → root_lines sections table.root ≡ Err fault → (read >>= with_pairs sections table) ≡ Err fault
 pairs_fault sections code table (Ok pairs) sets fault match is = ap (λ (r : Result (Option Lines) Fault). r >>= with_lines table pairs) is
 pairs_fault sections code table (Err other) sets fault match is = absurd match
@@ -90,7 +90,7 @@ unit_held sections unit code spans abbrevs table sets function abbrevs_is table_
   fault = λ fault is. unit_fault sections unit code abbrevs table sets fault abbrevs_is table_is match is;
 }
 
--- entries that do not count have no addresses
+-- Entries that do not count have no addresses.
 plain_by : (spans set : List Range) (counted : Bool) (given : Result (List Range) Fault) → counted ≡ false → Says (IsSet spans) (cond counted given (Ok [])) set → set ≡ []
 plain_by spans set true given plain says = absurd (grind (arith, plain))
 plain_by spans set false given plain says = no_address set says.canonical says.each
@@ -112,7 +112,7 @@ base_paired : (sections : DebugSections) (unit : Unit) (table : EntryTable) (spa
 base_paired sections unit table spans sets (Ok base) says = paired sections unit table.root base spans table.dies sets says
 base_paired sections unit table spans sets (Err fault) says = absurd says
 
--- the entries of a supplementary file have no addresses
+-- The entries of a supplementary file have no addresses.
 none_paired : (spans : List Range) (dies : List DieFields) (sets : List (List Range)) → Match (IsSet spans) (no_pairs dies) sets → ArePaired dies sets
 none_paired spans [] [] match = tt
 none_paired spans [] (set ∷ sets) match = absurd match
@@ -127,7 +127,7 @@ unit_paired : (sections : DebugSections) (unit : Unit) (table : EntryTable) (spa
 unfolding unit_pairs
 unit_paired sections unit table spans sets says = pairs_paired sections unit table spans sets sections.is_sup says
 
--- what was read of a unit is its table, and its entries are paired with their sets
+-- A unit that was read has its entry table, and a set for each entry.
 pub record IsPart (sections : DebugSections) (unit : Unit) (part : UnitRead) : Type 0 where
   pub table : IsTable sections unit part.die
   pub paired : ArePaired part.die.dies part.spans
@@ -154,7 +154,7 @@ pub is_part : (sections : DebugSections) (unit : Unit) (spans : List Range) (par
 unfolding unit_says
 is_part sections unit spans part says = part_abbrevs sections unit spans part (abbrevs_of sections unit) says
 
--- the same of all units
+-- The same for all units.
 pub parts_are : (sections : DebugSections) (units : List Unit) (spans : List Range) (parts : List UnitRead) → Says (Match (IsUnitRead spans)) (each_of (unit_says sections) units) parts → AreTables sections units parts × ArePairs parts
 unfolding each_of
 parts_are sections [] spans [] says = (tt, tt)

@@ -33,13 +33,14 @@ file_says sections =
     each_of (unit_says sections) (read_units headers) >>= λ units.
     Ok (record { headers = headers; units = units })
 
--- the headers of all units of a file and of its supplementary file, and what the units that are read say, those of the file first
+-- the headers of the units of a file and of its supplementary file, and what the units that are
+-- read say, those of the file first
 pub record BothSays : Type 0 where
   pub headers : List Unit
   pub sup_headers : List Unit
   pub units : List UnitSays
 
--- the same with the entries of `.eh_frame` and of `.debug_frame`
+-- what `BothSays` has, and the entries of `.eh_frame` (`first`) and of `.debug_frame` (`second`)
 pub record DebugSays : Type 0 where
   pub headers : List Unit
   pub sup_headers : List Unit
@@ -47,7 +48,8 @@ pub record DebugSays : Type 0 where
   pub first : List Entry
   pub second : List Entry
 
--- a fault of the file's debugging information, of its supplementary file's, and of a frame section, as a fault of all
+-- a fault of the file's debugging information (`as_dwarf`), of its supplementary file's (`as_sup`)
+-- or of a frame section (`as_frame`), as a fault of the file
 abbrev pub as_dwarf : {A : Type 0} → Result A (Located DwarfKind) → Result A DebugFault
 as_dwarf (Ok x) = Ok x
 as_dwarf (Err fault) = Err (Dwarf fault)

@@ -2,12 +2,12 @@
 use Rattle.std.specs.Prelude.{List, [], ◌∷◌, Result, Ok, Err}
 use Rattle.sym_edges.specs.Results.{◌>>=◌}
 
--- what each member gives, or the first fault
+-- what a definition gives for each member, or the first fault
 unfoldable pub each_of : {A B F : Type 0} → (A → Result B F) → List A → Result (List B) F
 each_of gives [] = Ok []
 each_of gives (x ∷ xs) = gives x >>= λ first. each_of gives xs >>= λ later. Ok (first ∷ later)
 
--- two lists of the same length, whose members are in the relation R one by one
+-- two lists have the same length, and members at the same index are in the relation R
 abbrev pub Match : {A B : Type 0} → (A → B → Type 0) → List A → List B → Type 0
 Match R [] [] = Prim.Unit {0}
 Match R (x ∷ xs) (y ∷ ys) = R x y × Match R xs ys

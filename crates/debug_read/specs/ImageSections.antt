@@ -19,7 +19,8 @@ sections_of image = record {
   is_sup = false;
 }
 
--- of a supplementary file only entries and their names are read, but no ranges or line tables; without a supplementary file there are no units
+-- the sections of a supplementary file: only its entries and their names are read, but no ranges or
+-- line tables. Without a supplementary file there are no units
 abbrev pub sup_sections_of : Option ImageDebug → DebugSections
 sup_sections_of None = record {
   info = [];

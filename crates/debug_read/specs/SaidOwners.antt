@@ -36,8 +36,8 @@ is_at code a e = in_pairs code e.pairs a
 unfoldable pub said_owner : List Range → List UnitSays → ℕ → Option SaidEntry
 said_owner code units a = find (λ e. is_function e.die && is_at code a e) (said_entries 0 units)
 
--- the inlined copies at an address inside the entry `entry`, level by level: the first copy at the address directly in `entry`, then the first later
--- copy directly in that copy, and so on
+-- the inlined copies in the entry `entry` that have the address `a`, level by level: the first such
+-- copy directly in `entry`, then the first later one directly in that copy, and so on
 abbrev pub said_inside : List Range → List DieFields → ℕ → ℕ → List SaidEntry → List SaidEntry
 said_inside code dies a entry [] = []
 said_inside code dies a entry (e ∷ later) =
@@ -56,7 +56,8 @@ said_under code units a (Some e) = said_by code e.unit e.entry a (slice_get unit
 unfoldable pub said_chain : List Range → List UnitSays → ℕ → List SaidEntry
 said_chain code units a = said_under code units a (said_owner code units a)
 
--- path and line of an address, from the line table of its owner's unit, if that unit has a table
+-- the path and the line of an address, from the line table of its owner's unit, if that unit has a
+-- table
 abbrev pub said_line_in : List Range → ℕ → Option UnitSays → Option (List ℕ × ℕ)
 said_line_in code a None = None
 said_line_in code a (Some says) = option_and_then (λ lines. line_at (encloses code) lines a) says.lines
@@ -68,7 +69,7 @@ said_line_under code units a (Some e) = said_line_in code a (slice_get units e.u
 unfoldable pub said_line : List Range → List UnitSays → ℕ → Option (List ℕ × ℕ)
 said_line code units a = said_line_under code units a (said_owner code units a)
 
--- the numbers of an entry, with what its attributes say
+-- the numbers of an entry, and its attributes
 abbrev pub said_place : SaidEntry → ℕ × ℕ × DieFields
 said_place e = (e.unit, e.entry, e.die)
 

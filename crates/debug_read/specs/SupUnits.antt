@@ -6,7 +6,8 @@ use Rattle.abbrev_units.specs.declared.unit.Unit.{Unit}
 use Rattle.die_walk.specs.EntryTable.{DieFields}
 use Rattle.debug_units.specs.declared.unit_read.UnitRead.{UnitRead}
 
--- a place, counted through both files, is in the unit `unit` of the supplementary file
+-- a place, counted through the file and its supplementary file, is in the unit `unit` of the
+-- supplementary file
 abbrev pub is_place_in : Unit → Option ℕ → Bool
 is_place_in unit None = false
 is_place_in unit (Some place) = nat_le (first_place true + unit.start) place && nat_lt place (first_place true + unit.end)

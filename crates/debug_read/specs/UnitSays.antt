@@ -27,12 +27,13 @@ lines_by sections root (Some offset) = unit_lines sections offset root.at (unwra
 unfoldable pub root_lines : DebugSections → RootFields → Result (Option Lines) (Located DwarfKind)
 root_lines sections root = lines_by sections root root.stmt_list
 
--- no addresses for each entry
+-- no pairs for each entry
 abbrev pub no_pairs : List DieFields → List (List Range)
 no_pairs dies = map (λ die. []) dies
 
--- the pairs of addresses that the entries of a unit give: first the base of the unit's range lists is read, and then the ranges entry by entry; the
--- entries of a supplementary file have none (DWARF 5, 7.3.6)
+-- the pairs of addresses that the entries of a unit give. First the base of the unit's range lists
+-- is read, and then the ranges entry by entry. The entries of a supplementary file have none (DWARF
+-- 5, 7.3.6)
 abbrev pub own_pairs : DebugSections → Unit → EntryTable → Result (List (List Range)) (Located DwarfKind)
 own_pairs sections unit table = unit_base sections table.root >>= λ base. each_of (pairs_of sections unit table.root base) table.dies
 

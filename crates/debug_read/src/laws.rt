@@ -34,8 +34,9 @@ pub fn owners_are_code()
     ensures { (image : ImageParts) (read : DebugRead) → IsDebugRead image read → AllFrom image.base image.code → (a : ℕ) (c : Covering) → owner read.units a ≡ Some c → image.base ≤ a }
 {}
 
-/// The owner, the inline chain and the line of an address are the same by what is kept of the units as by what DWARF says of them, and so are the
-/// name of each entry and the paths of the calls on a chain: nothing that these depend on is lost.
+/// The owner, the inline chain and the line of an address are the same, whether they are computed
+/// from what is kept of the units or from what DWARF says of them. This also holds for the name of
+/// each entry, and for the paths of the calls on a chain.
 pub fn what_is_kept_says_what_the_units_say()
     ensures owner { (code : List Range) (says : List UnitSays) (units : List UnitRead) (a : ℕ) → Match (IsUnitRead code) says units → option_map said_place (said_owner code says a) ≡ option_map kept_place (owner units a) }
     ensures chain { (code : List Range) (says : List UnitSays) (units : List UnitRead) (a : ℕ) → Match (IsUnitRead code) says units → map said_place (said_chain code says a) ≡ map kept_place (chain units a) }

@@ -22,8 +22,9 @@
 //!
 //! [`SupTargets`] says to which units of a supplementary file (DWARF 5, 7.3.6) the entries of the file lead.
 //!
-//! To read: `specs/UnitSays.antt`, `UnitsRead.antt` and `DebugSays.antt`; then `units` with `shared_abbrevs` and `ranges`; `lines`, `named_tables`
-//! and `unit_tables`; `debug`; and `sup_targets`.
+//! Best read in this order: `specs/UnitSays.antt`, `specs/UnitsRead.antt`, `specs/DebugSays.antt`;
+//! then `units` with `shared_abbrevs` and `ranges`; `lines`, `named_tables`, `unit_tables`,
+//! `debug`, `sup_targets`.
 #![tactic(auto)]
 
 mod debug;

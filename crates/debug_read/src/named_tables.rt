@@ -29,8 +29,8 @@ pub struct TableName<'a> {
     pub comp_dir: &'a [u8],
 }
 
-/// What is at an offset: nothing, since the offset is outside of the section; a line table without a fault, whose lines are kept or not; or a line
-/// table with a fault.
+/// What was read at an offset: nothing, since the offset is outside of the section; a line table
+/// without a fault, whose lines are kept or not; or a line table with a fault.
 #[derive(Drop)]
 pub enum TableRead {
     Outside,
@@ -91,7 +91,7 @@ fn read_named<'a>(
     }
 }
 
-/// Reads line tables by the numbers of their names.
+/// A job that reads line tables, each by the number of its name.
 #[derive(Drop)]
 struct NameReader<'s, 'a> {
     sections: &'s Sections<'a>,
@@ -159,7 +159,8 @@ fn compare_names(name: &TableName<'_>, other: &TableName<'_>) -> Ordering {
     }
 }
 
-/// The order of a name and the one that is sought: if the sought one keeps no lines, each name with its offset is equal to it.
+/// The order of a name and the sought name. If the lines of the sought name are not kept, each name
+/// with its offset counts as equal.
 fn seek_name(name: &TableName<'_>, sought: &TableName<'_>) -> Ordering {
     if sought.kept {
         return compare_names(name, sought);
@@ -167,7 +168,7 @@ fn seek_name(name: &TableName<'_>, sought: &TableName<'_>) -> Ordering {
     name.offset.cmp(&sought.offset)
 }
 
-/// Whether what is read for one name also answers for the name that is sought.
+/// Whether what was read for one name is right for the sought name too.
 fn is_for(name: &TableName<'_>, sought: &TableName<'_>) -> bool
     ensures { result ≡ true → IsFor name.now sought.now }
 {
@@ -223,7 +224,7 @@ pub fn read_tables<'a, R: Threads + Sync>(
     Ok(tables)
 }
 
-/// The table that was read for a name, if it is among these.
+/// The table that was read for a name, if there is one.
 pub fn find_table<'t, 'a>(
     tables: &'t [NamedTable<'a>],
     name: &TableName<'_>,

@@ -43,15 +43,16 @@ fn read_set(
     }
 }
 
-/// Where a list that was read is, and the entry for which it was read.
+/// The place of a list that was read, and the entry for which it was read.
 #[derive(Clone, Copy)]
 struct ListRead {
     place: u32,
     entry: u32,
 }
 
-/// The lists that were read: those whose place was above the places of all before them, and the others. What is found here is a guess, which counts
-/// only if the list of the found entry is seen to be at the place.
+/// The lists that were read. Those whose place was above the places of all before them are in
+/// `rising`, the other ones in `others`. An entry that is found here is a guess: it counts only if
+/// its list is at the place.
 #[derive(Drop)]
 struct ListsRead {
     rising: Vec<ListRead>,
@@ -75,8 +76,8 @@ impl ListsRead {
         }
     }
 
-    /// An earlier entry whose list was at that place. If there is none, the list is that of this entry from now on; if there is one, it may be so
-    /// too.
+    /// An earlier entry whose list was at that place. If there is none, this entry is noted for the
+    /// place. If there is one, this entry may be noted instead of it.
     fn find_or_add(&mut self, place: u32, entry: u32) -> Result<Option<u32>, OutOfMemory> {
         if self.rises(place) {
             self.rising.push(ListRead { place, entry })?;
@@ -169,7 +170,7 @@ fn read_sets(
     Ok(sets)
 }
 
-/// No addresses for each entry.
+/// An empty set for each entry.
 fn no_sets(alloc: Global, table: &DieTable<'_>) -> Result<SpanSets, OutOfMemory>
     requires { length table.now.dies < 2 ^ 32 }
     ensures { (code : List Range) → IfOk result (λ sets. Match (IsSet code) (no_pairs table.now.dies) sets) }

@@ -12,8 +12,9 @@ use std::thread::Threads;
 use sym_edges::{OutOfMemory, Stop};
 use unit_workers::{Crew, NoGate, UnitJob};
 
-/// The abbreviations that several units name, each with one of these units, and for each unit the number of its abbreviations, if they are among
-/// these.
+/// The abbreviations that several units name, in `tables`. `firsts` has for each of them one of the
+/// units that name it. `numbers` has for each unit the index of its abbreviations in `tables`, if
+/// they are there.
 #[derive(Drop)]
 pub struct SharedAbbrevs {
     firsts: Vec<Unit>,
@@ -83,7 +84,7 @@ impl SharedAbbrevs {
     }
 }
 
-/// Reads abbreviations by number: those of the units `firsts`.
+/// A job that reads abbreviations by number: those of the units `firsts`.
 #[derive(Drop)]
 struct AbbrevReader<'s, 'a> {
     sections: &'s Sections<'a>,
@@ -142,7 +143,8 @@ struct Keyed {
     place: usize,
 }
 
-/// For all abbreviations that several units name, one of these units, and for each of these units the number of that one.
+/// `firsts` has, for all abbreviations that several units name, one of these units. `numbers` has
+/// for each of these units the index of the one in `firsts`.
 #[derive(Drop)]
 struct Grouping {
     firsts: Vec<Unit>,
@@ -163,7 +165,7 @@ fn sort_units(alloc: Global, units: &[Unit]) -> Result<Vec<Keyed>, OutOfMemory> 
     Ok(keys)
 }
 
-/// `count` numbers that mean no unit.
+/// `count` numbers, each of which stands for no unit.
 fn no_numbers(alloc: Global, count: usize) -> Result<Vec<usize>, OutOfMemory> {
     let mut numbers = Vec::with_capacity(alloc, count)?;
     'places: for _place in 0..count {
@@ -172,7 +174,7 @@ fn no_numbers(alloc: Global, count: usize) -> Result<Vec<usize>, OutOfMemory> {
     Ok(numbers)
 }
 
-/// Whether there is a unit with the same key at a place.
+/// Whether the unit at an index of the sorted list has the same key.
 fn is_like(keys: &[Keyed], place: usize, one: Keyed) -> bool {
     match keys.get(place) {
         Some(other) => other.key == one.key,

@@ -12,7 +12,7 @@ use std::alloc::Global;
 use std::marker::Model;
 use sym_edges::{FILE_LIMIT, OutOfMemory};
 
-/// The first place of the supplementary file, counted through both files: the places of the file come before it.
+/// The first place of the supplementary file. The places of the file come before it.
 const FIRST_OF_SUP: u32 = FILE_LIMIT as u32;
 
 /// Adds a place, if it is in the supplementary file.

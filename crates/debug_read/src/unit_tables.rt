@@ -30,7 +30,8 @@ pub struct UnitFound<'a> {
     pub function: bool,
 }
 
-/// The line tables that were read, and the empty one, with their sections; ranges that `code` encloses are code.
+/// The line tables that were read, and an empty one, with the sections. Ranges that `code` encloses
+/// are code.
 #[derive(Drop)]
 struct KnownTables<'s, 'a> {
     sections: &'s Sections<'a>,
@@ -39,7 +40,8 @@ struct KnownTables<'s, 'a> {
     empty: SharedLines,
 }
 
-/// What is kept of a line table in a unit with a function or without.
+/// What a unit keeps of a line table: the table if the unit has a function, otherwise an empty
+/// table.
 fn keep_lines(
     known: &KnownTables<'_, '_>,
     lines: &SharedLines,
@@ -77,7 +79,8 @@ fn own_lines(
     }
 }
 
-/// The lines that are kept of a unit with a function or without, or the fault of its table.
+/// The lines that a unit keeps, or the fault of its table; `function` says whether the unit has a
+/// function.
 fn lines_of(
     alloc: Global,
     known: &KnownTables<'_, '_>,

@@ -56,7 +56,8 @@ fn pick_read(alloc: Global, units: &[Unit]) -> Result<Vec<Unit>, OutOfMemory>
     Ok(read)
 }
 
-/// Reads a unit, given its abbreviations, except for its line table: its entries, and their addresses.
+/// Reads the entries of a unit and their addresses, given its abbreviations. Its line table is not
+/// read.
 #[tactic(auto, unfolding(crate::specs::UnitSays::unit_says))]
 fn read_entries<'a>(
     alloc: Global,
@@ -140,7 +141,7 @@ fn read_unit<'a>(
     }
 }
 
-/// The units to be read, of these sections; ranges that `code` encloses are code.
+/// A job that reads units of these sections by number. Ranges that `code` encloses are code.
 #[derive(Drop)]
 struct UnitReader<'s, 'a> {
     sections: &'s Sections<'a>,

@@ -1,4 +1,5 @@
--- The answers of the commands over symbol files; for `answer_symbols`, `answer_query` and what they call.
+-- The answers of the commands on symbol files, for `answer_symbols`, `answer_query` and what they
+-- call.
 use Rattle.std.proofs.Common.{◌≡◌, inl, inr, ℕ, ◌+◌, ◌≤◌, ◌<◌, ◌^◌, Bool, true, false, cond, List, [], ◌∷◌, ◌++◌, take, Option, Some, None, Ok, Err, Result, length, nat_lt, zero, suc, replicate, refl, sym, ◌∙◌, ap, arith, append-nil, append_assoc, subst, IfOk}
 use Rattle.std.proofs.lemmas.Bool.{cases_lt}
 use Rattle.std.proofs.lemmas.Bool.Decides.{nat_tests}
@@ -48,7 +49,7 @@ use Rattle.dumpsyms_cmd.specs.declared.judgement.Answer.TheVariants.{Judged, Unr
 use Rattle.dumpsyms_cmd.proofs.JudgedLemmas.{told}
 use Rattle.dumpsyms_cmd.proofs.NameLemmas.{names_read_back}
 
--- a refusal is the verdict of its line
+-- A refusal is the verdict with its line.
 abbrev given : ℕ → List ℕ → List ℕ → Verdict
 given status out err = record { status = status; out = out; err = err }
 
@@ -57,7 +58,7 @@ refuses_verdict j text line same refuses =
     ap (λ n. given n (out_bytes j.out) (err_bytes j.err)) refuses.status
     ∙ ap (λ o. given 1 (out_bytes o) (err_bytes j.err)) refuses.out ∙ ap (given 1 []) (refuses.err ∙ same)
 
--- by the reading of a file that is held
+-- A judgement on the reading of a file.
 by_reading : (files : Option Files) (name : List ℕ) (answer : List SymLine → Verdict) (read : Result (List SymLine) SymRefusal) (j : Judgement) → HoldsFile files name (IsReading LIMIT read) → judgement_verdict j ≡ by_records answer read → AnswersBytes name (symbol_verdict answer) files j
 by_reading None name answer read j holds is = record { bytes = holds.0; there = tt; is = is ∙ ap (by_records answer) (sym holds.1) }
 by_reading (Some files) name answer read j holds is = record { bytes = holds.0; there = holds.1; is = is ∙ ap (by_records answer) (sym holds.2) }
@@ -73,7 +74,7 @@ found_low : (found : List Finding) → (findings_verdict found).status < 2
 found_low [] = omega arith
 found_low (f ∷ found) = omega arith
 
--- a judgement is answered, or that memory ran out
+-- The answer is the judgement, or that memory ran out.
 pub answered : {F : Type 0} (answer : Answer) (judged : Result Judgement F) (P : Answer → Type 0) → AnswersJudged answer judged → IfOk judged (λ j. P (Judged j)) → P NoMemory → P answer
 answered answer (Ok j) P is good none = subst P (sym is) good
 answered answer (Err e) P is good none = subst P (sym is) none
@@ -82,7 +83,7 @@ pub if_ok : {A F : Type 0} (r : Result A F) (P Q : A → Type 0) → ((x : A) �
 if_ok (Ok x) P Q f is = f x is
 if_ok (Err e) P Q f is = tt
 
--- a command over a symbol file alone
+-- A command on a symbol file alone.
 sym_low : (q : SymQuery) (lines : List SymLine) → (sym_answer q lines).status < 2
 sym_low Check lines = found_low (findings lines)
 sym_low query lines = omega arith
@@ -106,7 +107,7 @@ sym_judged Names j name files kept valid =
     one_judged j (names name) files (one_low Names j name files kept) (one_told j name names_answer files kept) (record { answers = kept; reads_back = λ lines is. names_read_back lines (valid lines is) })
 sym_judged q j name files kept valid = one_judged j (sym_command q name) files (one_low q j name files kept) (one_told j name (symbol_verdict (sym_answer q)) files kept) kept
 
--- commands over symbol files read files
+-- Commands on symbol files read files.
 sym_reads : (q : SymQuery) (name : List ℕ) → reads_files (sym_command q name) ≡ true
 sym_reads Check name = refl
 sym_reads (Lookup address) name = refl
@@ -116,7 +117,7 @@ state_reads : (q : StateQuery) (name state : List ℕ) → reads_files (state_co
 state_reads (query.Frame address) name state = refl
 state_reads query.Walk name state = refl
 
--- the records that were read are valid, and a file that is refused has none
+-- The records that were read are valid, and a file that is refused has none.
 read_is : (a b : List SymLine) (read : Result (List SymLine) SymRefusal) → read ≡ Ok a → read ≡ Ok b → a ≡ b
 read_is a b read first second = cc
 
@@ -140,7 +141,7 @@ sym_read answer judged q name files asked before after lines valid holds is says
     answered answer judged (λ a. AnswersCommand a (Some (sym_command q name)) files asked before after) is
     (if_ok judged (λ j. judgement_verdict j ≡ sym_answer q lines) (λ j. IsJudged j (Some (sym_command q name)) files) (λ j same. sym_judged q j name files (by_reading files name (sym_answer q) (Ok lines) j holds same) (held_valid files name (sym_answer q) lines j holds same valid)) says) refl
 
--- they name no file that could not be read
+-- These commands do not name the file that could not be read.
 sym_line : (q : SymQuery) (name line : List ℕ) (asked : List (List ℕ)) → line ≡ unread_line → line ≡ not_read_line (Some (sym_command q name)) asked
 sym_line Check name line asked is = is
 sym_line (Lookup address) name line asked is = is
@@ -159,7 +160,7 @@ sym_ended (Unread m) (Fault (end.Refused why)) text q name files asked before af
 sym_ended (Unread m) stop.NoMemory text q name files asked before after read is says = absurd says
 sym_ended NoMemory stopped text q name files asked before after read is says = refl
 
--- the name of a symbol file is asked for, and then perhaps that of a second file
+-- The name of a symbol file is asked for, and then perhaps that of a second file.
 pub asks_symbols : {A F : Type 0} (read : Result A (Stop F)) (name : List ℕ) (later : List (List ℕ)) (before after : List (List ℕ)) → AsksName read before name after → Asks (name ∷ later) before after
 asks_symbols (Ok x) name later before after asked = (1, omega arith, asked)
 asks_symbols (Err (Fault f)) name later before after asked = (1, omega arith, asked)
@@ -185,7 +186,7 @@ pub asks_both : (files : Option Files) (name state : List ℕ) (lines : List Sym
 asks_both files name state lines before mid after holds first second =
     subst (λ (later : List (List ℕ)). Asks (name ∷ later) before after) (sym (second_is files name state lines holds)) (both_by second.0 name state before mid after second.1 first second.2)
 
--- a state file, whatever is asked of the state
+-- A state file, for any command on a state.
 within_state : (lines : List SymLine) (ask : List SymLine → State → Verdict) (bytes : List ℕ) → length bytes ≤ STATE_LIMIT → state_answer ask lines bytes ≡ by_state ask lines (state_of bytes)
 within_state lines ask bytes few =
     let no : nat_lt STATE_LIMIT (length bytes) ≡ false = grind (arith, nat_tests) in
@@ -207,7 +208,7 @@ state_read answer judged lines ask name files before after bytes held holds same
     answered answer judged (λ a. AnswersState a lines ask name files before after) is
     (if_ok judged (λ j. judgement_verdict j ≡ state_answer ask lines held) (λ j. AnswersBytesOf lines ask name files j) (λ j v. state_held files name lines ask bytes j holds (v ∙ ap (state_answer ask lines) same)) says) tt
 
--- a state file that is too long
+-- A state file that is too long.
 long_bytes : (limit : ℕ) → (bytes : List ℕ) × (limit < length bytes)
 long_bytes limit = (replicate (limit + 1) 0, omega (arith, length-replicate {A = ℕ} (limit + 1) 0))
 
@@ -240,7 +241,7 @@ state_stopped (Unread m) (Fault TooLong) text lines ask name files left left_aft
 state_stopped (Unread m) stop.NoMemory text lines ask name files left left_after before after read is says = absurd says
 state_stopped NoMemory stopped text lines ask name files left left_after before after read is says = tt
 
--- both files
+-- Both files.
 state_low : (ask : List SymLine → State → Verdict) (lines : List SymLine) (bytes : List ℕ) → ((state : State) → (ask lines state).status < 2) → (state_answer ask lines bytes).status < 2
 state_low ask lines bytes low = go (nat_lt STATE_LIMIT (length bytes)) (state_of bytes)
   where

@@ -1,4 +1,4 @@
--- The records around those of functions.
+-- The records before and after those of functions.
 use Rattle.std.proofs.Common.{◌≡◌, ℕ, true, map, List, [], ◌∷◌, ◌++◌, Option, None, Some, refl}
 use Rattle.std.specs.List.{list_all}
 use Rattle.elf_sections.specs.Image.{ImageParts}
@@ -11,7 +11,7 @@ use Rattle.func_flatten.specs.Publics.{PublicParts, publics}
 use Rattle.debug_read.specs.DebugSays.{DebugSays}
 use Rattle.dumpsyms_cmd.specs.commands.Dump.{module_line, info_line, info_lines, identity_lines, public_line, public_lines, frame_lines, written_of}
 
--- those of the binary
+-- The records of the binary.
 infos_plain : (id : Option (List ℕ)) → ArePlain (info_lines id)
 unfolding info_line
 infos_plain None = tt
@@ -48,12 +48,13 @@ pub identity_sized : (image : ImageParts) (name : List ℕ) → list_all are_siz
 unfolding module_line
 identity_sized image name = infos_sized image.build_id
 
--- what holds of a list, and of one record of its kind more in front of it, holds after such records
+-- What is true of a list, and stays true if a record of this kind is put before it, is true after
+-- all these records are put before it.
 publics_over : (P : List SymLine → Type 0) (base : ℕ) (ps : List PublicParts) (rest : List SymLine) → ((p : PublicParts) (later : List SymLine) → P later → P (public_line base p ∷ later)) → P rest → P (map (public_line base) ps ++ rest)
 publics_over P base [] rest more is = is
 publics_over P base (p ∷ ps) rest more is = more p (map (public_line base) ps ++ rest) (publics_over P base ps rest more is)
 
--- those after the records of functions are plain, no FILE and no INLINE_ORIGIN
+-- The records after those of functions are plain: none is a FILE or an INLINE_ORIGIN.
 pub frames_plain : (image : ImageParts) (found : DebugSays) → ArePlain (frame_lines image found)
 frames_plain image found = written_plain image.base (written_of image found)
 

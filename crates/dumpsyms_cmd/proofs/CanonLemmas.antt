@@ -1,4 +1,5 @@
--- The records of a file are its canonical ones, and a look-up in them names the owner and the line of each address.
+-- The records of a file are its canonical ones, and a look-up in them names the owner and the line
+-- of each address.
 use Rattle.std.proofs.Common.{◌≡◌, ℕ, zero, suc, ◌+◌, true, map, take, List, [], ◌∷◌, ◌++◌, None, Some, Ok, arith, sym, ap, subst, ◌∙◌, append_assoc, append-nil}
 use Rattle.std.specs.List.{list_all, slice_get}
 use Rattle.std.proofs.lemmas.List.{map-append}
@@ -40,14 +41,14 @@ use Rattle.dumpsyms_cmd.proofs.FrameLemmas.{head_frameless}
 use Rattle.dumpsyms_cmd.proofs.AroundLemmas.{identity_plain, identity_no_file, identity_no_origin, behind_plain}
 use Rattle.dumpsyms_cmd.proofs.FindingLemmas.{file_clean}
 
--- what a look-up in the records of a file names
+-- What a look-up in the records of a file names.
 pub file_named : (image : ImageParts) (name : List ℕ) (found : DebugSays) (units : List UnitRead) (pieces : List Piece) (functions lines : List SymLine) → BeginAbove image.base pieces → ArePieces units pieces → AreFuncRecords image.base units pieces functions → lines ≡ identity_lines image name ++ (functions ++ (public_lines image pieces ++ frame_lines image found)) → (x : ℕ) → Names image.base units lines x
 file_named image name found units pieces functions lines above pieced records whole x =
     subst (λ (l : List SymLine). Names image.base units l x) (sym whole)
     (all_named image.base units pieces (identity_lines image name) functions (public_lines image pieces ++ frame_lines image found) pieced
     above records (identity_plain image name) (identity_no_file image name) (identity_no_origin image name) (behind_plain image pieces found) x)
 
--- the records in front: of the binary, of functions, of symbols
+-- The records before those of frames: of the binary, of functions and of symbols.
 pub head_spelled : (image : ImageParts) (name : List ℕ) (units : List UnitRead) (pieces : List Piece) (base : ℕ) (shown : List PublicParts) (full last longer first second text : List ℕ) → base ≡ image.base → shown ≡ publics pieces image.symbols → full ++ last ≡ [] → longer ≡ last ++ canon_text (identity_lines image name) → first ≡ full ++ longer → first_bad (identity_lines image name) ≡ None → AddsFunctions base units pieces first second → text ≡ second ++ canon_text (map (public_line base) shown) → first_bad_from 0 Inside (map (public_line base) shown) ≡ None → HasHead image name units pieces text
 head_spelled image name units pieces base shown full last longer first second text low these none begun same valid adds added fit =
     let own : List SymLine = map (public_line base) shown in
@@ -65,7 +66,7 @@ head_spelled image name units pieces base shown full last longer first second te
           (join_behind adds.records (public_lines image pieces) adds.fit (subst (λ (l : List SymLine). first_bad_from 0 Inside l ≡ None) publics_are fit));
     }
 
--- a record of a symbol more
+-- One record of a symbol more.
 take_more : {X : Type 0} (xs : List X) (n : ℕ) (x : X) → slice_get xs n ≡ Some x → take (n + 1) xs ≡ take n xs ++ x ∷ []
 take_more [] n x is = absurd (cc)
 take_more (y ∷ xs) zero x is = ap (λ z. z ∷ []) (let same : y ≡ x = cc in same)
@@ -89,7 +90,7 @@ line_fit f xs n x is so fits =
     ap (first_bad_from 0 Inside) (lines_more f xs n x is)
     ∙ join_behind (map f (take n xs)) (f x ∷ []) so (from_here 0 Inside (f x) [] fits.0 fits.1 (none_here 1 (leads Inside (f x))))
 
--- the text of a file: the records in front are spelled, and then those of frames
+-- The text of a file: first the text of the records before those of frames, then that of frames.
 pub whole_spelled : (front rest text : List ℕ) (head written : List SymLine) → front ≡ canon_text head → first_bad head ≡ None → rest ≡ canon_text written → first_bad_from 0 Inside written ≡ None → text ≡ front ++ rest → IsSpelled text
 whole_spelled front rest text head written are valid frames good is =
     spelled (head ++ written) text (join_fits head written valid good) (is ∙ ap (λ t. t ++ rest) are ∙ ap (λ t. canon_text head ++ t) frames ∙ sym (canon_join head written))
@@ -103,7 +104,7 @@ mapped_at f [] n x is = absurd (cc)
 mapped_at f (y ∷ xs) zero x is = ap (λ z. Some (f z)) (let same : y ≡ x = cc in same)
 mapped_at f (y ∷ xs) (suc n) x is = mapped_at f xs n x is
 
--- what is dumped of a file that was read
+-- The dump of a file that was read.
 pub file_dumped : (image : ImageParts) (name : List ℕ) (read : DebugRead) (pieces : List Piece) (lines framed : List SymLine) (base : ℕ) (code : List Range) (left : List Omission) (head : List ℕ) → IsDebugRead image read → AllFrom image.base image.code → ArePieces read.units pieces → (front : HasHead image name read.units pieces head) → base ≡ image.base → code ≡ image.code → framed ≡ written_lines base (written code read.first read.second) → left ≡ omitted code read.first read.second → lines ≡ (identity_lines image name ++ (front.functions ++ public_lines image pieces)) ++ framed → reading (canon_text lines) ≡ Ok lines → DumpsRead image name read lines left
 file_dumped image name read pieces lines framed base code left head is above pieced front low ranges framed_is left_is are reads =
     let k = kept image read is in

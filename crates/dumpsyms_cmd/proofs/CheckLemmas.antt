@@ -1,4 +1,4 @@
--- The lines of findings; for `add_findings`, `judge_records`.
+-- The lines of findings, for `add_findings` and `judge_records`.
 use Rattle.std.proofs.Common.{◌≡◌, ℕ, ◌≤◌, arith, Bool, true, false, List, [], ◌∷◌, ◌++◌, length, take, refl, ap, sym, ◌∙◌, ◌==◌}
 use Rattle.std.specs.List.{flat_map}
 use Rattle.std.proofs.lemmas.Bool.Decides.{nat_tests}
@@ -9,7 +9,7 @@ use Rattle.sym_findings.specs.declared.kind.Finding.{Finding}
 use Rattle.dumpsyms_cmd.specs.Verdict.{Verdict}
 use Rattle.dumpsyms_cmd.specs.commands.Check.{finding_line, findings_text, no_findings_line, findings_verdict, records_checked}
 
--- after the last line
+-- After the last line.
 pub findings_end : (before text : List ℕ) (found : List Finding) (i : ℕ) → length found ≤ i → text ≡ before ++ flat_map finding_line (take i found) → text ≡ before ++ findings_text found
 unfolding findings_text
 findings_end before text found i past is = is ∙ ap (λ l. before ++ flat_map finding_line l) (take_all i found past)

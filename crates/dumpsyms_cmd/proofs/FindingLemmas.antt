@@ -1,4 +1,4 @@
--- In the records of a file a checker finds nothing: for the records that `dump_file` spells.
+-- A checker finds nothing in the records that `dump_file` spells.
 use Rattle.std.proofs.Common.{◌≡◌, ℕ, ◌^◌, true, List, ◌++◌, sym, subst}
 use Rattle.std.specs.List.{list_all}
 use Rattle.elf_sections.specs.Image.{ImageParts}
@@ -15,7 +15,7 @@ use Rattle.debug_read.specs.DebugSays.{DebugSays}
 use Rattle.dumpsyms_cmd.specs.commands.Dump.{identity_lines, public_lines, frame_lines, written_of}
 use Rattle.dumpsyms_cmd.proofs.AroundLemmas.{identity_plain, identity_no_file, identity_no_origin, identity_sized, behind_plain, behind_no_file, behind_no_origin, behind_sized}
 
--- a checker finds nothing in the records of a file
+-- A checker finds nothing in the records of a file.
 pub file_clean : (image : ImageParts) (name : List ℕ) (found : DebugSays) (units : List UnitRead) (pieces : List Piece) (functions lines : List SymLine) → ArePieces units pieces → BeginAbove image.base pieces → EndBelow (2 ^ 64) pieces → AreFuncRecords image.base units pieces functions → lines ≡ identity_lines image name ++ (functions ++ (public_lines image pieces ++ frame_lines image found)) → list_all are_sized (frame_lines image found) ≡ true → SaysFrames image.base (written_of image found) lines → HasNoFindings lines
 file_clean image name found units pieces functions lines pieced above below records whole sized frames =
     record {

@@ -1,4 +1,4 @@
--- The lines on standard error, and what the records of a file say of its frame entries.
+-- The lines about omitted entries, and what the records of a file say of its frame entries.
 use Rattle.std.proofs.Common.{◌≡◌, ℕ, ◌+◌, ◌≤◌, true, List, [], ◌∷◌, ◌++◌, map, length, take, Option, Some, None, refl, ◌∙◌, ap}
 use Rattle.std.specs.List.{flat_map, list_all}
 use Rattle.std.proofs.lemmas.List.{take_all}
@@ -18,7 +18,7 @@ use Rattle.sym_meaning.specs.Inits.{is_frameless}
 use Rattle.sym_meaning.proofs.InitLemmas.{both_frameless}
 use Rattle.dumpsyms_cmd.specs.commands.Dump.{module_line, info_line, info_lines, identity_lines, public_line, public_lines}
 
--- after the last line
+-- After the last line.
 pub lines_end : (before text : List ℕ) (omissions : List Omission) (i : ℕ) → length omissions ≤ i → text ≡ before ++ flat_map omitted_line (take i omissions) → text ≡ before ++ omitted_text omissions
 unfolding omitted_text
 lines_end before text omissions i past is = is ∙ ap (λ l. before ++ flat_map omitted_line l) (take_all i omissions past)
@@ -31,7 +31,7 @@ pub left_end : (before text : List ℕ) (sections : DebugSections) (units : List
 unfolding units_left_text
 left_end before text sections units i past is = is ∙ ap (λ l. before ++ flat_map (unit_left sections) l) (take_all i units past)
 
--- records in front of those of frames say nothing of these
+-- The records before those of frames have no frame rules.
 infos_frameless : (id : Option (List ℕ)) → list_all is_frameless (info_lines id) ≡ true
 unfolding info_line
 infos_frameless None = refl

@@ -1,4 +1,5 @@
--- The judgement on an ELF file and a symbol file; for `judge_files`, `answer_sym` and `answer_judge`.
+-- The judgement on an ELF file and a symbol file, for `judge_files`, `answer_sym` and
+-- `answer_judge`.
 use Rattle.std.proofs.Common.{◌≡◌, inl, inr, ℕ, suc, ◌+◌, ◌≤◌, ◌<◌, Bool, true, false, cond, List, [], ◌∷◌, ◌++◌, take, Option, Some, None, Ok, Err, Result, length, nat_lt, refl, sym, ◌∙◌, ap, arith, append-nil, append_assoc, subst, IfOk}
 use Rattle.sym_edges.specs.Outside.{Files, Tells}
 use Rattle.sym_edges.specs.WholeFile.{HoldsFile}
@@ -43,7 +44,7 @@ ruled_one own other ruling j says is = record { ruling = ruling; ruling_is = say
 pub ruled_by : {F : Type 0} (own other : List SymLine) (ruling : Ruling) (judged : Result Judgement F) → IsRuling own other ruling → IfOk judged (λ j. judgement_verdict j ≡ ruling_verdict ruling) → IfOk judged (λ j. IsRuled own other (judgement_verdict j))
 ruled_by own other ruling judged says is = if_ok judged (λ j. judgement_verdict j ≡ ruling_verdict ruling) (λ j. IsRuled own other (judgement_verdict j)) (λ j same. ruled_one own other ruling j says same) is
 
--- the symbol file
+-- The symbol file.
 read_is : (own : List SymLine) (name : List ℕ) (files : Option Files) (read : Result (List SymLine) SymRefusal) (j : Judgement) → HoldsFile files name (IsReading LIMIT read) → IsReadVerdict own read (judgement_verdict j) → JudgesSym own name files j
 read_is own name None read j holds is = record { bytes = holds.0; there = tt; is = subst (λ (r : Result (List SymLine) SymRefusal). IsReadVerdict own r (judgement_verdict j)) (sym holds.1) is }
 read_is own name (Some files) read j holds is = record { bytes = holds.0; there = holds.1; is = subst (λ (r : Result (List SymLine) SymRefusal). IsReadVerdict own r (judgement_verdict j)) (sym holds.2) is }
@@ -63,7 +64,7 @@ sym_ended (Unread m) (Fault (end.Refused why)) text own full name files asked as
 sym_ended (Unread m) stop.NoMemory text own full name files asked asked_after before after read once is says = absurd says
 sym_ended NoMemory stopped text own full name files asked asked_after before after read once is says = tt
 
--- the verdict where the store tells its files
+-- The verdict if the store's files are known.
 ruling_low : (ruling : Ruling) → (ruling_verdict ruling).status < 2
 ruling_low Yes = omega arith
 ruling_low (No a p) = omega arith
@@ -98,7 +99,7 @@ both_low source name files j (inr both) = read_low both.own (file_reading LIMIT 
 judged_both : (source : ElfSource) (name : List ℕ) (files : Option Files) (j : Judgement) → JudgePromises source name files j → IsJudged j (Some (judge source name)) files
 judged_both source name files j kept = let low = both_low source name files j kept in record { low = omega (arith, low); row = λ some. low; told = both_told source name files j kept; kept = kept }
 
--- a dump that gave no text
+-- A dump that gave no text.
 no_text : (o : Output) → ((lines : List SymLine) → o ≡ Text lines → ⊥) → IsNoText o
 no_text Nothing none = tt
 no_text (Text lines) none = none lines refl
@@ -127,7 +128,7 @@ refuses_by source files j (Records lines) is textless says = absurd says
 pub no_text_judged : (source : ElfSource) (name : List ℕ) (files : Option Files) (j : Judgement) → ((lines : List SymLine) → j.out ≡ Text lines → ⊥) → DumpPromises source files j → IsJudged j (Some (judge source name)) files
 no_text_judged source name files j none kept = judged_both source name files j (inl (refuses_by source files j j.out refl (no_text j.out none) kept))
 
--- a dump that gave a text
+-- A dump that gave a text.
 gives_by : (source : ElfSource) (files : Option Files) (j : Judgement) (lines : List SymLine) → j.out ≡ Text lines → DumpPromises source files j → Giving source files lines (err_bytes j.err)
 gives_by source files j lines is kept = (subst (λ o. RefusesOrGives o j.status (err_bytes j.err) (Refusing source files) (Giving source files)) is kept).1
 
@@ -142,7 +143,7 @@ text_judged (Judged j) source full name files asked dumped lines own before afte
 text_judged (Unread m) source full name files asked dumped lines own before after both is same kept says = (refl, says.0, says.1 ∙ sym (ap (λ (b : Bool). unread_lines b (last_name asked)) both))
 text_judged NoMemory source full name files asked dumped lines own before after both is same kept says = refl
 
--- the names that are asked for
+-- The names that are asked for.
 pub not_asked : (names before after : List (List ℕ)) → after ≡ before → Asks names before after
 not_asked names before after same = (0, omega arith, same ∙ sym (append-nil before))
 
@@ -170,7 +171,7 @@ asks_later elf later before mid after first asked =
     let one : asked.0 + 1 ≡ suc asked.0 = omega arith in
     (asked.0 + 1, omega (arith, asked.1), asked.2 ∙ ap (λ m. m ++ take asked.0 later) first ∙ append_assoc before (elf ∷ []) (take asked.0 later) ∙ ap (λ n. before ++ take n (elf ∷ later)) (sym one))
 
--- a dump and what is answered behind it, together
+-- The answer after a dump, together with the dump.
 later_answered : (answer : Answer) (source : ElfSource) (name : List ℕ) (files : Option Files) (asked : List (List ℕ)) (before mid after : ℕ) → before ≤ mid → mid ≤ after → AnswersCommand answer (Some (judge source name)) files asked mid after → AnswersCommand answer (Some (judge source name)) files asked before after
 later_answered (Judged j) source name files asked before mid after first second says = says
 later_answered (Unread m) source name files asked before mid after first second says = (says.0, rose_later before mid after first second says.1, says.2)

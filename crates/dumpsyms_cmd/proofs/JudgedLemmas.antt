@@ -1,4 +1,4 @@
--- Judgements, from the parts of an image up to the words.
+-- Judgements, from the parts of an image up to the arguments.
 use Rattle.std.proofs.Common.{◌≡◌, ℕ, ◌<◌, Bool, true, false, List, [], ◌∷◌, ◌++◌, Option, Some, None, IsSome, Ok, Err, Result, length, nat_lt, refl, sym, ◌∙◌, ap, arith, append-nil, subst}
 use Rattle.std.proofs.lemmas.Bool.Decides.{nat_tests}
 use Rattle.sym_edges.specs.Outside.{Files, Tells, MatchStop}
@@ -41,7 +41,7 @@ use Rattle.dumpsyms_cmd.specs.declared.judgement.Judgement.{Judgement}
 use Rattle.dumpsyms_cmd.specs.declared.judgement.Answer.{Answer}
 use Rattle.dumpsyms_cmd.specs.declared.judgement.Answer.TheVariants.{Judged, Unread, NoMemory}
 
--- what follows of what is told
+-- What follows from what is known.
 pub told : {A : Type 0} (P Q : A → Type 0) (o : Option A) → ((x : A) → P x → Q x) → Tells o P → Tells o Q
 told P Q None f h = tt
 told P Q (Some x) f h = f x h
@@ -50,24 +50,24 @@ pub always : {A : Type 0} (Q : A → Type 0) (o : Option A) → ((x : A) → Q x
 always Q None f = tt
 always Q (Some x) f = f x
 
--- a refusal is a judgement of its line
+-- A refusal is a judgement with its line.
 refusing : (j : Judgement) (text : List ℕ) (P : List ℕ → Type 0) (Q : List SymLine → List ℕ → Type 0) → Refuses j text → P text → Judges j P Q
 refusing j text P Q refuses p =
     let R : Output → Type 0 = λ o. RefusesOrGives o j.status (err_bytes j.err) P Q in
     subst R (sym refuses.out) (refuses.status, subst P (sym refuses.err) p)
 
--- what follows of the line, or of the records, is judged too
+-- If the line or the records imply more, the judgement does too.
 pub judging : (o : Output) (status : ℕ) (err : List ℕ) (P P' : List ℕ → Type 0) (Q Q' : List SymLine → List ℕ → Type 0) → ((e : List ℕ) → P e → P' e) → ((lines : List SymLine) (e : List ℕ) → Q lines e → Q' lines e) → RefusesOrGives o status err P Q → RefusesOrGives o status err P' Q'
 judging Nothing status err P P' Q Q' f g says = (says.0, f err says.1)
 judging (Text lines) status err P P' Q Q' f g says = (says.0, g lines err says.1)
 judging (Bytes text) status err P P' Q Q' f g says = absurd says
 judging (Records lines) status err P P' Q Q' f g says = absurd says
 
--- a refusal by a line that is the text
+-- A refusal with a line that is the text.
 line_refused : (P : Verdict → Type 0) (line text : List ℕ) → text ≡ line → P (refused line) → P (refused text)
 line_refused P line text same is = subst (λ (t : List ℕ). P (refused t)) (sym same) is
 
--- a fault after the image is refused with its line
+-- A fault after the image is refused with its line.
 fault_by : (full : Bool) (parts : ImageParts) (name : List ℕ) (fault : DebugFault) → debug_says parts ≡ Err fault → IsPartsVerdict full parts name (refused (debug_line fault))
 fault_by full parts name fault is = subst (λ (r : Result DebugSays DebugFault). IsDebugVerdict full r parts name (refused (debug_line fault))) (sym is) refl
 
@@ -76,14 +76,14 @@ debug_judged j full parts name text fault is line refuses =
     refusing j text (λ err. IsPartsVerdict full parts name (refused err)) (DumpsParts full parts name) refuses
     (line_refused (IsPartsVerdict full parts name) (debug_line fault) text line (fault_by full parts name fault is))
 
--- the same of a reading that ended with it
+-- A reading that ended with a fault is refused with the fault's line.
 pub stop_judged : {A : Type 0} (j : Judgement) (full : Bool) (parts : ImageParts) (name text : List ℕ) (P : A → Type 0) (read : Result A (Stop DebugFault)) (end : Stop DebugFault) (fault : DebugFault) → MatchStop read P (λ f. debug_says parts ≡ Err f) (Prim.Unit {0}) → read ≡ Err end → end ≡ Fault fault → text ≡ debug_line fault → Refuses j text → JudgesParts j full name parts
 stop_judged {A = A} j full parts name text P read end fault says is ends line refuses =
     let R : Result A (Stop DebugFault) → Type 0 = λ r. MatchStop r P (λ f. debug_says parts ≡ Err f) (Prim.Unit {0}) in
     let S : Stop DebugFault → Type 0 = λ e. MatchStop {A = A} (Err e) P (λ f. debug_says parts ≡ Err f) (Prim.Unit {0}) in
     debug_judged j full parts name text fault (subst S ends (subst R is says)) line refuses
 
--- the verdict of an image without faults
+-- The verdict on an image without faults.
 abbrev given : ℕ → List ℕ → List ℕ → Verdict
 given status out err = record { status = status; out = out; err = err }
 
@@ -95,7 +95,7 @@ found_told full parts name lines text dumps =
 kept_is : (parts : ImageParts) (read : DebugRead) (k : Kept parts read) → IsKept parts.code k.says read
 kept_is parts read k = record { headers = k.headers; sup_headers = k.sup_headers; units = k.units; first = k.first; second = k.second }
 
--- the records of a file by what was read of it
+-- The records of a file, given what was read of it.
 pub dumps_parts : (full : Bool) (parts : ImageParts) (name text : List ℕ) (read : DebugRead) (lines : List SymLine) (left : List Omission) → IsDebugRead parts read → DumpsRead parts name read lines left → text ≡ left_of full parts read left → DumpsParts full parts name lines text
 dumps_parts full parts name text read lines left says dumps is =
     let k = kept parts read says in
@@ -115,7 +115,7 @@ dumps_parts full parts name text read lines left says dumps is =
     said : {x y : DebugSays} → ◌≡◌ {A = Result DebugSays DebugFault} (Ok x) (Ok y) → x ≡ y
     said is = cc
 
--- the same with their number
+-- The same, with the number of omitted entries.
 pub assembles : (full : Bool) (parts : ImageParts) (name text : List ℕ) (read : DebugRead) (lines : List SymLine) (left : List Omission) (count : ℕ) → IsDebugRead parts read → DumpsRead parts name read lines left → text ≡ left_of full parts read left → count ≡ length left → Assembles full parts name lines text count
 assembles full parts name text read lines left count says dumps is number =
     record {
@@ -126,11 +126,12 @@ assembles full parts name text read lines left count says dumps is number =
     said : {x y : DebugSays} → ◌≡◌ {A = Result DebugSays DebugFault} (Ok x) (Ok y) → x ≡ y
     said is = cc
 
--- under the name of a path
+-- The module is named by the path of the file.
 pub dumps_named : (full : Bool) (parts : ImageParts) (name path held : List ℕ) (lines : List SymLine) (text : List ℕ) (count : ℕ) → Assembles full parts name lines text count → name ≡ module_name held → held ≡ path → DumpsParts full parts (module_name path) lines text
 dumps_named full parts name path held lines text count dumps named same = subst (λ (n : List ℕ). DumpsParts full parts n lines text) (named ∙ ap module_name same) dumps.dumps
 
--- a judgement on the parts of an image is one on the image that is given, and so is the line of a refusal
+-- A judgement on the parts of an image is one on the image that is given; the same holds for the
+-- line of a refusal.
 pub given_parts : (j : Judgement) (source : ElfSource) (given : Result ImageParts Verdict) (parts : ImageParts) → given ≡ Ok parts → JudgesParts j source.full (module_name source.elf) parts → JudgesGiven j source given
 given_parts j source given parts is says =
     judging j.out j.status (err_bytes j.err)
@@ -145,7 +146,8 @@ given_refused j source text line given is same refuses =
     refusing j text (λ err. IsGivenVerdict source given (refused err)) (DumpsGiven source given) refuses
     (subst (λ (r : Result ImageParts Verdict). IsGivenVerdict source r (refused text)) (sym is) (ap refused same))
 
--- what a store that tells its files tells of the image of a file that was read, and of one that is longer
+-- If the store's files are known, they give the image of a file that was read; of a file that is
+-- too long they give a refusal.
 pub held_by : (image : List ℕ → Result ImageParts ElfFault) (full : Bool) (line : ElfFault → List ℕ) (files : Option Files) (path bytes : List ℕ) → HoldsFile files path (λ whole. IsWhole whole bytes LIMIT) → Tells files (λ f. file_by full image line path (f path) ≡ or_refused line (image bytes))
 held_by image full line None path bytes holds = tt
 held_by image full line (Some files) path bytes holds =
@@ -163,7 +165,7 @@ longer_image image full line (Some files) path holds =
     let yes : nat_lt LIMIT (length holds.0) ≡ true = grind (arith, nat_tests) in
     ap (file_by full image line path) holds.1 ∙ ap (λ (b : Bool). unless_longer b (or_refused line (image holds.0))) yes
 
--- a judgement on the image that is given is one on the files, where these give it
+-- A judgement on the image that is given is one on the files, if they give this image.
 pub given_promised : (j : Judgement) (given_by : Files → Result ImageParts Verdict) (source : ElfSource) (files : Option Files) (image_given : Result ImageParts Verdict) → Tells files (λ f. given_by f ≡ image_given) → JudgesGiven j source image_given → ImagePromises given_by source files j
 given_promised j given_by source files image_given same says =
     judging j.out j.status (err_bytes j.err)
@@ -178,13 +180,13 @@ given_promised j given_by source files image_given same says =
     ))
     says
 
--- the verdict of an image that was dumped
+-- The verdict on an image that was dumped.
 pub dumped_verdict : (source : ElfSource) (image_given : Result ImageParts Verdict) (lines : List SymLine) (text : List ℕ) → DumpsGiven source image_given lines text → IsGivenVerdict source image_given (given 0 (canon_text lines) text)
 dumped_verdict source image_given lines text dumps =
     subst (λ (r : Result ImageParts Verdict). IsGivenVerdict source r (given 0 (canon_text lines) text)) (sym dumps.image_is)
     (found_told source.full dumps.parts (module_name source.elf) lines text dumps.dumps)
 
--- what the promise of a dump says of its status, and that it is the verdict
+-- The promises of a dump give its status, and say that it is the verdict.
 promised_low : (o : Output) (status : ℕ) (err : List ℕ) (P : List ℕ → Type 0) (Q : List SymLine → List ℕ → Type 0) → RefusesOrGives o status err P Q → status < 2
 promised_low Nothing status err P Q says = let is = says.0 in omega arith
 promised_low (Text lines) status err P Q says = let is = says.0 in omega arith
@@ -215,7 +217,7 @@ dump_judged j source workers files kept =
       kept = kept;
     }
 
--- a file that is longer is refused for it
+-- A file that is too long is refused.
 pub too_long_judged : (j : Judgement) (line text : List ℕ) → text ≡ too_long_line → Refuses j text → AnswersStop (Judged j) line (Fault TooLong)
 too_long_judged j line text is refuses = refusing j text (λ err. err ≡ too_long_line) (λ lines err. ⊥) refuses is
 
@@ -228,7 +230,7 @@ longer_judged j source line says =
     (λ lines err no. absurd no)
     says
 
--- a name was asked for last
+-- The name that was asked for last.
 pub last_is : (before : List (List ℕ)) (name : List ℕ) → last_name (before ++ name ∷ []) ≡ name
 last_is [] name = refl
 last_is (a ∷ []) name = refl
@@ -237,7 +239,7 @@ last_is (a ∷ b ∷ before) name = last_is (b ∷ before) name
 pub unread_last : (full : Bool) (line name : List ℕ) (before after : List (List ℕ)) → line ≡ unread_lines full name → after ≡ before ++ name ∷ [] → line ≡ unread_lines full (last_name after)
 unread_last full line name before after is asked = is ∙ sym (ap (unread_lines full) (ap last_name asked ∙ last_is before name))
 
--- where a file could not be read whole, the files give no image
+-- If a file could not be read whole, the files give no image.
 pub stop_image : (answer : Answer) (end : Stop ReadEnd) (image : List ℕ → Result ImageParts ElfFault) (line : ElfFault → List ℕ) (given_by : Files → Result ImageParts Verdict) (path text : List ℕ) (source : ElfSource) (files : Option Files) (left left_after : Option (List ℕ)) (asked asked_after : List (List ℕ)) (before after : ℕ) → ((f : Files) (ended : Verdict) → file_by source.full image line path (f path) ≡ Err ended → given_by f ≡ Err ended)
     → ReadAll (Err end) files path LIMIT left left_after before after → AsksOnce (Err end) asked path asked_after → text ≡ unread_lines source.full path → AnswersStop answer text end → AnswersImage answer given_by source files asked_after before after
 stop_image (Judged j) (Fault CantOpen) image line given_by path text source files left left_after asked asked_after before after follows read once is says = absurd says
@@ -253,7 +255,7 @@ stop_image (Unread m) (Fault TooLong) image line given_by path text source files
 stop_image (Unread m) stop.NoMemory image line given_by path text source files left left_after asked asked_after before after follows read once is says = absurd says
 stop_image NoMemory end image line given_by path text source files left left_after asked asked_after before after follows read once is says = tt
 
--- the usage line
+-- The usage line.
 none_some : (o : Option Asked) → o ≡ None → IsSome o → ⊥
 none_some None is some = cc
 none_some (Some x) is some = cc
@@ -271,7 +273,7 @@ usage_judged j files asked before after is =
       kept = is;
     }
 
--- the names asked for by a row: no others than those of its files
+-- A command asks for no other names than those of its files.
 no_further : (command : Option Asked) → AreFurther command []
 no_further (Some (stacks core folder)) = (tt, tt)
 no_further command = refl
@@ -280,7 +282,7 @@ pub row_asked : (command : Option Asked) (files : Option Files) (untold : Untold
 row_asked command files untold before after asked =
     record { untold = untold; further = []; are = no_further command; asks = subst (λ names. Asks names before after) (sym (append-nil (files_of command files untold))) asked }
 
--- nothing is known of what is not told
+-- Nothing is known.
 abbrev pub nothing : Untold
 nothing = record { id = []; link = None }
 

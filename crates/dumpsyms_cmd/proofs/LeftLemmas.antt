@@ -1,4 +1,5 @@
--- What is left out of a dump: the units of a supplementary file, and how it follows from what was read.
+-- What is left out of a dump: the units of a supplementary file, and how the lines follow from what
+-- was read.
 use Rattle.std.proofs.Common.{◌≡◌, ℕ, zero, suc, ◌+◌, ◌≤◌, Bool, true, false, List, [], ◌∷◌, ◌++◌, ◌||◌, append-nil, length, take, refl, sym, ap, ◌∙◌}
 use Rattle.std.specs.List.{flat_map, list_any}
 use Rattle.std.proofs.lemmas.List.{append_assoc, take_all}
@@ -24,7 +25,7 @@ use Rattle.dumpsyms_cmd.specs.SupUnits.{own_entries, sup_skipped_by, sup_skipped
 use Rattle.dumpsyms_cmd.specs.commands.Dump.{left_out}
 use Rattle.dumpsyms_cmd.specs.internal.LeftOut.{is_skipped, is_skipped_by, kept_entries, left_of, sup_left}
 
--- where no unit is skipped there is no line
+-- If a unit is not skipped, it has no line.
 no_line : (needed : Bool) (unit : Unit) (part : UnitPart) → is_skipped_by part ≡ false → sup_skipped_by needed unit part ≡ []
 no_line true unit Read not = refl
 no_line true unit Passed not = refl
@@ -49,7 +50,7 @@ pub none_added : (text : List ℕ) (entries : List DieFields) (units : List Unit
 unfolding sup_skipped_text
 none_added text entries units none = sym (append-nil text) ∙ ap (λ l. text ++ l) (sym (no_lines entries units none))
 
--- the places to which entries lead give the same lines
+-- The places to which entries refer give the same lines.
 same_lines : (entries : List DieFields) (targets : List ℕ) (units : List Unit) → AreTargets entries targets → flat_map (sup_left targets) units ≡ flat_map (sup_skipped_of entries) units
 same_lines entries targets [] are = refl
 same_lines entries targets (unit ∷ units) are =
@@ -60,11 +61,11 @@ pub lines_added : (before text : List ℕ) (entries : List DieFields) (targets :
 unfolding sup_skipped_text
 lines_added before text entries targets units are is = is ∙ ap (λ l. before ++ l) (same_lines entries targets units are)
 
--- after the last unit
+-- After the last unit.
 pub sup_end : (before text targets : List ℕ) (units : List Unit) (i : ℕ) → length units ≤ i → text ≡ before ++ flat_map (sup_left targets) (take i units) → text ≡ before ++ flat_map (sup_left targets) units
 sup_end before text targets units i past is = is ∙ ap (λ l. before ++ flat_map (sup_left targets) l) (take_all i units past)
 
--- the entries that are kept are those that the units say
+-- The entries that are kept are those of the definitions.
 entries_match : (code : List Range) (n : ℕ) (says : List UnitSays) (parts : List UnitRead) → Match (IsUnitRead code) says parts → entries_of (take n parts) ≡ flat_map (λ (u : UnitSays). u.table.dies) (take n says)
 entries_match code zero says parts are = refl
 entries_match code (suc n) [] [] are = refl
@@ -79,7 +80,7 @@ entries_kept code found read are =
     ap (λ (us : List Unit). entries_of (take (length (read_units us)) read.units)) are.headers
     ∙ entries_match code (length (read_units found.headers)) found.units read.units are.units
 
--- what is left out, by what the file says
+-- The lines about what is left out, given what the file says.
 pub left_said : (full : Bool) (parts : ImageParts) (found : DebugSays) (read : DebugRead) (left : List Omission) → IsKept parts.code found read → left ≡ omitted parts.code found.first found.second → left_of full parts read left ≡ left_out full parts found
 left_said full parts found read left are is =
     ap (λ (us : List Unit). units_text full (sections_of parts) us ++ (sup_skipped_text (kept_entries read) read.sup_headers ++ omitted_text left)) are.headers
@@ -87,7 +88,7 @@ left_said full parts found read left are is =
     ∙ ap (λ (us : List Unit). units_text full (sections_of parts) found.headers ++ (sup_skipped_text (own_entries found) us ++ omitted_text left)) are.sup_headers
     ∙ ap (λ (os : List Omission). units_text full (sections_of parts) found.headers ++ (sup_skipped_text (own_entries found) found.sup_headers ++ omitted_text os)) is
 
--- the text by its three parts
+-- The text is its three parts, one after another.
 pub all_left : (full : Bool) (parts : ImageParts) (read : DebugRead) (left : List Omission) (start one two three : List ℕ) → start ≡ [] → one ≡ start ++ units_text full (sections_of parts) read.headers → two ≡ one ++ sup_skipped_text (kept_entries read) read.sup_headers → three ≡ two ++ omitted_text left → three ≡ left_of full parts read left
 all_left full parts read left start one two three empty first second third =
     third ∙ ap (λ l. l ++ omitted_text left) (second ∙ ap (λ l. l ++ sup_skipped_text (kept_entries read) read.sup_headers) (first ∙ ap (λ l. l ++ units_text full (sections_of parts) read.headers) empty))

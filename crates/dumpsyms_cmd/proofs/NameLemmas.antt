@@ -1,4 +1,4 @@
--- Records with the names that they show read back from their text.
+-- Records with readable names read back from their text.
 use Rattle.std.proofs.Common.{List, map}
 use Rattle.sym_records.specs.declared.line.SymLine.{SymLine}
 use Rattle.sym_records.specs.Validity.{AreValid}

@@ -12,7 +12,7 @@ use Rattle.dumpsyms_cmd.specs.commands.Dump.{module_line, info_line, info_lines}
 use Rattle.dumpsyms_cmd.specs.internal.Spelled.{FitsInside}
 use Rattle.sym_records.proofs.MakingLemmas.{push_fits}
 
--- the record of the binary fits
+-- The MODULE record of the binary is valid.
 pub module_valid : (os arch id name : List ℕ) → os ≡ codes "Linux" → arch ≡ codes "x86_64" → length id ≡ 33 → AllDigits 16 id → is_name name ≡ true → length name ≤ 65536 → fields_fit (Module (record { os = os; arch = arch; id = id; name = name })) ≡ true
 unfolding is_field
 module_valid os arch id name first second len digits named short =
@@ -22,12 +22,12 @@ module_valid os arch id name first second len digits named short =
 length_code : (ds : List ℕ) → length (codes "CODE_ID " ++ ds) ≡ 8 + length ds
 length_code ds = length-append (codes "CODE_ID ") ds
 
--- the record of a build id fits
+-- The INFO record of a build id is valid.
 pub info_valid : (text ds : List ℕ) → text ≡ codes "CODE_ID " ++ ds → AllDigits 16 ds → length ds ≤ 128 → fields_fit (Info text) ≡ true
 info_valid text ds is digits short =
     ap (λ t. fields_fit (Info t)) is ∙ info_fits (codes "CODE_ID " ++ ds) (code_id_name ds digits) (omega (arith, length_code ds))
 
--- the records of the binary and of its build id
+-- The records of the binary and of its build id.
 pub module_alone : (identity : List ℕ) (name : List ℕ) (id : Option (List ℕ)) (old text : List ℕ) → id ≡ None → text ≡ old ++ canon (module_line identity name) → text ≡ old ++ canon_text (module_line identity name ∷ info_lines id)
 unfolding canon_text
 module_alone identity name id old text none is = is ∙ ap (λ t. old ++ t) (sym (append-nil (canon (module_line identity name)))) ∙ ap (λ o. old ++ canon_text (module_line identity name ∷ info_lines o)) (sym none)

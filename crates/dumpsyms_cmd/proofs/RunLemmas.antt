@@ -1,4 +1,4 @@
--- The promises of a run, by the three kinds of answer.
+-- The promises of a run, for each of the three kinds of answer.
 use Rattle.std.proofs.Common.{◌≡◌, ◌⊎◌, inl, inr, ℕ, ◌<◌, ◌≤◌, Bool, true, false, Option, Some, None, IsSome, List, [], refl, sym, ◌∙◌, ap, arith, subst}
 use Rattle.sym_edges.specs.Outside.{Files, Rose}
 use Rattle.dumpsyms_cmd.specs.Words.{Asked, stacks, ReadsFiles, not_read_line}
@@ -19,7 +19,7 @@ none_some : {A : Type 0} (o : Option A) → o ≡ None → IsSome o → ⊥
 none_some None is some = cc
 none_some (Some x) is some = cc
 
--- a write failed
+-- A write failed.
 some_failed : (has : Bool) (out err : SinkSeen) → (((has ≡ true) × SinkFailed out) ⊎ SinkFailed err) → SinkFailed out ⊎ SinkFailed err
 some_failed has out err (inl failed) = inl failed.1
 some_failed has out err (inr failed) = inr failed
@@ -28,7 +28,7 @@ err_failed : (has : Bool) (out err : SinkSeen) → has ≡ false → (((has ≡ 
 err_failed has out err none (inl failed) = absurd (let h = failed.0 in cc)
 err_failed has out err none (inr failed) = failed
 
--- a count that rose did not stand
+-- A count that rose is not unchanged.
 stood_rose : (before after : ℕ) → Stood before after → Rose before after → ⊥
 stood_rose before after stood rose = let more = rose stood.1 in let same = stood.0 in omega arith
 
@@ -36,7 +36,7 @@ no_failure : (out err : SinkSeen) → SinkStood out → SinkStood err → SinkFa
 no_failure out err quiet calm (inl failed) = stood_rose out.faults out.faults_after quiet failed
 no_failure out err quiet calm (inr failed) = stood_rose err.faults err.faults_after calm failed
 
--- a judgement on invalid arguments is the usage line
+-- A judgement on invalid arguments is the usage line.
 usage_by : (c : Option Asked) (store : StoreSeen) (j : Judgement) → JudgesWords j c store → c ≡ None → IsUsage j
 usage_by None store j judged none = judged.kept
 usage_by (Some asked) store j judged none = absurd (none_some (Some asked) none refl)
@@ -45,7 +45,7 @@ row_by : (c : Option Asked) (store : StoreSeen) (j : Judgement) → JudgesWords 
 row_by None store j judged two = refl
 row_by (Some asked) store j judged two = absurd (let low = judged.row refl in omega arith)
 
--- what `run` says of what it wrote, by what its writing leaves
+-- What a run wrote, given what its writing promises.
 written : (run : Run) (v : Verdict) (has : Bool) → Writes run.status v has run.out run.err → WasWritten run v
 written run v has (inl whole) = inl whole
 written run v has (inr failed) = inr (failed.0, failed.1, some_failed has run.out run.err failed.2)
@@ -53,7 +53,7 @@ written run v has (inr failed) = inr (failed.0, failed.1, some_failed has run.ou
 judged_run : (j : Judgement) (run : Run) → JudgesWords j (command run) run.store → Writes run.status (judgement_verdict j) (is_some_output j.out) run.out run.err → WasJudged run
 judged_run j run judged writes = record { missed = judged.missed; misses = judged.misses; judgement = j; promised = judged.kept; verdict = judged.told; written = written run (judgement_verdict j) (is_some_output j.out) writes }
 
--- the status is the one of what was written, or 4
+-- The status is that of what was written, or 4.
 unlike : (run : Run) (v : Verdict) (has : Bool) (n : ℕ) → Writes run.status v has run.out run.err → run.status ≡ n → (v.status ≡ n → ⊥) → (n ≡ 4 → ⊥) → ⊥
 unlike run v has n (inl whole) is other four = other (sym whole.0 ∙ is)
 unlike run v has n (inr failed) is other four = four (sym is ∙ failed.0)
@@ -88,7 +88,7 @@ status_said : (run : Run) (v : Verdict) (has : Bool) → Writes run.status v has
 status_said run v has (inl whole) quiet calm = whole.0
 status_said run v has (inr failed) quiet calm = absurd (no_failure run.out run.err quiet calm (some_failed has run.out run.err failed.2))
 
--- a judgement
+-- The answer is a judgement.
 by_judgement : (j : Judgement) (run : Run) → JudgesWords j (command run) run.store → AsksFor run.store (command run) → Writes run.status (judgement_verdict j) (is_some_output j.out) run.out run.err → Promises run
 by_judgement j run judged asks writes =
     let low : j.status < 3 = judged.low in
@@ -107,7 +107,7 @@ by_judgement j run judged asks writes =
       complete = λ stood quiet calm. inl (let same = status_said run v has writes quiet calm in omega arith);
     }
 
--- a file that could not be read
+-- A file could not be read.
 reads_some : (o : Option Asked) → ReadsFiles o → IsSome o
 reads_some None reads = absurd reads
 reads_some (Some asked) reads = refl
@@ -129,7 +129,7 @@ by_unread run line reads failed is asks writes =
       complete = λ stood quiet calm. absurd (stood_rose run.store.faults run.store.faults_after stood failed);
     }
 
--- memory ran out
+-- Memory ran out.
 whole_nothing : (run : Run) → Writes run.status no_memory false run.out run.err → run.status ≡ 5 → ReceivedWhole run.out run.err no_memory
 whole_nothing run (inl whole) five = whole.1
 whole_nothing run (inr failed) five = absurd (let is = failed.0 in omega arith)
@@ -156,7 +156,7 @@ promises (Judged j) run says asks writes quiet = by_judgement j run says asks wr
 promises (Unread m) run says asks writes quiet = by_unread run (err_bytes m) says.0 says.1 says.2 asks writes
 promises NoMemory run says asks writes quiet = by_no_memory run says.0 says.1 (quiet refl) asks writes
 
--- a command that ends where a file cannot be read missed nothing where it judged
+-- A command that ends if a file cannot be read missed no file if it judged.
 misses_none : (c : Option Asked) (store : StoreSeen) → store.faults_after ≡ store.faults → Misses c store []
 misses_none (Some (stacks core folder)) store same = (same, λ name among. absurd (cc))
 misses_none c store same = (refl, same)

@@ -1,4 +1,4 @@
--- The counts of a made file; for `sample` and `read_back`.
+-- The counts of a generated file, for `sample` and `read_back`.
 use Rattle.std.proofs.Common.{◌≡◌, ℕ, ◌<◌, false, List, [], ◌∷◌, Option, Some, Result, Ok, Err, IfOk, length, refl, sym, ap, subst, ◌∙◌, arith, append-nil}
 use Rattle.sym_edges.specs.Outside.{Files, MatchStop}
 use Rattle.sym_edges.specs.declared.fault.Stop.{Stop}
@@ -29,7 +29,7 @@ use Rattle.dumpsyms_cmd.proofs.AnswerLemmas.{refuses_verdict}
 use Rattle.dumpsyms_cmd.specs.declared.judgement.Judgement.{Judgement}
 use Rattle.dumpsyms_cmd.specs.declared.judgement.Answer.{Answer}
 
--- the counts of what was assembled
+-- The counts of a dump.
 abbrev pub given : ℕ → List ℕ → List ℕ → Verdict
 given status out err = record { status = status; out = out; err = err }
 
@@ -53,7 +53,7 @@ records_counted v parts read lines err text left units says dumps number line is
     subst (λ (r : Result DebugSays DebugFault). IsCountsVerdict r parts v) (sym d.found_is)
     (record { lines = lines; canon = d.canon; is = is ∙ ap V (line ∙ ap (λ n. counts_line n lines left) many ∙ ap (counts_line (length d.found.units) lines) gone) })
 
--- a fault after the image
+-- A fault after the image.
 pub stop_counted : {A : Type 0} (j : Judgement) (parts : ImageParts) (text : List ℕ) (P : A → Type 0) (read : Result A (Stop DebugFault)) (end : Stop DebugFault) (fault : DebugFault) → MatchStop read P (λ f. debug_says parts ≡ Err f) (Prim.Unit {0}) → read ≡ Err end → end ≡ Fault fault → text ≡ debug_line fault → Refuses j text → CountsParts j parts
 stop_counted {A = A} j parts text P read end fault says is ends line refuses =
     let R : Result A (Stop DebugFault) → Type 0 = λ r. MatchStop r P (λ f. debug_says parts ≡ Err f) (Prim.Unit {0}) in
@@ -61,7 +61,7 @@ stop_counted {A = A} j parts text P read end fault says is ends line refuses =
     let faulty : debug_says parts ≡ Err fault = subst S ends (subst R is says) in
     subst (λ (r : Result DebugSays DebugFault). IsCountsVerdict r parts (judgement_verdict j)) (sym faulty) (refuses_verdict j text (debug_line fault) line refuses)
 
--- and of the image
+-- A judgement on the image is one on the bytes of the file.
 pub parts_counted : (j : Judgement) (bytes : List ℕ) (parts : ImageParts) → image bytes ≡ Ok parts → CountsParts j parts → CountsBytes j bytes
 parts_counted j bytes parts is says = subst (λ (i : Result ImageParts ElfFault). IsImageCounts i (judgement_verdict j)) (sym is) says
 
@@ -71,7 +71,7 @@ fault_counted j bytes text fault is line refuses = subst (λ (i : Result ImagePa
 pub sample_counted : (j : Judgement) (bytes : List ℕ) (units : ℕ) → bytes ≡ made units → CountsBytes j bytes → CountsSample j units
 sample_counted j bytes units is says = subst (CountsBytes j) is says
 
--- so it is a judgement of the command
+-- It is a judgement of the command.
 counts_low : (says : Result DebugSays DebugFault) (parts : ImageParts) (v : Verdict) → IsCountsVerdict says parts v → v.status < 2
 counts_low (Err fault) parts v is = subst (λ (w : Verdict). w.status < 2) (sym is) (omega arith)
 counts_low (Ok found) parts v is = subst (λ (w : Verdict). w.status < 2) (sym is.is) (omega arith)

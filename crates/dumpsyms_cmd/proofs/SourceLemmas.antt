@@ -1,4 +1,4 @@
--- The image that the files of a source give; for the functions of `elf_input`.
+-- The image that the files of a source give, for the functions of `elf_input`.
 use Rattle.std.proofs.Common.{◌≡◌, inl, inr, ℕ, ◌≤◌, Bool, true, false, List, [], ◌∷◌, ◌++◌, Option, Some, None, Ok, Err, Result, length, codes, refl, sym, ◌∙◌, ap, arith, append-nil, append_assoc, subst, IfOk}
 use Rattle.std.specs.Option.{option_to_list}
 use Rattle.std.proofs.lemmas.Bool.{cond-true, cond-false}
@@ -41,7 +41,7 @@ use Rattle.dumpsyms_cmd.proofs.JudgedLemmas.{judging, row_asked, told, always, g
 use Rattle.dumpsyms_cmd.proofs.AnswerLemmas.{rose_later}
 use Rattle.dumpsyms_cmd.proofs.JudgeLemmas.{asks_later}
 
--- a line refuses
+-- A refusal with a line.
 pub line_answered : {F : Type 0} (answer : Answer) (made : Result (List ℕ) F) (line : List ℕ) (given_by : Files → Result ImageParts Verdict) (source : ElfSource) (files : Option Files) (asked : List (List ℕ)) (before after : ℕ) → ((f : Files) → given_by f ≡ Err (refused line)) → IfOk made (λ text. text ≡ line) → AnswersMade answer made → AnswersImage answer given_by source files asked before after
 line_answered (Judged j) (Ok text) line given_by source files asked before after is same says =
     given_promised j given_by source files (Err (refused line)) (always (λ f. given_by f ≡ Err (refused line)) files is) (given_refused j source text line (Err (refused line)) refl same says)
@@ -49,7 +49,7 @@ line_answered (Judged j) (Err e) line given_by source files asked before after i
 line_answered (Unread m) made line given_by source files asked before after is same says = absurd says
 line_answered NoMemory made line given_by source files asked before after is same says = tt
 
--- an answer by an image that the files give is one by each other way to give it
+-- An answer for an image that the files give holds for each other way to give the same image.
 told_both : {A : Type 0} (P Q R : A → Type 0) (o : Option A) → ((x : A) → P x → Q x → R x) → Tells o P → Tells o Q → Tells o R
 told_both P Q R None f p q = tt
 told_both P Q R (Some x) f p q = f x p q
@@ -71,7 +71,7 @@ image_moved (Judged j) one other source files asked before mid after same first 
 image_moved (Unread m) one other source files asked before mid after same first second says = (rose_later before mid after first second says.0, says.1)
 image_moved NoMemory one other source files asked before mid after same first second says = tt
 
--- the names that are asked for
+-- The names that are asked for.
 pub none_all : (answer : Answer) (before after : List (List ℕ)) → after ≡ before → AsksAll answer [] before after
 none_all (Judged j) before after same = same ∙ sym (append-nil before)
 none_all (Unread m) before after same = (0, omega arith, same ∙ sym (append-nil before))
@@ -95,13 +95,13 @@ stop_asked (Judged j) stop.NoMemory text path before after (inr same) says = abs
 stop_asked (Unread m) stop.NoMemory text path before after (inr same) says = absurd says
 stop_asked NoMemory stop.NoMemory text path before after (inr same) says = none_asked (path ∷ []) before after same
 
--- the same image, given in another way
+-- The same image, given in another way.
 pub same_image : (answer : Answer) (one other : Files → Result ImageParts Verdict) (source : ElfSource) (files : Option Files) (asked : List (List ℕ)) (before after : ℕ) → ((f : Files) → other f ≡ one f) → AnswersImage answer one source files asked before after → AnswersImage answer other source files asked before after
 same_image (Judged j) one other source files asked before after same says = image_moved (Judged j) one other source files asked before before before (always (λ f. other f ≡ one f) files same) (omega arith) (omega arith) says
 same_image (Unread m) one other source files asked before after same says = says
 same_image NoMemory one other source files asked before after same says = tt
 
--- both files
+-- Both files.
 pub pair_answered : (answer : Answer) (source : ElfSource) (path : List ℕ) (binary debug both : ImageParts) (files : Option Files) (asked : List (List ℕ)) (before after : ℕ) → pair_of binary debug ≡ Ok both → AnswersImage answer (then_sup source path both) source files asked before after
     → AnswersImage answer (then_link source path (or_refused pair_line (pair_of binary debug))) source files asked before after
 pair_answered answer source path binary debug both files asked before after is says =
@@ -118,7 +118,7 @@ pair_refused answer made source path binary debug fault files asked before after
 pub no_pair_asked : (answer : Answer) (source : ElfSource) (path : List ℕ) (binary debug : ImageParts) (fault : PairFault) (before after : List (List ℕ)) → pair_of binary debug ≡ Err fault → after ≡ before → AsksAll answer (read_names source path (or_refused pair_line (pair_of binary debug))) before after
 no_pair_asked answer source path binary debug fault before after is same = subst (λ r. AsksAll answer (read_names source path (or_refused pair_line r)) before after) (sym is) (none_all answer before after same)
 
--- the bytes of the debug file
+-- The bytes of the debug file.
 pub debug_answered : (answer : Answer) (source : ElfSource) (path : List ℕ) (full : Bool) (bytes : List ℕ) (binary debug : ImageParts) (files : Option Files) (asked : List (List ℕ)) (before after : ℕ) → any_image full bytes ≡ Ok debug → AnswersImage answer (then_link source path (or_refused pair_line (pair_of binary debug))) source files asked before after
     → AnswersImage answer (then_link source path (debug_given binary (any_image full bytes))) source files asked before after
 debug_answered answer source path full bytes binary debug files asked before after is says =
@@ -143,7 +143,7 @@ pub debug_opened_asked : (answer : Answer) (source : ElfSource) (path : List ℕ
     → AsksAll answer (read_names source path (debug_given binary (any_image full bytes))) before after
 debug_opened_asked answer source path binary full bytes packed before after is asked = subst (λ (p : Packed). AsksAll answer (read_names source path (debug_given binary (any_image p.full p.file))) before after) is asked
 
--- the debug file is read
+-- The debug file was read.
 tells_pair : (source : ElfSource) (binary : ImageParts) (path bytes : List ℕ) (files : Option Files) → HoldsFile files path (λ whole. IsWhole whole bytes LIMIT) → Tells files (λ f. file_pair source binary path f ≡ debug_given binary (any_image source.full bytes))
 tells_pair source binary path bytes files holds =
     told (λ f. file_image source.full debug_elf_line path (f path) ≡ or_refused debug_elf_line (any_image source.full bytes)) (λ f. file_pair source binary path f ≡ debug_given binary (any_image source.full bytes)) files
@@ -177,7 +177,8 @@ pub file_stopped : (answer : Answer) (end : Stop ReadEnd) (source : ElfSource) (
 file_stopped answer end source binary path text files left left_after asked asked_after before after read once is says =
     stop_image answer end (any_image source.full) debug_elf_line (with_file source binary path) path text source files left left_after asked asked_after before after (λ f ended e. ap (λ (r : Result ImageParts Verdict). then_link source path (then_pair binary r) f) e) read once is says
 
--- where a file could not be read whole there is at most its own name; what it would give is what it is said to give
+-- If a file could not be read whole, at most its own name was asked for, and what it would give may
+-- be assumed.
 told_longer : (files : Option Files) (path : List ℕ) (source : ElfSource) (binary : ImageParts) → (read : Result ImageParts Verdict) × Tells files (λ f. file_pair source binary path f ≡ read)
 told_longer None path source binary = (Err (refused []), tt)
 told_longer (Some f) path source binary = (file_pair source binary path f, refl)
@@ -197,7 +198,7 @@ front_of (Fault end) path names before after asked = one_of path names before af
 front_of stop.NoMemory path names before after (inl asked) = one_of path names before after asked
 front_of stop.NoMemory path names before after (inr same) = (0, omega arith, same ∙ sym (append-nil before))
 
--- a file that is longer gives no image, and so nothing is asked for behind it
+-- A file that is too long gives no image, so nothing is asked for after it.
 pub file_not_read : (answer : Answer) (end : Stop ReadEnd) (text : List ℕ) (source : ElfSource) (binary : ImageParts) (path : List ℕ) (files : Option Files) (left left_after : Option (List ℕ)) (before after : List (List ℕ)) (faults faults_after : ℕ) → ReadAll (Err end) files path LIMIT left left_after faults faults_after → AsksOnce (Err end) before path after → AnswersStop answer text end → AsksFile answer source binary path files before after
 file_not_read (Judged j) (Fault CantOpen) text source binary path files left left_after before after faults faults_after read asked says = absurd says
 file_not_read (Judged j) (Fault CantRead) text source binary path files left left_after before after faults faults_after read asked says = absurd says
@@ -219,7 +220,7 @@ file_unread source binary path files before after same =
     let some = told_longer files path source binary in
     record { read = some.0; told = some.1; asks = (0, omega arith, same ∙ sym (append-nil before)) }
 
--- the path of the debug file below a root
+-- The path of the debug file below a root directory.
 pub placed_below : (root i path : List ℕ) (id : Option (List ℕ)) → Some i ≡ id → debug_path root i ≡ Some path → path_below root id ≡ Ok path
 placed_below root i path id same is = ap (path_below root) (sym same) ∙ ap or_short is
 
@@ -229,7 +230,7 @@ short_below root i word id same is said = ap (path_below root) (sym same) ∙ ap
 pub none_below : (root word : List ℕ) (id : Option (List ℕ)) → None ≡ id → word ≡ pair_word NoBuildId → path_below root id ≡ Err (refused (line (spaced (codes "refused pair") (word ∷ []))))
 none_below root word id same said = ap (path_below root) (sym same) ∙ ap (λ (w : List ℕ). (let r : Result (List ℕ) Verdict = Err (refused (line (spaced (codes "refused pair") (w ∷ [])))) in r)) (sym said)
 
--- the answer by the path, or by the word of why there is none
+-- The answer by the path, or by the word that says why there is none.
 pub path_answered : (answer : Answer) (reads : List ℕ → Files → Result ImageParts Verdict) (source : ElfSource) (path held : List ℕ) (found : Result (List ℕ) Verdict) (files : Option Files) (asked : List (List ℕ)) (before after : ℕ) → found ≡ Ok path → held ≡ path → AnswersImage answer (reads held) source files asked before after
     → AnswersImage answer (then_path reads found) source files asked before after
 path_answered answer reads source path held found files asked before after is same says =
@@ -245,7 +246,7 @@ pub path_asked : (answer : Answer) (path held : List ℕ) (found : Result (List 
 path_asked answer path held found before after is same asked =
     subst (λ (r : Result (List ℕ) Verdict). AsksAll answer (path_names r) before after) (sym is) (subst (λ (p : List ℕ). AsksAll answer (p ∷ []) before after) same asked)
 
--- that of a debug file
+-- The answer for a debug file.
 pub file_answered : (answer : Answer) (source : ElfSource) (binary : ImageParts) (path held : List ℕ) (found : Result (List ℕ) Verdict) (files : Option Files) (asked : List (List ℕ)) (before after : ℕ) → found ≡ Ok path → held ≡ path → AnswersImage answer (with_file source binary held) source files asked before after
     → AnswersImage answer (then_path (with_file source binary) found) source files asked before after
 file_answered answer source binary path held found files asked before after is same says = path_answered answer (with_file source binary) source path held found files asked before after is same says
@@ -261,12 +262,12 @@ file_refused answer made line source binary found files asked before after is sa
 pub no_file_asked : (answer : Answer) (ended : Verdict) (source : ElfSource) (binary : ImageParts) (found : Result (List ℕ) Verdict) (files : Option Files) (before after : List (List ℕ)) → found ≡ Err ended → after ≡ before → AsksPath answer source binary found files before after
 no_file_asked answer ended source binary found files before after is same = subst (λ (r : Result (List ℕ) Verdict). AsksPath answer source binary r files before after) (sym is) (none_all answer before after same)
 
--- memory ran out before the path was known
+-- Memory ran out before the path was known.
 pub path_unknown : (source : ElfSource) (binary : ImageParts) (found : Result (List ℕ) Verdict) (files : Option Files) (before after : List (List ℕ)) → after ≡ before → AsksPath NoMemory source binary found files before after
 path_unknown source binary (Ok path) files before after same = file_unread source binary path files before after same
 path_unknown source binary (Err ended) files before after same = none_all NoMemory before after same
 
--- a binary alone, or with a debug file
+-- A binary alone, or with a debug file.
 pub none_answered : (answer : Answer) (source : ElfSource) (debug : Option DebugFile) (name : List ℕ) (binary : ImageParts) (files : Option Files) (asked : List (List ℕ)) (before after : ℕ) → debug ≡ None → name ≡ source.elf → AnswersImage answer (then_sup source name binary) source files asked before after
     → AnswersImage answer (with_debug source debug binary) source files asked before after
 none_answered answer source debug name binary files asked before after none same says =
@@ -285,7 +286,7 @@ some_answered answer source debug file binary files asked before after is says =
 pub some_asked : (answer : Answer) (source : ElfSource) (debug : Option DebugFile) (file : DebugFile) (binary : ImageParts) (files : Option Files) (before after : List (List ℕ)) → debug ≡ Some file → AsksPath answer source binary (path_of file binary) files before after → AsksDebug answer source debug binary files before after
 some_asked answer source debug file binary files before after is asked = subst (λ (d : Option DebugFile). AsksDebug answer source d binary files before after) (sym is) asked
 
--- the image of the ELF file
+-- The image of the ELF file.
 pub binary_answered : (answer : Answer) (source : ElfSource) (full : Bool) (bytes : List ℕ) (binary : ImageParts) (files : Option Files) (asked : List (List ℕ)) (before after : ℕ) → any_image full bytes ≡ Ok binary → AnswersImage answer (with_debug source source.debug binary) source files asked before after
     → AnswersImage answer (then_debug source (or_refused elf_line (any_image full bytes))) source files asked before after
 binary_answered answer source full bytes binary files asked before after is says =
@@ -323,7 +324,7 @@ opened_answered answer source full bytes packed files asked before after is says
 pub opened_asked : (answer : Answer) (source : ElfSource) (full : Bool) (bytes : List ℕ) (packed : Packed) (files : Option Files) (before after : List (List ℕ)) → packed ≡ record { full = full; file = bytes } → AsksBehind answer source (or_refused elf_line (any_image packed.full packed.file)) files before after → AsksBehind answer source (or_refused elf_line (any_image full bytes)) files before after
 opened_asked answer source full bytes packed files before after is asked = subst (λ (p : Packed). AsksBehind answer source (or_refused elf_line (any_image p.full p.file)) files before after) is asked
 
--- the ELF file is read, or could not be
+-- The ELF file was read, or it could not be read.
 pub elf_read : (answer : Answer) (source : ElfSource) (bytes held : List ℕ) (files files_mid : Option Files) (asked : List (List ℕ)) (before mid after : ℕ) → HoldsFile files source.elf (λ whole. IsWhole whole bytes LIMIT) → held ≡ bytes → files_mid ≡ files → before ≤ mid → mid ≤ after
     → AnswersImage answer (then_debug source (or_refused elf_line (any_image source.full held))) source files_mid asked mid after → AnswersImage answer (given_image source) source files asked before after
 elf_read answer source bytes held files files_mid asked before mid after holds same_bytes same first second says =
@@ -338,11 +339,12 @@ pub elf_stopped : (answer : Answer) (end : Stop ReadEnd) (source : ElfSource) (t
 elf_stopped answer end source text files left left_after asked asked_after before after read once is says =
     stop_image answer end (any_image source.full) elf_line (given_image source) source.elf text source files left left_after asked asked_after before after (λ f ended e. ap (λ (r : Result ImageParts Verdict). then_debug source r f) e) read once is says
 
--- the names of files that are not told: those of some build id and some link, and perhaps a name more where the ELF file has no image
+-- The names if the store's files are not known: those for some build id and some link. If the ELF
+-- file has no image, there may be one name more.
 abbrev IsUntold : ElfSource → Option DebugFile → List (List ℕ) → Type 0
 IsUntold source debug names = (untold : Untold) × (names ≡ untold_names source debug untold)
 
--- the name of a supplementary file is that of some link, or there is none
+-- The name of a supplementary file is that for some link, or there is none.
 abbrev SomeLink : ElfSource → List ℕ → List (List ℕ) → Type 0
 SomeLink source name names = (link : Option (List ℕ)) × (names ≡ untold_sup source name link)
 
@@ -368,7 +370,7 @@ read_untold : (source : ElfSource) (name : List ℕ) (read : Result ImageParts V
 read_untold source name (Ok image) = sup_untold source name image
 read_untold source name (Err ended) = (None, refl)
 
--- behind the ELF file
+-- The names after the ELF file.
 front_none : (names before after : List (List ℕ)) → after ≡ before → Asks names before after
 front_none names before after same = (0, omega arith, same ∙ sym (append-nil before))
 
@@ -397,7 +399,7 @@ behind (Judged j) elf names before mid after first asked = whole_by j.out (elf �
 behind (Unread m) elf names before mid after first asked = asks_later elf names before mid after first asked
 behind NoMemory elf names before mid after first asked = asks_later elf names before mid after first asked
 
--- all names behind that of the ELF file, by what is told or not told
+-- All names after that of the ELF file, whether the store's files are known or not.
 abbrev AllBehind : Answer → ElfSource → Option DebugFile → ImageParts → Option Files → List (List ℕ) → List (List ℕ) → Type 0
 AllBehind answer source debug binary None before after = (untold : Untold) × AsksAll answer (untold_names source debug untold) before after
 AllBehind answer source debug binary (Some f) before after = AsksAll answer (debug_names source debug binary f) before after
@@ -455,7 +457,7 @@ elf_asked answer source bytes held files files_mid before mid after holds same s
     (subst (λ (b : List ℕ). AsksBehind answer source (or_refused elf_line (any_image source.full b)) files mid after) same
     (subst (λ (o : Option Files). AsksBehind answer source (or_refused elf_line (any_image source.full held)) o mid after) same_files asked))
 
--- where the ELF file could not be read
+-- The ELF file could not be read.
 longer_no_text : (o : Output) (status : ℕ) (err : List ℕ) → RefusesOrGives o status err (λ e. e ≡ too_long_line) (λ lines e. ⊥) → IsNoText o
 longer_no_text Nothing status err says = tt
 longer_no_text (Text lines) status err says = says.1
@@ -482,7 +484,7 @@ elf_not_read answer end text source files before after asked says =
 pub nothing_asked : (source : ElfSource) (files : Option Files) (before after : List (List ℕ)) → after ≡ before → AsksSource NoMemory source files before after
 nothing_asked source files before after same = record { untold = nothing; asks = front_none (elf_names files source nothing) before after same }
 
--- what answers the source answers the command
+-- The answer for the source is the answer of the command.
 front_by : (o : Output) (names before after : List (List ℕ)) → AsksBy o names before after → Asks names before after
 front_by Nothing names before after asked = asked
 front_by (Text lines) names before after asked = asks_whole names before after asked
@@ -502,7 +504,7 @@ dump_answered (Judged j) source workers files asked before after says = dump_jud
 dump_answered (Unread m) source workers files asked before after says = (refl, says.0, says.1)
 dump_answered NoMemory source workers files asked before after says = refl
 
--- and what answers it and the symbol file answers `judge`
+-- The answer for the source and the symbol file is the answer of `judge`.
 asks_more : (names rest before after : List (List ℕ)) → Asks names before after → Asks (names ++ rest) before after
 asks_more names rest before after asked = (asked.0, omega (arith, asked.1, length-append names rest), asked.2 ∙ ap (λ l. before ++ l) (sym (take-append-le asked.0 names rest asked.1)))
 

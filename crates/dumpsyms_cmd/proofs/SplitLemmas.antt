@@ -1,4 +1,4 @@
--- Units whose entries stand in another file; for `split_units`.
+-- Units whose entries are in another file, for `split_units`.
 use Rattle.std.proofs.Common.{◌≡◌, ℕ, ◌+◌, ◌<◌, ◌≤◌, Bool, false, List, [], min, Option, Some, None, Result, Ok, Err, length, take, drop, drop_of_length-le, refl, sym, ◌∙◌, ap, arith, subst}
 use Rattle.std.proofs.lemmas.Bool.{cond-false, le-ltb}
 use Rattle.std.proofs.lemmas.List.{length-take, get_or_past, take_min}
@@ -17,11 +17,11 @@ use Rattle.abbrev_units.specs.declared.unit.Unit.{Unit}
 use Rattle.dumpsyms_cmd.specs.SplitUnits.{length_width, unit_type, root_code, root_by, root_names_file}
 use Rattle.dumpsyms_cmd.specs.internal.HeldTable.{IsHeld}
 
--- a place beyond the section
+-- A place after the end of the section.
 pub type_beyond : (info : List ℕ) (unit : Unit) → length info < unit.start → unit_type info unit ≡ 0
 type_beyond info unit far = get_or_past info (unit.start + length_width unit.wide + 2) 0 (omega (arith, far))
 
--- the code of the first entry, where the section ends before the unit does
+-- The code of the first entry, if the section ends before the unit.
 abbrev code_at : List ℕ → ℕ → ℕ → Option ℕ
 code_at info body end = read_or_none (uleb_at (record { bytes = drop body (take end info); at = body }))
 
@@ -40,7 +40,7 @@ code_beyond info unit end is far =
     let short : length (take end info) ≤ unit.body = omega (arith, length-take end info, far) in
     sym (ap (λ (bytes : List ℕ). read_or_none (uleb_at (record { bytes = bytes; at = unit.body }))) (drop_of_length-le (take end info) short) ∙ no_code unit.body) ∙ cut info unit end is
 
--- the abbreviations of a unit are those of another at the same place
+-- The abbreviations of a unit are those of another unit at the same place.
 abbrev Table : Type 0
 Table = Result (List Abbrev) (Located DwarfKind)
 
@@ -65,7 +65,7 @@ pub held_same : (sections : DebugSections) (held : Option Unit) (one unit : Unit
 held_same sections held one unit abbrevs is holds at wide inside =
     same_table sections one unit at wide inside ∙ subst (λ (h : Option Unit). IsHeld sections h abbrevs) is holds
 
--- by the code and the abbreviations
+-- The result, given the code and the abbreviations.
 pub root_none : (sections : DebugSections) (unit : Unit) (code : Option ℕ) → code ≡ root_code sections.info unit → code ≡ None → false ≡ root_names_file sections unit
 root_none sections unit code is none = ap (λ (c : Option ℕ). root_by c (abbrevs_of sections unit)) (sym none ∙ is)
 

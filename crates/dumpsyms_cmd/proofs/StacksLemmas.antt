@@ -1,4 +1,4 @@
--- The answers of `stacks`; for `answer_stacks` and what it calls.
+-- The answers of `stacks`, for `answer_stacks` and what it calls.
 use Rattle.std.proofs.Common.{◌≡◌, ◌⊎◌, inl, inr, ℕ, suc, ◌+◌, ◌≤◌, ◌<◌, ◌^◌, Bool, true, false, cond, ◌||◌, is_some, List, [], ◌∷◌, ◌++◌, take, length, Option, Some, None, Ok, Err, Result, IfOk, refl, sym, ◌∙◌, ap, arith, append-nil, append_assoc, subst}
 use Rattle.std.proofs.lemmas.Bool.{cases_lt}
 use Rattle.std.proofs.lemmas.List.{take_all}
@@ -41,7 +41,7 @@ use Rattle.dumpsyms_cmd.specs.declared.judgement.Answer.TheVariants.{Judged, Unr
 use Rattle.dumpsyms_cmd.proofs.AnswerLemmas.{refuses_verdict, answered, judges_refused, rose_later}
 use Rattle.dumpsyms_cmd.proofs.JudgedLemmas.{nothing}
 
--- ---- the names that were asked for
+-- The names that were asked for.
 
 pub nothing_asked : (folder : List ℕ) (before after : List (List ℕ)) → after ≡ before → AsksSymbols folder before after
 nothing_asked folder before after same = ([], (same ∙ sym (append-nil before), (tt, tt)))
@@ -50,7 +50,7 @@ once_of : (seen : Seen) (names : List (List ℕ)) → AreNew seen names → AreO
 once_of seen [] new = tt
 once_of seen (name ∷ names) new = (new.1.0, once_of seen names new.1.1)
 
--- the path of the symbol file of a module is that of some module
+-- The path of a module's symbol file is one for some module.
 by_utf8 : (b : Bool) (folder name identity path : List ℕ) → cond b (Some (symbol_path folder name identity)) None ≡ Some path → IsSymbolFile folder path
 by_utf8 true folder name identity path is = (name, (identity, (let same : symbol_path folder name identity ≡ path = cc in sym same)))
 by_utf8 false folder name identity path is = absurd (cc)
@@ -72,9 +72,9 @@ files_of_modules w folder (name ∷ names) same are =
 pub symbols_asked : (w : Walking) (folder : List ℕ) (before after : List (List ℕ)) → w.folder ≡ folder → AsksFresh (IsPathOf w) (seen_in w.known) before after → AsksSymbols folder before after
 symbols_asked w folder before after same asks = (asks.0, (asks.1.0, (once_of (seen_in w.known) asks.0 asks.1.1.0, files_of_modules w folder asks.0 same asks.1.1.1)))
 
--- ---- the files that agree with what was found
+-- The files that agree with what was found.
 
--- where nothing was asked for all files do
+-- If nothing was asked for, all files agree.
 abbrev pub told_files : Option Files → Files
 told_files None = λ name. None
 told_files (Some files) = files
@@ -95,7 +95,8 @@ knows_start files faults seen none = record {
   agrees = λ name found is. absurd (none_was (seen name) found (none name) is);
 }
 
--- the files that are told, without those at which a call failed, and else those that are known of
+-- The known files without those at which a call failed; or, if the files are not known, some that
+-- agree.
 abbrev pub chosen : Option Files → Files → List (List ℕ) → Files
 chosen None got missed = got
 chosen (Some files) got missed = without missed files
@@ -108,7 +109,7 @@ chosen_agrees : (files : Option Files) (got : Files) (missed : List (List ℕ)) 
 chosen_agrees None got missed seen told agrees = agrees
 chosen_agrees (Some files) got missed seen told agrees = λ name found is. (ap found_in (sym (told name)) ∙ agrees name found is)
 
--- a name at which a call failed was asked for
+-- A name at which a call failed was asked for.
 missed_asked : (P : List ℕ → Type 0) (files : Option Files) (asked after : List (List ℕ)) (faults now : ℕ) (old new : Seen) (name : List ℕ) → Learns P files asked after faults now old new → ((name : List ℕ) → old name ≡ None) → is_some (new name) ≡ true → list_any (bytes_eq name) after ≡ true
 missed_asked P files asked after faults now old new name learns none some =
     ap (list_any (bytes_eq name)) learns.asks ∙ list_any-append (bytes_eq name) asked learns.names ∙ go (list_any (bytes_eq name) learns.names) refl (list_any (bytes_eq name) asked)
@@ -139,7 +140,7 @@ core_judged P j w new folder parts files asked after faults now out err folder_i
           ∙ ap (λ f. given 0 (stacks_text got f w.core) (lacks_text got f w.core)) folder_is ∙ ap (λ (c : CoreParts). given 0 (stacks_text got folder c) (lacks_text got folder c)) core_is;
     }
 
--- ---- the bytes of a core file
+-- The bytes of a core file.
 
 pub core_answered : {F : Type 0} (answer : Answer) (judged : Result Judgement F) (parts : CoreParts) (folder bytes : List ℕ) (files : Option Files) (asked : List (List ℕ)) (before after : ℕ) → core bytes ≡ Ok parts → AnswersJudged answer judged → IfOk judged (λ j. JudgesCore j folder (Ok parts) files asked before after) → AnswersCore answer folder bytes files asked before after
 core_answered answer judged parts folder bytes files asked before after is says judges =
@@ -159,7 +160,7 @@ core_refused j fault folder bytes text files asked faults now is line refuses sa
   is = refuses_verdict j text (core_line fault) line refuses ∙ ap (core_or_refused folder (chosen files (λ name. None) [])) (sym is);
 }
 
--- ---- the core file
+-- The core file.
 
 short_is : (folder : List ℕ) (got : Files) (bytes : List ℕ) → is_too_long bytes ≡ false → stacks_answer folder got bytes ≡ core_or_refused folder got (core bytes)
 unfolding stacks_answer
@@ -185,7 +186,7 @@ told_is name folder bytes None got missed v there told is = tt
 told_is name folder bytes (Some f) got missed v there told is =
     is ∙ ap (λ (g : Files). stacks_answer folder g bytes) told ∙ ap (file_verdict (stacks_answer folder (without missed f))) (sym there)
 
--- a judgement by the bytes of the file
+-- A judgement on the bytes of the file.
 judged_by : (j : Judgement) (name folder bytes : List ℕ) (files : Option Files) (before asked : List (List ℕ)) (faults now : ℕ) (got : Files) (missed : List (List ℕ)) → Tells files (λ f. f name ≡ Some bytes) → Tells files (λ f. got ≡ without missed f) → Counted missed faults now → ((n : List ℕ) → list_any (bytes_eq n) missed ≡ true → list_any (bytes_eq n) asked ≡ true)
     → judgement_verdict j ≡ stacks_answer folder got bytes → JudgesWords j (Some (stacks name folder)) (record { files = files; asked = before; asked_after = asked; faults = faults; faults_after = now })
 judged_by j name folder bytes files before asked faults now got missed there told counted asked_for is =
@@ -234,7 +235,7 @@ stacks_stopped (Unread m) (Fault TooLong) text name folder files before asked fa
 stacks_stopped (Unread m) stop.NoMemory text name folder files before asked faults now read steady is says = absurd says
 stacks_stopped NoMemory stopped text name folder files before asked faults now read steady is says = (refl, tt)
 
--- ---- the names of the row
+-- The names that the command asks for.
 
 row : (name folder : List ℕ) (files : Option Files) (before mid after : List (List ℕ)) → mid ≡ before ++ name ∷ [] → AsksSymbols folder mid after → AsksRow (Some (stacks name folder)) files before after
 row name folder files before mid after first asks = record {

@@ -1,4 +1,4 @@
--- Answers where the store did not fail: its count of faults stands still.
+-- Answers of a store that did not fail: its count of faults is unchanged.
 use Rattle.std.proofs.Common.{◌≡◌, ℕ, List, Err, ◌∙◌}
 use Rattle.sym_edges.specs.WholeFile.{IsSteady}
 use Rattle.sym_edges.specs.declared.fault.Stop.{Stop}

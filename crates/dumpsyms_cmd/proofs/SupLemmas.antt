@@ -1,4 +1,4 @@
--- An image and its supplementary file; for the functions of `sup_input`.
+-- An image and its supplementary file, for the functions of `sup_input`.
 use Rattle.std.proofs.Common.{◌≡◌, ℕ, Bool, true, false, cond, List, Option, Some, None, Ok, Err, Result, refl, sym, ◌∙◌, ap, subst, IfOk}
 use Rattle.std.proofs.lemmas.Bool.{cond-true, cond-false}
 use Rattle.sym_edges.specs.Outside.{Files}
@@ -26,7 +26,7 @@ use Rattle.dumpsyms_cmd.proofs.JudgedLemmas.{told, always, given_parts, given_re
 use Rattle.dumpsyms_cmd.proofs.AnswerLemmas.{answered, if_ok}
 use Rattle.dumpsyms_cmd.proofs.SourceLemmas.{same_image, line_answered, path_answered, path_refused, none_all}
 
--- an image with its supplementary file
+-- An image with its supplementary file.
 pub joined_judged : (j : Judgement) (source : ElfSource) (image sup parts : ImageParts) (link : SupLink) (same : Bool) → same ≡ is_of_link link sup → same ≡ true → parts ≡ with_sup image sup → JudgesParts j source.full (module_name source.elf) parts → JudgesGiven j source (joined image link sup)
 joined_judged j source image sup parts link same is holds with_both says =
     given_parts j source (joined image link sup) parts (cond-true _ _ _ (sym is ∙ holds) ∙ ap Ok (sym with_both)) says
@@ -48,7 +48,7 @@ sup_refused j source text image link bytes fault is line refuses =
 pub sup_opened : {F : Type 0} (judged : Result Judgement F) (source : ElfSource) (image : ImageParts) (link : SupLink) (held bytes : List ℕ) → held ≡ bytes → IfOk judged (λ j. JudgesSup j source image link (sup_image held)) → IfOk judged (λ j. JudgesSup j source image link (sup_image bytes))
 sup_opened judged source image link held bytes is says = subst (λ (b : List ℕ). IfOk judged (λ j. JudgesSup j source image link (sup_image b))) is says
 
--- the supplementary file is read, or could not be
+-- The supplementary file was read, or it could not be read.
 pub sup_read : {F : Type 0} (answer : Answer) (judged : Result Judgement F) (source : ElfSource) (image : ImageParts) (link : SupLink) (path bytes held : List ℕ) (files : Option Files) (asked : List (List ℕ)) (before after : ℕ) → HoldsFile files path (λ whole. IsWhole whole bytes LIMIT) → held ≡ bytes → AnswersJudged answer judged → IfOk judged (λ j. JudgesSup j source image link (sup_image held))
     → AnswersImage answer (with_sup_file source.full image link path) source files asked before after
 sup_read answer judged source image link path bytes held files asked before after holds same is says =
@@ -63,7 +63,7 @@ pub sup_stopped : (answer : Answer) (end : Stop ReadEnd) (source : ElfSource) (i
 sup_stopped answer end source image link path text files left left_after asked asked_after before after read once is says =
     stop_image answer end sup_image sup_elf_line (with_sup_file source.full image link path) path text source files left left_after asked asked_after before after (λ f ended e. ap (λ (r : Result ImageParts Verdict). r >>= joined image link) e) read once is says
 
--- where it is
+-- The path of the supplementary file.
 pub placed : (debug : Option DebugFile) (root : Option (List ℕ)) (name held path : List ℕ) (link : SupLink) → root ≡ root_of debug → held ≡ link.path → sup_path root name held ≡ Some path → sup_place debug name link ≡ Ok path
 placed debug root name held path link given same is = ap or_nowhere (ap (λ r. sup_path r name link.path) (sym given) ∙ ap (sup_path root name) (sym same) ∙ is)
 
@@ -80,7 +80,7 @@ pub place_refused : {F : Type 0} (answer : Answer) (made : Result (List ℕ) F) 
     → AnswersImage answer (then_path (with_sup_file source.full image link) found) source files asked before after
 place_refused answer made line source image link found files asked before after is same says = path_refused answer made line (with_sup_file source.full image link) source found files asked before after is same says
 
--- an image without a supplementary file
+-- An image without a supplementary file.
 image_alone : {F : Type 0} (answer : Answer) (judged : Result Judgement F) (source : ElfSource) (image : ImageParts) (files : Option Files) (asked : List (List ℕ)) (before after : ℕ) → AnswersJudged answer judged → IfOk judged (λ j. JudgesParts j source.full (module_name source.elf) image) → AnswersImage answer (λ f. Ok image) source files asked before after
 image_alone answer judged source image files asked before after is says =
     answered answer judged (λ a. AnswersImage a (λ f. Ok image) source files asked before after) is
@@ -92,7 +92,7 @@ pub plain_answered : {F : Type 0} (answer : Answer) (judged : Result Judgement F
 plain_answered answer judged source name image files asked before after fails is says =
     same_image answer (λ f. Ok image) (then_sup source name image) source files asked before after (λ f. cond-false _ _ _ fails) (image_alone answer judged source image files asked before after is says)
 
--- by its link
+-- An image, given its link.
 linked_is : (source : ElfSource) (name : List ℕ) (image : ImageParts) (found : Result (Option SupLink) SupFault) (f : Files) → source.full ≡ true → sup_link image ≡ found → then_sup source name image f ≡ with_link source name image found f
 linked_is source name image found f holds is = cond-true _ _ _ holds ∙ ap (λ (r : Result (Option SupLink) SupFault). with_link source name image r f) is
 
@@ -111,7 +111,7 @@ pub link_refused : {F : Type 0} (answer : Answer) (made : Result (List ℕ) F) (
 link_refused answer made source name image fault files asked before after holds bad same says =
     line_answered answer made (sup_line fault) (then_sup source name image) source files asked before after (λ f. linked_is source name image (Err fault) f holds bad) same says
 
--- the name that is asked for
+-- The name that is asked for.
 named_is : (source : ElfSource) (name : List ℕ) (image : ImageParts) (found : Result (Option SupLink) SupFault) → source.full ≡ true → sup_link image ≡ found → sup_names source name image ≡ link_names source name found
 named_is source name image found holds is = cond-true _ _ _ holds ∙ ap (link_names source name) is
 

@@ -1,4 +1,4 @@
--- The verdict of a walk; for `judge_walk`.
+-- The verdict of a walk, for `judge_walk`.
 use Rattle.std.proofs.Common.{◌≡◌, ℕ, List, None, Some, sym, ap, ◌∙◌}
 use Rattle.std.specs.Option.{option_map}
 use Rattle.sym_records.specs.declared.line.SymLine.{SymLine}
@@ -11,7 +11,7 @@ use Rattle.dumpsyms_cmd.specs.internal.Judged.{Refuses}
 use Rattle.dumpsyms_cmd.specs.declared.judgement.Judgement.{Judgement}
 use Rattle.dumpsyms_cmd.proofs.AnswerLemmas.{refuses_verdict}
 
--- the verdict of a walk, and of a state without rip
+-- The verdict of a walk, and that on a state without rip.
 pub walk_judged : (lines : List SymLine) (state : State) (walk : Walk) (j : Judgement) → walk_of lines state ≡ Some walk → judgement_verdict j ≡ walk_or_refused lines (Some walk) → judgement_verdict j ≡ walk_answer lines state
 walk_judged lines state walk j is says = says ∙ ap (walk_or_refused lines) (sym is)
 

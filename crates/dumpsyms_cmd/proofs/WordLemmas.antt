@@ -18,7 +18,7 @@ use Rattle.dumpsyms_cmd.specs.ElfInput.{ElfSource}
 passes_not : (t : Bool) → ((t ≡ true) → ⊥) → not t ≡ true
 passes_not t never = elim t as (λ v. ((v ≡ true) → ⊥) → not v ≡ true) [ true ↦ λ h. absurd (h refl) | false ↦ λ h. refl ] never
 
--- a word without digits writes no address, and any other what its digits do
+-- An empty argument is no address. Any other is the address that its digits write.
 pub no_address : (word : List ℕ) → (length word == 0) ≡ true → None ≡ address_of word
 unfolding address_of
 no_address word none = sym (ap (λ t. cond t None (hex_value word)) none)
@@ -27,7 +27,7 @@ pub some_address : (word : List ℕ) (o : Option ℕ) → (length word == 0) ≡
 unfolding address_of
 some_address word o some is = is ∙ sym (ap (λ t. cond t None (hex_value word)) some)
 
--- what follows the last slash
+-- What follows the last slash.
 pub last_slash : (path : List ℕ) (last : ℕ) → IsLastByte (is_byte 47) path (Some last) → module_name path ≡ drop (last + 1) path
 unfolding module_name
 last_slash path last found =
@@ -46,7 +46,7 @@ no_slash path none =
     let cut : length path - suffix_len (λ x. not (is_slash x)) path ≡ 0 = omega (arith, tail) in
     ap (λ n. drop n path) cut
 
--- digits, as they are tested and as std says it
+-- The definition of a digit agrees with that of the standard library.
 value_is : (d : ℕ) → digit_value d < 10 → is_digit d ≡ true
 value_is d below = grind (arith, nat_tests)
 
@@ -61,13 +61,13 @@ are_all : (ds : List ℕ) → list_all is_digit ds ≡ true → AllDigits 10 ds
 are_all [] all = tt
 are_all (d ∷ ds) all = let parts = and_true {a = is_digit d} all in (is_value d parts.0, are_all ds parts.1)
 
--- a word whose first byte is no plus
+-- An argument whose first byte is no plus sign.
 no_plus : (word : List ℕ) → 49 ≤ get_or word 0 0 → without_leading_plus word ≡ word
 no_plus word low =
     let no : (get_or word 0 0 == 43) ≡ false = grind (arith, nat_tests) in
     ap (λ t. drop (cond t 1 0) word) no
 
--- a word of digits, the first of them above 0, is a number
+-- An argument of digits, of which the first is above 0, is a number.
 is_number_by : (word : List ℕ) → 49 ≤ get_or word 0 0 → AllDigits 10 word → is_number word ≡ true
 is_number_by [] low all = absurd (omega arith)
 is_number_by (d ∷ ds) low all =
@@ -82,7 +82,7 @@ chosen : (t : Bool) (n : ℕ) → (t ≡ true → ⊥) → None ≡ cond t (Some
 chosen true n never = absurd (never refl)
 chosen false n never = refl
 
--- a number that is read, at most `most` or not
+-- A number that is read, and may be at most `most` or more.
 pub number_fits : (most n : ℕ) (word : List ℕ) → 49 ≤ get_or word 0 0 → IsNumeral 10 (without_leading_plus word) × (digits_value 10 (without_leading_plus word) < 2 ^ 64) → n ≡ digits_value 10 (without_leading_plus word) → n ≤ most → Some n ≡ number_upto most word
 unfolding number_upto
 number_fits most n word low numeral is few =
@@ -111,7 +111,7 @@ number_fails most word wide low bad =
     let few : digits_value 10 word ≤ most = grind (arith, nat_tests) in
     never (number_digits word parts.0, omega arith))
 
--- a number begins with 1 to 9
+-- A number begins with a digit from 1 to 9.
 first_range : (word : List ℕ) → is_number word ≡ true → (49 ≤ get_or word 0 0) × (get_or word 0 0 ≤ 57)
 first_range [] is = cc
 first_range (d ∷ ds) is =
@@ -127,7 +127,7 @@ unfolding number_upto
 number_other most word other =
     chosen (is_number word && nat_le (digits_value 10 word) most) (digits_value 10 word) (λ t. other (first_range word (and_true {a = is_number word} t).0))
 
--- digits that follow a number make it no smaller
+-- More digits do not make a number smaller.
 after_le : (n : ℕ) (ds : List ℕ) → n ≤ digits_value_after 10 n ds
 after_le n [] = omega arith
 after_le n (d ∷ ds) = omega (arith, after_le (n * 10 + digit_value d) ds)
@@ -138,12 +138,12 @@ positive (d ∷ ds) is =
     let range = first_range (d ∷ ds) is in
     omega (arith, range.0, range.1, digit_value_digit d (omega arith, range.1), after_le (0 * 10 + digit_value d) ds)
 
--- a row has from one to 64 workers
+-- A dump has from one to 64 workers.
 workers_by : (t : Bool) (source : ElfSource) (n : ℕ) → (t ≡ true → (1 ≤ n) × (n ≤ 64)) → HasWorkers (option_map (dump source) (cond t (Some n) None))
 workers_by true source n has = has refl
 workers_by false source n has = tt
 
--- a number is at least 1 and at most `most`
+-- A number is at least 1 and at most `most`.
 abbrev Within : ℕ → Option ℕ → Type 0
 Within most None = Prim.Unit {0}
 Within most (Some n) = (1 ≤ n) × (n ≤ most)
@@ -161,7 +161,7 @@ number_workers source word =
     let few : digits_value 10 word ≤ 64 = grind (arith, nat_tests) in
     (positive word parts.0, few))
 
--- and so has a sample, whose units are no more than they may be
+-- A sample has from one to 64 workers, and not too many units.
 number_within : (most : ℕ) (word : List ℕ) → Within most (number_upto most word)
 unfolding number_upto
 number_within most word =
@@ -187,7 +187,7 @@ judge_all : (sym : List ℕ) (o : Option ElfSource) → HasWorkers (option_map (
 judge_all sym None = tt
 judge_all sym (Some source) = tt
 
--- with two words behind an ELF file, and behind a symbol file
+-- The number of workers with two arguments after an ELF file, and with two after a symbol file.
 behind_elf : (full : Bool) (elf word value : List ℕ) → HasWorkers (dump_words full elf word value)
 behind_elf full elf word value = search (if_both HasWorkers, number_workers (alone full elf) value, usual_all (debug_words full elf word value)) depth 40
 

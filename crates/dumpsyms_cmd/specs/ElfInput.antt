@@ -132,7 +132,7 @@ then_debug source read files = read >>= (λ binary. with_debug source source.deb
 abbrev pub given_image : ElfSource → Files → Result ImageParts Verdict
 given_image source files = then_debug source (elf_image source files) files
 
--- the path alone, if there is one
+-- a list of the path, if there is one
 abbrev pub path_names : Result (List ℕ) Verdict → List (List ℕ)
 path_names (Ok path) = path ∷ []
 path_names (Err ended) = []
@@ -183,7 +183,7 @@ untold_names source None untold = untold_sup source source.elf untold.link
 untold_names source (Some (at_path path)) untold = untold_file source untold (Some path)
 untold_names source (Some (below_root root)) untold = untold_file source untold (debug_path root untold.id)
 
--- the names asked for after the ELF file, whether the store's files are known or not
+-- the names that are asked for after the ELF file, whether the store's files are known or not
 abbrev pub debug_told : Option Files → ElfSource → Untold → List (List ℕ)
 debug_told None source untold = untold_names source source.debug untold
 debug_told (Some files) source untold = names_behind source (elf_image source files) files

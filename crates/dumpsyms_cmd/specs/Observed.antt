@@ -98,7 +98,8 @@ Misses (Some (stacks core folder)) store missed =
     Counted missed store.faults store.faults_after × ((name : List ℕ) → list_any (bytes_eq name) missed ≡ true → list_any (bytes_eq name) store.asked_after ≡ true)
 Misses command store missed = (missed ≡ []) × (store.faults_after ≡ store.faults)
 
--- if memory ran out, the store did not fail before, except perhaps under `stacks`
+-- the store did not fail, which is promised of a run without enough memory; of `stacks` this says
+-- nothing
 abbrev pub IsSteady : Option Asked → StoreSeen → Type 0
 IsSteady (Some (stacks core folder)) store = Unit {0}
 IsSteady command store = store.faults_after ≡ store.faults

@@ -13,7 +13,7 @@ use Rattle.dumpsyms_cmd.specs.SymbolInput.{symbol_verdict, file_verdict}
 use Rattle.dumpsyms_cmd.specs.Judgement.{judgement_verdict}
 use Rattle.dumpsyms_cmd.specs.declared.judgement.Judgement.{Judgement}
 
--- the verdict on the state, or by its first fault
+-- the verdict on the state, or on the first fault of the state file
 abbrev pub by_state : (List SymLine → State → Verdict) → List SymLine → Result State StateFault → Verdict
 by_state answer lines (Ok state) = answer lines state
 by_state answer lines (Err fault) = refused (state_line fault)

@@ -76,7 +76,7 @@ pub(crate) fn judge_image<R: Threads + Sync, G: Gate + Sync>(
     }
 }
 
-/// A refusal with a line that was made.
+/// A refusal with this line, unless memory ran out when the line was made.
 pub fn answer_line(made: Result<ByteText, AllocError>) -> Answer
     ensures { AnswersMade result made }
 {

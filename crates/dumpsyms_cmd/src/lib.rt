@@ -12,9 +12,10 @@
 //! address of the units that are read, the text names DWARF's function, inline chain and line. Evaluating the rules of each written frame entry gives
 //! DWARF's CFA, return address and registers, for all registers and memory. The text reads back as the file's records.
 //!
-//! To read: `specs/Program.antt` with `program`; the module of each command in `specs/commands/`; `words` and `commands`; `dump`, `omissions`,
-//! `split_units` and `refusals`; `symbol_input` with `check`, `lookup` and `names`; `state_input` with `frame` and `walk`; `elf_input` with the files
-//! of `dump`; `judge_input` with `judge`.
+//! A reader begins with `specs/Program.antt` and `program`. Then come the module of each command in
+//! `specs/commands/`; `words` and `commands`; `dump`, `omissions`, `split_units` and `refusals`;
+//! `symbol_input` with `check`, `lookup` and `names`; `state_input` with `frame` and `walk`;
+//! `elf_input` with the files of `dump`; `judge_input` with `judge`.
 #![tactic(auto)]
 
 // The program, its arguments, and what is decided before anything is written.

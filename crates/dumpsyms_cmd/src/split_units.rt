@@ -74,7 +74,8 @@ fn has_name(root: &Abbrev<'_>) -> bool
     root.specs().iter().any(|spec| spec.attribute() == DWO_NAME)
 }
 
-/// `has_name` for the abbreviation with this code.
+/// Whether the abbreviation with this code has the attribute that names the file with the unit's
+/// entries.
 fn code_has_name(scratch: &AbbrevScratch, code: u64) -> bool
     ensures { result ≡ root_by (Some code) (Ok scratch.now) }
 {

@@ -46,7 +46,7 @@ pub fn answer_end(alloc: Global, end: Stop<SymEnd>, unread: Message) -> Answer
     }
 }
 
-/// The answer given a judgement, or if memory ran out.
+/// The answer that is this judgement, unless memory ran out.
 pub fn answer_judged(judged: Result<Judgement, OutOfMemory>) -> Answer
     ensures { AnswersJudged result judged }
 {

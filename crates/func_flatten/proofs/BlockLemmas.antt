@@ -1,4 +1,4 @@
--- Names as short keys.
+-- Names are represented by short keys.
 use Rattle.std.proofs.Common.{◌≡◌, ◌≢◌, ℕ, zero, suc, ◌+◌, ◌-◌, ◌^◌, ◌<◌, ◌≤◌, ◌==◌, Bool, true, false, cond, if◌then◌else◌, map, length, take, drop, get_or, min, List, [], ◌∷◌, ◌++◌, Option, None, Some, arith, refl, sym, ap, ◌∙◌, subst, Ordering, Less, Equal, Greater}
 use Rattle.std.proofs.lemmas.Bool.Decides.{nat_tests}
 use Rattle.std.proofs.lemmas.Grind.{common_steps}
@@ -22,14 +22,14 @@ use Rattle.func_flatten.specs.declared.name_blocks.NameKey.{NameKey}
 use Rattle.func_flatten.specs.declared.name_blocks.NameBlocks.{NameBlocks}
 use Rattle.func_flatten.specs.internal.NameBlocks.{kept_upto, kept, kept_more_upto, kept_more, begun, kept_part, BlockNumbers, number_bytes, number_at, with_byte, with_bytes, text_key, AreNumbered, Grows, IsKey}
 
--- ---- what is kept
+-- ---- The bytes that are kept.
 
--- a cleaned name is what is kept, where anything is
+-- A cleaned name is what is kept of it, if anything is kept.
 pub cleaned_kept : (bytes : List ℕ) → cleaned bytes ≡ or_omitted (kept bytes)
 unfolding cleaned cleaned_upto kept kept_upto
 cleaned_kept bytes = refl
 
--- some bytes and what follows them, without what is skipped in front
+-- Some bytes and the bytes after them, without the leading bytes that are skipped.
 abbrev joined : List ℕ → List ℕ → List ℕ → List ℕ
 joined [] skipped bytes = skipped
 joined (x ∷ xs) skipped bytes = (x ∷ xs) ++ bytes
@@ -57,7 +57,7 @@ kept_upto_more limit raw bytes =
     ∙ ap (take limit) (skip_joined is_space (map shown_byte raw) (map shown_byte bytes))
     ∙ take_joined limit (skip is_space (map shown_byte raw)) bytes
 
--- what is kept of two stretches of bytes is what the first leaves, with what is kept of the second
+-- What is kept of two runs of bytes is what is kept of the first, extended by the second.
 pub kept_joined : (raw bytes : List ℕ) → kept (raw ++ bytes) ≡ kept_more (kept raw) bytes
 unfolding kept kept_more
 kept_joined raw bytes = kept_upto_more 65536 raw bytes
@@ -89,7 +89,7 @@ part_short : (limit so_far : ℕ) (bytes : List ℕ) → length (kept_part limit
 unfolding kept_part
 part_short limit so_far bytes = omega (arith, length-take (limit - so_far) (begun so_far bytes))
 
--- ---- keys of one text
+-- ---- The key of one text.
 
 with_joined : (number : List ℕ → Option ℕ) (held : Option (List ℕ)) (xs ys : List ℕ) → with_bytes number held (xs ++ ys) ≡ with_bytes number (with_bytes number held xs) ys
 with_joined number held [] ys = refl
@@ -118,12 +118,12 @@ grown_bytes f g grow held (b ∷ bytes) key is = go (with_byte f held b) refl is
     go None at some later = absurd (grind (arith, with_none f bytes, some))
     go (Some h) at some later = ap (λ o. with_bytes g o bytes) (grown_byte f g grow held b h at) ∙ later h some
 
--- ---- a key of one text alone
+-- ---- A key belongs to one text only.
 
 one_number : (m n : ℕ) → m < 2 ^ 32 → n < 2 ^ 32 → number_bytes m ≡ number_bytes n → m ≡ n
 one_number m n first second same = sym (from_be_bytes-to_be_bytes_4 m first) ∙ ap (from_be_bytes w32) same ∙ from_be_bytes-to_be_bytes_4 n second
 
--- how a key came from the one before
+-- How a key was made from the key before the last byte.
 data Came (number : List ℕ → Option ℕ) (block key : List ℕ) : Type 0 where
   Longer : block ≡ key → Came number block key
   Whole : (n : ℕ) → number block ≡ Some n → number_bytes n ≡ key → Came number block key
@@ -144,7 +144,7 @@ record Numbered (number : List ℕ → Option ℕ) : Type 0 where
   fits : (block : List ℕ) (n : ℕ) → number block ≡ Some n → (0 < n) × (n < 2 ^ 32)
   apart : (one two : List ℕ) (n : ℕ) → number one ≡ Some n → number two ≡ Some n → one ≡ two
 
--- the key of no text is that of no longer one
+-- The key of the empty text is not the key of a longer text.
 came_first : (number : List ℕ → Option ℕ) → Numbered number → (held : List ℕ) (b : ℕ) → 4 ≤ length held → Came number (held ++ b ∷ []) (number_bytes 0) → ⊥
 came_first number are held b long (Longer is) = omega (arith, length-append held (b ∷ []), ap length is)
 came_first number are held b long (Whole n at is) =
@@ -159,7 +159,7 @@ came_one number are one two a b key first second (Whole m at is) (Whole n there 
     let same : m ≡ n = one_number m n (are.fits (one ++ a ∷ []) m at).1 (are.fits (two ++ b ∷ []) n there).1 (is ∙ sym so) in
     same_from_push one two a b (are.apart (one ++ a ∷ []) (two ++ b ∷ []) n (at ∙ ap Some same) there)
 
--- the key of a text that is told from its end
+-- The key of a text, built from the end of the text.
 abbrev back : (List ℕ → Option ℕ) → List ℕ → Option (List ℕ)
 back number [] = Some (number_bytes 0)
 back number (b ∷ bytes) = with_byte number (back number bytes) b
@@ -179,7 +179,7 @@ onto_onto (x ∷ xs) bytes = onto_onto xs (x ∷ bytes)
 one_onto : (xs ys : List ℕ) → onto xs [] ≡ onto ys [] → xs ≡ ys
 one_onto xs ys is = sym (onto_onto xs []) ∙ ap (λ l. onto l []) is ∙ onto_onto ys []
 
--- the key before the last byte
+-- The key of a text without its last byte.
 record Before (number : List ℕ → Option ℕ) (bytes : List ℕ) (b : ℕ) (key : List ℕ) : Type 0 where
   held : List ℕ
   at : back number bytes ≡ Some held
@@ -226,13 +226,13 @@ one_text numbers count are one two key is so =
     (one_back (number_at numbers) (numbered numbers count are) (onto one []) (onto two []) key
     (sym (back_onto (number_at numbers) one []) ∙ is) (sym (back_onto (number_at numbers) two []) ∙ so))
 
--- ---- one more block
+-- ---- One more block.
 
 or_none : {A : Type 0} (o : Option A) → option_or o None ≡ o
 or_none None = refl
 or_none (Some x) = refl
 
--- what is found after a new entry
+-- The number that is found after a block was added.
 abbrev pub with_block : Option ℕ → List ℕ → List ℕ → ℕ → Option ℕ
 with_block found text block number = option_or found (if bytes_eq text block then Some number else None)
 
@@ -251,12 +251,12 @@ inserted (e ∷ entries) key number text none = go (slice_cmp nat_cmp key.items 
     go Equal gone later_is = absurd (cc)
     go Greater gone later_is = grind (arith, nat_tests, later_is gone)
 
--- a block has the number that it had, or it is the new one
+-- A block has the number that it had before, or it is the new block.
 pub data Given (old : BlockNumbers) (block key : List ℕ) (number n : ℕ) : Type 0 where
   Old : number_at old block ≡ Some n → Given old block key number n
   New : block ≡ key → number ≡ n → Given old block key number n
 
--- a map with one more block
+-- A map with one more block.
 pub record HasMore (old new : BlockNumbers) (key : List ℕ) (number : ℕ) : Type 0 where
   pub more : (block : List ℕ) → number_at new block ≡ with_block (number_at old block) block key number
   pub none : number_at old key ≡ None
@@ -276,7 +276,7 @@ given old new key number has block n is = go (number_at old block) refl (bytes_e
     go None at true same some = New ((bytes_eq-Decides block key).0 same) cc
     go None at false same some = absurd (cc)
 
--- the next number goes to a block that has none
+-- The next number goes to a block that has none.
 numbered_more : (old new : BlockNumbers) (count next : ℕ) (key : List ℕ) → AreNumbered old count → next ≡ count + 1 → next < 2 ^ 32 → HasMore old new key next → AreNumbered new next
 numbered_more old new count next key are is fits has = record {
   fits = fits;
@@ -306,7 +306,7 @@ grows_more old new key number has = record { numbers = λ block n is. has.more b
 pub newest : (old new : BlockNumbers) (key : List ℕ) (number : ℕ) → HasMore old new key number → number_at new key ≡ Some number
 newest old new key number has = has.more key ∙ ap (λ o. with_block o key key number) has.none ∙ ap (λ b. if b then Some number else None) ((bytes_eq-Decides key key).1 refl)
 
--- a block that had no number has one
+-- A block that had no number has one now.
 pub record Adds (old new : BlockNumbers) (block : List ℕ) (number : ℕ) : Type 0 where
   pub numbered : AreNumbered new number
   pub grows : Grows old new
@@ -321,7 +321,7 @@ adds_block old new count next key are is fits none added =
       is = newest old new key.items next has;
     }
 
--- a map with the same blocks
+-- A map with the same blocks.
 pub numbered_same : (old new : BlockNumbers) (count : ℕ) → AreNumbered old count → new.entries ≡ old.entries → AreNumbered new count
 unfolding number_at
 numbered_same old new count are same = record {
@@ -330,7 +330,7 @@ numbered_same old new count are same = record {
   apart = λ one two n is so. are.apart one two n (sym (ap (λ l. entry_at l one) same) ∙ is) (sym (ap (λ l. entry_at l two) same) ∙ so);
 }
 
--- a map without blocks
+-- A map without blocks.
 pub numbered_none : (numbers : BlockNumbers) → numbers.entries ≡ [] → AreNumbered numbers 0
 unfolding number_at
 numbered_none numbers empty = record {
@@ -339,9 +339,9 @@ numbered_none numbers empty = record {
   apart = λ one two n is so. (let none : None ≡ Some n = sym (ap (λ l. entry_at l one) empty) ∙ is in absurd (cc));
 }
 
--- ---- what callers need of keys
+-- ---- What the callers need to know about keys.
 
--- a key of a map is one of a grown map
+-- A key of a map is a key of the grown map.
 pub key_grows : (old new : BlockNumbers) (key : NameKey) (text : List ℕ) → Grows old new → IsKey old key text → IsKey new key text
 unfolding text_key
 key_grows old new key text grows of = record {
@@ -350,29 +350,29 @@ key_grows old new key text grows of = record {
   short = of.short;
 }
 
--- a text has one key
+-- A text has one key.
 pub one_key : (numbers : BlockNumbers) (one two : NameKey) (text : List ℕ) → IsKey numbers one text → IsKey numbers two text → one.bytes.items ≡ two.bytes.items
 one_key numbers one two text first second = (let same : Some one.bytes.items ≡ Some two.bytes.items = sym first.key_is ∙ second.key_is in cc)
 
--- a text of which nothing is found has no key
+-- If a text has a key, the key can be found.
 pub found_none : (numbers : BlockNumbers) (key : NameKey) (text : List ℕ) → IsKey numbers key text → text_key numbers text ≢ None
 found_none numbers key text of is = (let same : None ≡ Some key.bytes.items = sym is ∙ of.key_is in absurd (cc))
 
--- what is found by a text is the key of no other
+-- The key that is found for a text is not the key of another text.
 pub found_text : (blocks : NameBlocks) (key : NameKey) (xs ys held : List ℕ) → IsKey blocks.numbers key xs → text_key blocks.numbers ys ≡ Some held → held ≡ key.bytes.items → xs ≡ ys
 found_text blocks key xs ys held of is same = one_text blocks.numbers blocks.count blocks.numbered xs ys held (of.key_is ∙ ap Some (sym same)) is
 
--- ---- the code
+-- ---- The steps of the code.
 
--- one more byte, and no block is whole
+-- One more byte, which does not complete a block.
 pub byte_held : (number : List ℕ → Option ℕ) (held more : List ℕ) (b : ℕ) → more ≡ held ++ b ∷ [] → length more ≢ 68 → with_byte number (Some held) b ≡ Some more
 byte_held number held more b is other = grind (arith, nat_tests, is, other, length-append held (b ∷ []))
 
--- one more byte makes a block whole
+-- One more byte, which completes a block.
 pub byte_whole : (number : List ℕ → Option ℕ) (held block : List ℕ) (b : ℕ) → block ≡ held ++ b ∷ [] → length block ≡ 68 → with_byte number (Some held) b ≡ option_map number_bytes (number block)
 byte_whole number held block b is whole = grind (arith, nat_tests, is, whole, length-append held (b ∷ []))
 
--- the key of a text to which bytes were added
+-- The key of a text to which bytes were added.
 pub key_added : (old new : BlockNumbers) (key more : NameKey) (text bytes front : List ℕ) → Grows old new → front ≡ kept_part 65536 key.length bytes → with_bytes (number_at new) (Some key.bytes.items) (map shown_byte front) ≡ Some more.bytes.items → more.length ≡ min (key.length + length front) (2 ^ 64 - 1) → IsKey old key text → IsKey new more (kept_more text bytes)
 unfolding text_key kept_more
 key_added old new key more text bytes front grows part run sum of =
@@ -396,7 +396,7 @@ same_key numbers one two text bytes long of = record { key_is = of.key_is ∙ ap
 pub empty_is : (numbers : BlockNumbers) (key : NameKey) (text : List ℕ) → IsKey numbers key text → (key.length == 0) ≡ (length text == 0)
 empty_is numbers key text of = ap (λ n. n == 0) of.length_is
 
--- one more of the bytes that are added
+-- One more of the bytes that are added.
 pub bytes_next : (old new : BlockNumbers) (held mid more bytes : List ℕ) (i b : ℕ) → i < length bytes → b ≡ shown_byte (get_or bytes i 0) → Grows old new → with_bytes (number_at old) (Some held) (map shown_byte (take i bytes)) ≡ Some mid → with_byte (number_at new) (Some mid) b ≡ Some more → with_bytes (number_at new) (Some held) (map shown_byte (take (i + 1) bytes)) ≡ Some more
 bytes_next old new held mid more bytes i b inside at grows so_far step =
     ap (λ l. with_bytes (number_at new) (Some held) (map shown_byte l)) (take_more bytes i 0 inside)
@@ -409,7 +409,7 @@ bytes_next old new held mid more bytes i b inside at grows so_far step =
 pub bytes_end : (numbers : BlockNumbers) (held more bytes : List ℕ) (i : ℕ) → length bytes ≤ i → with_bytes (number_at numbers) (Some held) (map shown_byte (take i bytes)) ≡ Some more → with_bytes (number_at numbers) (Some held) (map shown_byte bytes) ≡ Some more
 bytes_end numbers held more bytes i past is = ap (λ l. with_bytes (number_at numbers) (Some held) (map shown_byte l)) (sym (take_all i bytes past)) ∙ is
 
--- one more of the bytes whose key is looked for
+-- One more of the bytes whose key is looked for.
 look : (numbers : BlockNumbers) (held bytes : List ℕ) (i b : ℕ) (o : Option (List ℕ)) → i < length bytes → b ≡ shown_byte (get_or bytes i 0) → with_byte (number_at numbers) (Some held) b ≡ o → with_bytes (number_at numbers) (Some held) (map shown_byte (drop i bytes)) ≡ with_bytes (number_at numbers) o (map shown_byte (drop (i + 1) bytes))
 look numbers held bytes i b o inside at step =
     at_drop_more (λ l. with_bytes (number_at numbers) (Some held) (map shown_byte l)) bytes i 0 inside
@@ -423,7 +423,7 @@ kept_first : (bytes : List ℕ) → kept bytes ≡ map shown_byte (kept_part 655
 unfolding kept
 kept_first bytes = more_upto 65536 [] bytes (omega arith)
 
--- the key of what is kept
+-- The key of what is kept of a name.
 pub key_whole : (numbers : BlockNumbers) (bytes front : List ℕ) → front ≡ kept_part 65536 0 bytes → with_bytes (number_at numbers) (Some (number_bytes 0)) (map shown_byte front) ≡ text_key numbers (kept bytes)
 unfolding text_key
 key_whole numbers bytes front is = ap (λ l. with_bytes (number_at numbers) (Some (number_bytes 0)) (map shown_byte l)) is ∙ ap (with_bytes (number_at numbers) (Some (number_bytes 0))) (sym (kept_first bytes))

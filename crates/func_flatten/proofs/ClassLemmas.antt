@@ -1,4 +1,4 @@
--- Where functions of different names share an address.
+-- Where functions with different names have the same address.
 use Rattle.std.proofs.Common.{◌≡◌, ℕ, zero, suc, ◌+◌, ◌-◌, ◌<◌, ◌≤◌, ◌==◌, Bool, true, false, not, ◌&&◌, nat_le, nat_lt, map, List, [], ◌∷◌, ◌++◌, Option, None, Some, arith, refl, sym, ap, ◌∙◌, subst, length, get_or, take, drop, set}
 use Rattle.std.proofs.lemmas.Bool.Decides.{nat_tests}
 use Rattle.std.proofs.lemmas.List.Edits.{map_over_more}
@@ -31,7 +31,7 @@ use Rattle.func_flatten.proofs.FunctionLemmas.{many_is, other_name_is}
 use Rattle.func_flatten.proofs.StandLemmas.{name_get}
 use Rattle.func_flatten.proofs.PieceLemmas.{stand_all}
 
--- a stretch of another name is there just where a function of another name is
+-- An address has a stretch of another name exactly if it has a function with another name.
 other_is : (units : List UnitRead) (places : List EntryRef) (stretches : List Stretch) (low a : ℕ) → IsCollected units places stretches low [] → has_other_name (number_name units places) stretches a ≡ is_many units a
 other_is units places stretches low a c =
     ap (λ l. has_other_name (number_name units l) stretches a) c.placed
@@ -39,7 +39,7 @@ other_is units places stretches low a c =
     ∙ other_name_is (number_name units (map place_of c.functions)) (covering_name units) c.functions a c.sets (λ j d at. name_get units c.functions j d at)
     ∙ sym (many_is units c.functions a (stand_all units places stretches low c))
 
--- what holds of each stretch holds of the one that is found
+-- What holds for each stretch holds for the one that is found.
 abbrev AllOf : (Stretch → Type 0) → List Stretch → Type 0
 AllOf P [] = Unit {0}
 AllOf P (s ∷ items) = P s × AllOf P items
@@ -52,7 +52,7 @@ of_joined : (P : Stretch → Type 0) (xs ys : List Stretch) → AllOf P xs → A
 of_joined P [] ys p q = q
 of_joined P (x ∷ xs) ys p q = (p.0, of_joined P xs ys p.1 q)
 
--- each stretch has its function's number as its class
+-- Each stretch has the number of its function as its class.
 own_spans : (k : ℕ) (spans : List Range) → AllOf (λ t. t.class ≡ t.index) (span_stretches k k spans)
 own_spans k [] = tt
 own_spans k (r ∷ spans) = (refl, own_spans k spans)
@@ -65,7 +65,7 @@ finer_any : (name : ℕ → List ℕ) (s : Stretch) (a : ℕ) (items : List Stre
 finer_any name s a [] own all none = refl
 finer_any name s a (t ∷ items) own all none = grind (arith, nat_tests, own, all.0, none, (bytes_eq-Decides (name t.index) (name s.index)).1, finer_any name s a items own all.1)
 
--- where no other function is there, no other name is
+-- If an address has no other function, it has no other name.
 other_none : (name : ℕ → List ℕ) (items : List Stretch) (a : ℕ) → AllOf (λ t. t.class ≡ t.index) items → is_shared items a ≡ false → has_other_name name items a ≡ false
 unfolding is_shared has_other_name first_at
 other_none name items a all none = go (find (λ s. reaches s a) items) refl none
@@ -74,12 +74,12 @@ other_none name items a all none = go (find (λ s. reaches s a) items) refl none
     go None is gone = refl
     go (Some s) is gone = finer_any name s a items (of_found (λ t. t.class ≡ t.index) (λ t. reaches t a) items s all is) all gone
 
--- the stretches that are kept
+-- The stretches that are kept.
 found_kept : (keep : Stretch → Bool) (a : ℕ) (items : List Stretch) → ((s : Stretch) → reaches s a ≡ true → keep s ≡ true) → find (λ s. reaches s a) (filter keep items) ≡ find (λ s. reaches s a) items
 found_kept keep a [] all = refl
 found_kept keep a (s ∷ items) all = grind (arith, nat_tests, all s, found_kept keep a items all)
 
--- those that are kept tell all
+-- The stretches that are kept show whether there is another name.
 other_kept : (name : ℕ → List ℕ) (keep : Stretch → Bool) (a : ℕ) (items : List Stretch) → ((s : Stretch) → reaches s a ≡ true → keep s ≡ true) → has_other_name name (filter keep items) a ≡ has_other_name name items a
 unfolding has_other_name first_at
 other_kept name keep a items all =
@@ -94,7 +94,7 @@ found_classed : (class : ℕ → ℕ) (a : ℕ) (items : List Stretch) → find 
 found_classed class a [] = refl
 found_classed class a (s ∷ items) = grind (arith, nat_tests, found_classed class a items)
 
--- two have one class where their names are equal
+-- Two functions have the same class exactly if their names are equal.
 equal_class : (name : ℕ → List ℕ) (class : ℕ → ℕ) (j k : ℕ) → ((i l : ℕ) → name i ≡ name l → class i ≡ class l) → name (class j) ≡ name j → name (class k) ≡ name k → (class j == class k) ≡ bytes_eq (name j) (name k)
 equal_class name class j k same one two = grind (arith, nat_tests, one, two, same j k, (bytes_eq-Decides (name j) (name k)).0, (bytes_eq-Decides (name j) (name k)).1)
 
@@ -107,7 +107,7 @@ named_all : (name : ℕ → List ℕ) (class : ℕ → ℕ) (items : List Stretc
 named_all name class [] all = tt
 named_all name class (s ∷ items) all = (all.0, named_all name class items all.1)
 
--- by these classes another class is there just where another name is
+-- With these classes, there is another class exactly if there is another name.
 shared_classed : (name : ℕ → List ℕ) (class : ℕ → ℕ) (items : List Stretch) (a : ℕ) → IsClass name class items → is_shared (map (classed class) items) a ≡ has_other_name name items a
 unfolding is_shared has_other_name first_at
 shared_classed name class items a is =
@@ -150,11 +150,11 @@ begins_anywhere : (covers : List Cover) → BeginsFrom 0 covers
 begins_anywhere [] = tt
 begins_anywhere (c ∷ covers) = omega arith
 
--- the first addresses of shared covers rise
+-- The first addresses of the shared covers ascend.
 pub starts_rise : (items : List Stretch) (covers : List Cover) → AreCovers items covers → RisesFrom 0 (shared_starts covers)
 starts_rise items covers is = rise_from 0 covers (begins_anywhere covers) is.runs.apart
 
--- each stretch that has the address has one of these
+-- Each stretch that has the address has one of the given addresses.
 abbrev IsKept : List ℕ → ℕ → Type 0
 IsKept addresses a = (s : Stretch) → reaches s a ≡ true → reaches_any addresses s ≡ true
 
@@ -178,7 +178,7 @@ shared_item items a = go (first_at items a)
     go None = refl
     go (Some s) = refl
 
--- what was found at a shared first address tells of names
+-- What is found at the first address of a shared cover shows whether names differ.
 found_other : (units : List UnitRead) (places : List EntryRef) (stretches kept named : List Stretch) (addresses : List ℕ) (items : Stepping (Option FirstItem)) (low a : ℕ) → IsCollected units places stretches low []
     → kept ≡ filter (reaches_any addresses) stretches → (class : ℕ → ℕ) × IsClass (number_name units places) class kept × (named ≡ map (classed class) kept) → value_at None items a ≡ first_item named a → IsKept addresses a → shared_in (value_at None items a) ≡ is_many units a
 found_other units places stretches kept named addresses items low a c keeps classes found all =
@@ -190,7 +190,7 @@ found_other units places stretches kept named addresses items low a c keeps clas
     ∙ other_kept (number_name units places) (reaches_any addresses) a stretches all
     ∙ other_is units places stretches low a c
 
--- where a cover is not shared no other name is
+-- If a cover is not shared, there is no other name.
 found_none : (units : List UnitRead) (places : List EntryRef) (stretches : List Stretch) (low a : ℕ) → IsCollected units places stretches low [] → is_shared stretches a ≡ false → is_many units a ≡ false
 found_none units places stretches low a c none =
     sym (other_is units places stretches low a c)
@@ -215,7 +215,7 @@ marked_runs : (items : Stepping (Option FirstItem)) (covers : List Cover) → ma
 marked_runs items [] = refl
 marked_runs items (c ∷ covers) = ap (λ l. cover_run c ∷ l) (marked_runs items covers)
 
--- covers that are marked by what was found among the stretches that are kept
+-- The covers, marked by what was found among the stretches that are kept.
 pub covers_named : (units : List UnitRead) (places : List EntryRef) (stretches kept named : List Stretch) (covers : List Cover) (items : Stepping (Option FirstItem)) → (low : ℕ) × IsCollected units places stretches low [] → AreCovers stretches covers
     → kept ≡ filter (reaches_any (shared_starts covers)) stretches → (class : ℕ → ℕ) × IsClass (number_name units places) class kept × (named ≡ map (classed class) kept) → ((a : ℕ) → a < 18446744073709551616 → value_at None items a ≡ first_item named a)
     → AreNamedCovers units stretches (map (marked items) covers)
@@ -236,7 +236,8 @@ reached_at low (a ∷ addresses) s zero rises here past inside = grind (arith, n
 reached_at low (a ∷ addresses) s (suc j) rises here past inside =
     grind (arith, nat_tests, rises_above (a + 1) addresses rises.1 j 0 (omega arith), reached_at (a + 1) addresses s j rises.1 here (λ k h g. past (suc k) (omega arith) (omega arith)) (omega arith))
 
--- the last address at or below the end of the stretch decides
+-- The last of the addresses at or below the end of a stretch decides whether the stretch has one of
+-- them.
 pub reached_some : (addresses : List ℕ) (s : Stretch) (count : ℕ) → RisesFrom 0 addresses → Point addresses s.last count → 0 < count → count ≤ length addresses → nat_le s.first (get_or addresses (count - 1) 0) ≡ reaches_any addresses s
 reached_some addresses s count rises point some inside =
     reached_at 0 addresses s (count - 1) rises (grind (arith, nat_tests, point.0 (count - 1) 0, some, inside)) (λ k h g. grind (arith, nat_tests, point.1 k 0, h, g)) (omega arith)
@@ -244,6 +245,6 @@ reached_some addresses s count rises point some inside =
 pub reached_none : (addresses : List ℕ) (s : Stretch) (count : ℕ) → Point addresses s.last count → count ≡ 0 → nat_lt 0 count ≡ reaches_any addresses s
 reached_none addresses s count point none = grind (arith, nat_tests, none, none_past addresses s (λ k h. grind (arith, nat_tests, point.1 k 0, none, h)))
 
--- one more cover was marked
+-- One more cover was marked.
 pub mark_next : (items : Stepping (Option FirstItem)) (made covers : List Cover) (i : ℕ) (c new : Cover) → i < length covers → made ≡ map (marked items) (take i covers) ++ drop i covers → c ≡ get_or made i c → new ≡ marked items c → set made i new ≡ map (marked items) (take (i + 1) covers) ++ drop (i + 1) covers
 mark_next items made covers i c new inside is at same = ap (set made i) same ∙ map_over_more (marked items) covers made i c inside is at

@@ -1,4 +1,4 @@
--- What is collected of the functions.
+-- The functions that are collected.
 use Rattle.std.proofs.Common.{◌≡◌, ◌≢◌, ◌⊎◌, inl, inr, ℕ, ◌+◌, ◌<◌, ◌≤◌, ◌==◌, true, false, if◌then◌else◌, map, length, List, [], ◌∷◌, ◌++◌, arith, refl, sym, ap, ◌∙◌, append_assoc, append-nil, length-append, subst, drop, Option, Some, None, get_or}
 use Rattle.std.proofs.lemmas.Bool.Decides.{nat_tests}
 use Rattle.std.specs.List.{slice_get}
@@ -63,7 +63,7 @@ collected_raised units places stretches low high left less c = record {
   there = c.there;
 }
 
--- an entry that is no function, or has no addresses
+-- An entry that is no function, or has no addresses.
 other_passed : (units : List UnitRead) (places : List EntryRef) (stretches : List Stretch) (low : ℕ) (c : Covering) (left : List Covering) → has_code c ≡ false → IsCollected units places stretches low (c ∷ left) → IsCollected units places stretches low left
 other_passed units places stretches low c left none k = record {
   functions = k.functions;
@@ -89,7 +89,7 @@ have_more : (functions : List Covering) (c : Covering) → HaveSets functions �
 have_more [] c all is = (is, tt)
 have_more (d ∷ functions) c all is = (all.0, have_more functions c all.1 is)
 
--- a function is collected
+-- A function that is collected.
 taken : (units : List UnitRead) (places new : List EntryRef) (before after : List Stretch) (c : Covering) (left : List Covering) → has_code c ≡ true → IsCanonical c.spans → set_in c.entry (slice_get units c.unit) ≡ Some c.spans
     → after ≡ before ++ span_stretches (length places) (length places) c.spans → new ≡ places ++ place_of c ∷ [] → IsCollected units places before (place_key (place_of c)) (c ∷ left) → IsCollected units new after (place_key (place_of c) + 1) left
 taken units places new before after c left is canonical here stretched placed k =
@@ -109,7 +109,7 @@ taken units places new before after c left is canonical here stretched placed k 
       there = there_more units k.functions c k.there here;
     }
 
--- the function of a number that has the set of another
+-- The function with a number, which has the same set as another one.
 record Kept (units : List UnitRead) (functions : List Covering) (places : List EntryRef) (c : Covering) (k : ℕ) : Type 0 where
   function : Covering
   at : slice_get functions k ≡ Some function
@@ -137,7 +137,7 @@ kept_there units part places functions c k one here placed there has =
       named = ap (λ l. number_name units l k) placed ∙ name_get units functions k found.0 found.1;
     }
 
--- others stand for a function
+-- A function that others represent.
 known : (units : List UnitRead) (part : UnitRead) (places : List EntryRef) (stretches : List Stretch) (c : Covering) (left : List Covering) (k : ℕ) → has_code c ≡ true → slice_get units c.unit ≡ Some part → slice_get part.spans c.entry ≡ Some c.spans
     → Meets units part.spans places (place_of c) (Known k) → IsCollected units places stretches (place_key (place_of c)) (c ∷ left) → IsCollected units places stretches (place_key (place_of c) + 1) left
 known units part places stretches c left k is one here meets q = record {
@@ -164,7 +164,7 @@ known units part places stretches c left k is one here meets q = record {
           stand_two (covering_name units) q.passed q.functions c f.function g.function k two.0 q.stand f.at g.at f.set g.set (ap (λ n. bytes_eq n (covering_name units f.function)) (sym g.named) ∙ ap (bytes_eq (number_name units places two.0)) (sym f.named) ∙ two.2))
     ]
 
--- an entry without a set, or with an empty one, or no function
+-- An entry without a set, an entry with an empty set, and an entry that is no function.
 covered_by : (place : EntryRef) (die : DieFields) (sets : List (List Range)) (left : List Covering) (o : Option (List Range)) → o ≡ slice_get sets place.entry → option_map_or (λ s. record { unit = place.unit; entry = place.entry; die = die; spans = s } ∷ []) o [] ++ left ≡ entry_covering place die sets ++ left
 covered_by place die sets left o there = ap (λ o. option_map_or (λ s. record { unit = place.unit; entry = place.entry; die = die; spans = s } ∷ []) o [] ++ left) there
 
@@ -195,7 +195,7 @@ no_length (r ∷ set) is = absurd (grind (arith, nat_tests, is))
 pub one_die : (dies : List DieFields) (k : ℕ) (x y : DieFields) → Some x ≡ slice_get dies k → Some y ≡ slice_get dies k → x ≡ y
 one_die dies k x y one other = same_Some x y (one ∙ sym other)
 
--- a function with its addresses
+-- A function, with its addresses.
 pub entry_found : (units : List UnitRead) (places new : List EntryRef) (before after : List Stretch) (place : EntryRef) (die : DieFields) (sets : List (List Range)) (set : List Range) (left : List Covering) → Some set ≡ slice_get sets place.entry
     → IsCollected units places before (place_key place) (entry_covering place die sets ++ left)
     → (IsCollected units places before (place_key place) (record { unit = place.unit; entry = place.entry; die = die; spans = set } ∷ left) → IsCollected units new after (place_key place + 1) left)
@@ -222,7 +222,7 @@ drop_get xs k x is = drop_index xs k x (slice_get_within xs k x (sym is)) (sym (
 past : {A : Type 0} (xs : List A) (k : ℕ) → None ≡ slice_get xs k → length xs ≤ k
 past xs k is = grind (arith, gets, is)
 
--- an entry of a unit was added
+-- An entry of a unit was added.
 no_sets : (unit entry : ℕ) (dies : List DieFields) → unit_covering unit entry dies [] ≡ []
 no_sets unit entry [] = refl
 no_sets unit entry (die ∷ dies) = refl
@@ -252,7 +252,7 @@ entry_added units old new before after low high unit entry dies sets rest inside
         more (later ++ rest) die one
         (subst (IsCollected units old before low) (ap (λ l. l ++ rest) (entry_left unit entry dies sets die one) ∙ append_assoc (entry_covering (record { unit = unit; entry = entry }) die sets) later rest) k)
 
--- a unit is next
+-- The next unit.
 pub unit_next : (units : List UnitRead) (places : List EntryRef) (stretches : List Stretch) (low unit : ℕ) (part : UnitRead) → unit < length units → part ≡ get_or units unit part
     → IsCollected units places stretches low (covering_from unit (drop unit units)) → IsCollected units places stretches low (unit_covering unit 0 part.die.dies part.spans ++ covering_from (unit + 1) (drop (unit + 1) units))
 unit_next units places stretches low unit part inside is k = subst (IsCollected units places stretches low) (ap (covering_from unit) (drop_index units unit part inside is)) k
@@ -260,7 +260,7 @@ unit_next units places stretches low unit part inside is k = subst (IsCollected 
 pub unit_there : (units : List UnitRead) (unit : ℕ) (part : UnitRead) → unit < length units → part ≡ get_or units unit part → slice_get units unit ≡ Some part
 unit_there units unit part inside is = slice_get_read units (length units) unit part refl inside is
 
--- the entries of a unit, and those of the units after it
+-- The entries of a unit, and those of the units after it.
 pub entries_left : (unit : ℕ) (units : List UnitRead) (part : UnitRead) → unit < length units → part ≡ get_or units unit part → length (places (drop unit units)) ≡ length part.die.dies + length (places (drop (unit + 1) units))
 entries_left unit units part inside is =
     ap (λ l. length (places l)) (drop_index units unit part inside is)

@@ -1,4 +1,4 @@
--- What a proof unfolds to compute the definitions of func_flatten where the input is written out.
+-- The definitions of func_flatten that a proof unfolds to compute a worked example.
 use Rattle.std.specs.Prelude.{⊤}
 use Rattle.sym_edges.proofs.Shown.{shown}
 use Rattle.step_maps.specs.Stepping.{held_from}

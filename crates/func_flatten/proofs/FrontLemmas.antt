@@ -1,4 +1,4 @@
--- What scopes put in front of names, and its keys.
+-- The prefixes that scopes give to names, and the keys of these prefixes.
 use Rattle.std.proofs.Common.{◌≡◌, ℕ, zero, suc, ◌^◌, ◌<◌, ◌≤◌, ◌==◌, Bool, true, false, cond, List, [], ◌∷◌, ◌++◌, codes, Option, None, Some, IfSome, refl, sym, ap, subst, ◌∙◌, arith, append-nil}
 use Rattle.std.proofs.lemmas.Bool.{cond-true, cond-false}
 use Rattle.std.proofs.lemmas.Bool.Decides.{nat_tests}
@@ -20,7 +20,7 @@ use Rattle.func_flatten.specs.internal.NameBlocks.{kept_upto, kept, kept_more, B
 use Rattle.func_flatten.specs.internal.ScopeFronts.{unit_dies, outer, outer_front, inner_front, place_of, AreFronts, IsHalfway}
 use Rattle.func_flatten.proofs.BlockLemmas.{kept_joined, key_grows}
 
--- ---- entries
+-- ---- Entries.
 
 die_by : (o : Option UnitRead) (entry : ℕ) → die_from entry o ≡ slice_get (dies_of o) entry
 die_by None entry = refl
@@ -29,7 +29,7 @@ die_by (Some part) entry = refl
 pub entry_is : (units : List UnitRead) (s : EntryRef) → die_in units s ≡ slice_get (unit_dies units s.unit) s.entry
 entry_is units s = die_by (slice_get units s.unit) s.entry
 
--- ---- the entries around one
+-- ---- The entries around an entry.
 
 around_none : (dies : List DieFields) (limit : ℕ) → around dies limit None ≡ []
 unfolding around
@@ -41,7 +41,7 @@ unfolding around
 around_past dies zero number past = refl
 around_past dies (suc limit) number past = grind (arith, nat_tests, around_past dies limit number, past)
 
--- where the entry of the parent's number is this
+-- The entries around an entry, given its parent.
 around_found : (dies : List DieFields) (limit number : ℕ) (o : Option DieFields) → number < limit → slice_get dies number ≡ o → around dies limit (Some number) ≡ option_map_or (λ d. number ∷ around dies number d.parent) o []
 unfolding around
 around_found dies zero number o below is = absurd (omega arith)
@@ -68,7 +68,7 @@ pub outer_step : (dies : List DieFields) (entry number : ℕ) (d above : DieFiel
 outer_step dies entry number d above is to below there =
     outer_is dies entry d is ∙ ap (around dies entry) (sym to) ∙ around_found dies entry number (Some above) below (sym there) ∙ ap (λ l. number ∷ l) (sym (outer_is dies number above there))
 
--- what follows one of the entries around another are those around that one
+-- The entries that come after one of the entries around another are those around that one.
 tail_found : (dies : List DieFields) (number : ℕ) (o : Option DieFields) (xs : List ℕ) (n : ℕ) (rest : List ℕ) → slice_get dies number ≡ o
     → ((d : DieFields) (ys : List ℕ) → o ≡ Some d → around dies number d.parent ≡ ys ++ n ∷ rest → rest ≡ outer dies n)
     → option_map_or (λ d. number ∷ around dies number d.parent) o [] ≡ xs ++ n ∷ rest → rest ≡ outer dies n
@@ -102,13 +102,13 @@ outer_tail dies entry xs n rest is = go (slice_get dies entry) xs is
     go None (y ∷ ys) so = absurd (cc)
     go (Some d) ys so = around_tail dies entry d.parent ys n rest so
 
--- ---- keys of fronts
+-- ---- The keys of prefixes.
 
--- what is kept of two pieces more
+-- What is kept after two more pieces.
 kept_twice : (text a b : List ℕ) → kept_more (kept_more (kept text) a) b ≡ kept (text ++ (a ++ b))
 kept_twice text a b = ap (λ l. kept_more l b) (sym (kept_joined text a)) ∙ sym (kept_joined (text ++ a) b) ∙ ap kept (append_assoc text a b)
 
--- the key after what a scope puts in front
+-- The key after the prefix of a scope was added.
 pub key_scope : (old mid new : BlockNumbers) (first second third : NameKey) (d : DieFields) (name : List ℕ) → is_scope d ≡ true → name ≡ scope_name d
     → ((text : List ℕ) → IsKey old first text → IsKey mid second (kept_more text name)) → ((text : List ℕ) → IsKey mid second text → IsKey new third (kept_more text (codes "::")))
     → (text : List ℕ) → IsKey old first (kept text) → IsKey new third (kept (text ++ scope_front d))
@@ -119,7 +119,7 @@ key_scope old mid new first second third d name is named add next text of =
     (kept_twice text name (codes "::") ∙ ap (λ n. kept (text ++ (n ++ codes "::"))) named ∙ ap (λ f. kept (text ++ f)) (sym front))
     (next (kept_more (kept text) name) (add (kept text) of))
 
--- the key after what another entry does
+-- An entry that is no scope does not change the key.
 pub key_bare : (numbers : BlockNumbers) (key : NameKey) (d : DieFields) → is_scope d ≡ false → (text : List ℕ) → IsKey numbers key (kept text) → IsKey numbers key (kept (text ++ scope_front d))
 unfolding scope_front
 key_bare numbers key d is text of =
@@ -134,7 +134,7 @@ key_none numbers key dies k is text of =
 pub front_some : (dies : List DieFields) (k : ℕ) (d : DieFields) → Some d ≡ slice_get dies k → front_at dies k ≡ scope_front d
 front_some dies k d is = ap (λ o. option_map_or scope_front o []) (sym is)
 
--- ---- the keys that are known
+-- ---- The keys that are known.
 
 pub fronts_none : (units : List UnitRead) (numbers : BlockNumbers) (known : BTreeMap ℕ NameKey) → known.entries ≡ [] → AreFronts units numbers known
 unfolding AreFronts
@@ -167,13 +167,13 @@ fronts_noted units numbers known noted unit entry place key are low at of update
         subst (λ k. IsKey numbers k (kept (inner_front units other more))) one
         (subst (λ u. IsKey numbers key (kept (inner_front units u more))) both.0 (subst (λ e. IsKey numbers key (kept (inner_front units unit e))) both.1 of)))
 
--- ---- the walk
+-- ---- The walk up to the outermost entry and down again.
 
 kept_none : kept [] ≡ []
 unfolding kept kept_upto skip
 kept_none = refl
 
--- no entry is around the last
+-- There is no entry around the last one.
 pub half_top : (dies : List DieFields) (numbers : BlockNumbers) (entry at : ℕ) (way : List ℕ) (key : NameKey) → way ++ outer dies at ≡ outer dies entry → outer dies at ≡ [] → IsKey numbers key [] → IsHalfway dies numbers entry way key
 half_top dies numbers entry at way key so_far none of = record {
   rest = [];
@@ -181,7 +181,7 @@ half_top dies numbers entry at way key so_far none of = record {
   key_is = subst (IsKey numbers key) (sym kept_none) of;
 }
 
--- the key of the next one is known
+-- The key of the next entry is known.
 pub half_known : (units : List UnitRead) (numbers : BlockNumbers) (unit entry at number : ℕ) (way : List ℕ) (key : NameKey) (found : Option NameKey) → way ++ outer (unit_dies units unit) at ≡ outer (unit_dies units unit) entry → outer (unit_dies units unit) at ≡ number ∷ outer (unit_dies units unit) number
     → found ≡ Some key → IfSome found (λ k. IsKey numbers k (kept (inner_front units unit number))) → IsHalfway (unit_dies units unit) numbers entry way key
 unfolding inner_front
@@ -191,7 +191,7 @@ half_known units numbers unit entry at number way key found so_far is some of = 
   key_is = subst (λ o. IfSome o (λ k. IsKey numbers k (kept (inner_front units unit number)))) some of;
 }
 
--- the key after what an entry puts in front
+-- The key after the prefix of an entry was added.
 pub key_inner : (units : List UnitRead) (numbers : BlockNumbers) (unit entry : ℕ) (key : NameKey) → IsKey numbers key (kept (outer_front units unit entry ++ front_at (unit_dies units unit) entry)) → IsKey numbers key (kept (inner_front units unit entry))
 unfolding outer_front inner_front
 key_inner units numbers unit entry key of = of
@@ -199,7 +199,7 @@ key_inner units numbers unit entry key of = of
 half_split : (dies : List DieFields) (numbers : BlockNumbers) (entry number : ℕ) (way last : List ℕ) (key : NameKey) → way ≡ last ++ number ∷ [] → (half : IsHalfway dies numbers entry way key) → last ++ number ∷ half.rest ≡ outer dies entry
 half_split dies numbers entry number way last key popped half = sym (append_assoc last (number ∷ []) half.rest) ∙ ap (λ l. l ++ half.rest) (sym popped) ∙ half.around
 
--- the key where an entry is entered
+-- The key before the prefix of an entry is added.
 pub half_outer : (units : List UnitRead) (numbers : BlockNumbers) (unit entry number : ℕ) (way last : List ℕ) (key : NameKey) → way ≡ last ++ number ∷ [] → IsHalfway (unit_dies units unit) numbers entry way key → IsKey numbers key (kept (outer_front units unit number))
 unfolding outer_front
 half_outer units numbers unit entry number way last key popped half =

@@ -1,4 +1,4 @@
--- The first stretch at an address is one of the first function there.
+-- The first stretch at an address is a stretch of the first function there.
 use Rattle.std.proofs.Common.{◌≡◌, ℕ, suc, ◌+◌, ◌-◌, ◌<◌, Bool, true, false, not, ◌&&◌, ◌||◌, nat_le, if◌then◌else◌, List, [], ◌∷◌, ◌++◌, Option, None, Some, arith, refl, sym, ap, ◌∙◌}
 use Rattle.std.proofs.lemmas.Bool.Decides.{nat_tests}
 use Rattle.std.proofs.lemmas.List.Folds.{find-append, list_any-append}
@@ -22,7 +22,7 @@ use Rattle.func_flatten.specs.internal.Standing.{any_name, StandFor}
 reaches_range : (r : Range) (a : ℕ) → r.start < r.end → (nat_le r.start a && nat_le a (r.end - 1)) ≡ holds r a
 reaches_range r a some = grind (arith, nat_tests)
 
--- what is said of the first stretch
+-- What is said of the first stretch.
 abbrev told : {V : Type 0} → (Stretch → V) → List Stretch → ℕ → Option V
 told say items a = option_map say (find (λ s. reaches s a) items)
 
@@ -37,19 +37,19 @@ span_told : {V : Type 0} (say : Stretch → V) (v : V) (index class : ℕ) (span
 span_told say v index class [] a says canonical = refl
 span_told say v index class (r ∷ spans) a says canonical = grind (arith, nat_tests, canonical.0, says r.start (r.end - 1), span_told say v index class spans a says canonical.2)
 
--- it is what is said of the first function's number
+-- This is what is said of the number of the first function.
 all_told : {V : Type 0} (say : Stretch → V) (v : ℕ → V) (class : ℕ → ℕ) → ((k first last : ℕ) → say (record { first = first; last = last; index = k; class = class k }) ≡ v k) → (k : ℕ) (functions : List Covering) (a : ℕ) → HaveSets functions
     → told say (function_stretches class k functions) a ≡ option_map (λ m. v m.number) (first_function a k functions)
 all_told say v class says k [] a all = refl
 all_told say v class says k (c ∷ functions) a all =
     grind (arith, nat_tests, told_joined say (span_stretches k (class k) c.spans) (function_stretches class (k + 1) functions) a, span_told say (v k) k (class k) c.spans a (says k) all.0, all_told say v class says (k + 1) functions a all.1)
 
--- the index of the first stretch is the number of the first function
+-- The index of the first stretch is the number of the first function.
 pub index_is : (class : ℕ → ℕ) (functions : List Covering) (a : ℕ) → HaveSets functions → index_at (function_stretches class 0 functions) a ≡ option_map (λ m. m.number) (first_function a 0 functions)
 unfolding index_at first_at
 index_is class functions a all = all_told (λ s. s.index) (λ k. k) class (λ k first last. refl) 0 functions a all
 
--- whether a function that has the address has a number that passes
+-- Whether a function at the address has a number that passes a test.
 abbrev any_number : (ℕ → Bool) → ℕ → ℕ → List Covering → Bool
 any_number passes k a [] = false
 any_number passes k a (c ∷ functions) = (has_address a c && passes k) || any_number passes (k + 1) a functions
@@ -66,12 +66,12 @@ any_functions class passes k [] a all = refl
 any_functions class passes k (c ∷ functions) a all =
     grind (arith, nat_tests, list_any-append (λ t. reaches t a && passes t.index) (span_stretches k (class k) c.spans) (function_stretches class (k + 1) functions), any_spans passes k (class k) c.spans a all.0, any_functions class passes (k + 1) functions a all.1)
 
--- whether a function that has the address has another name than one
+-- Whether a function at the address has another name than the given one.
 abbrev pub any_named : (Covering → List ℕ) → ℕ → List Covering → Option Numbered → Bool
 any_named name a functions None = false
 any_named name a functions (Some m) = any_name name (name m.function) a functions
 
--- an entry without addresses has none
+-- An entry without addresses owns no address.
 owned : (c : Covering) (a : ℕ) → (is_function c.die && holds_any c.spans a) ≡ (has_code c && holds_any c.spans a)
 owned c a = go c.spans
   where
@@ -79,7 +79,7 @@ owned c a = go c.spans
     go [] = grind (arith, nat_tests)
     go (r ∷ spans) = grind (arith, nat_tests)
 
--- the owner is the first function that has the address
+-- The owner is the first function that has the address.
 owner_by : (entries : List Covering) (a k : ℕ) → find (owns a) entries ≡ option_map (λ m. m.function) (first_function a k (functions_in entries))
 owner_by [] a k = refl
 owner_by (c ∷ entries) a k = grind (arith, nat_tests, owned c a, owner_by entries a k, owner_by entries a (k + 1))
@@ -88,7 +88,7 @@ found_first : (functions : List Covering) (a k : ℕ) → find (has_address a) f
 found_first [] a k = refl
 found_first (c ∷ functions) a k = grind (arith, nat_tests, found_first functions a (k + 1))
 
--- also by functions that stand for all
+-- The owner is also the first among functions that represent all functions.
 pub owner_is : (units : List UnitRead) (functions : List Covering) (a : ℕ) → StandFor (covering_name units) (all_functions units) functions → owner units a ≡ option_map (λ m. m.function) (first_function a 0 functions)
 unfolding owner
 owner_is units functions a s = owner_by (covering_from 0 units) a 0 ∙ sym (found_first (all_functions units) a 0) ∙ sym (s.first a) ∙ found_first functions a 0
@@ -105,7 +105,7 @@ pub many_is : (units : List UnitRead) (functions : List Covering) (a : ℕ) → 
 unfolding is_many
 many_is units functions a s = ap (has_other units a) (owner_is units functions a s) ∙ named_by units functions a (first_function a 0 functions) s
 
--- the number of the first function is its place in the list
+-- The number of the first function is its index in the list.
 first_get : (a k : ℕ) (functions : List Covering) (m : Numbered) → first_function a k functions ≡ Some m → (i : ℕ) × (m.number ≡ k + i) × (slice_get functions i ≡ Some m.function)
 first_get a k [] m is = absurd (cc)
 first_get a k (c ∷ functions) m is = go (has_address a c) is (λ found. first_get a (k + 1) functions m found)
@@ -125,7 +125,7 @@ same_any passes name text k a [] same = refl
 same_any passes name text k a (c ∷ functions) same =
     grind (arith, nat_tests, same 0 c refl, same_any passes name text (k + 1) a functions (λ j d at. (let next : (k + 1) + j ≡ k + suc j = omega arith in ap passes next ∙ same (suc j) d at)))
 
--- a stretch of another name is there just where a function of another name is
+-- An address has a stretch of another name exactly if it has a function with another name.
 pub other_name_is : (number_name : ℕ → List ℕ) (name : Covering → List ℕ) (functions : List Covering) (a : ℕ) → HaveSets functions → ((j : ℕ) (d : Covering) → slice_get functions j ≡ Some d → number_name j ≡ name d) → has_other_name number_name (function_stretches own_class 0 functions) a ≡ any_named name a functions (first_function a 0 functions)
 unfolding has_other_name first_at
 other_name_is number_name name functions a all names = go (find (λ s. reaches s a) (function_stretches own_class 0 functions)) (first_function a 0 functions) refl (all_told (λ s. s.index) (λ k. k) own_class (λ k first last. refl) 0 functions a all)

@@ -1,11 +1,11 @@
--- Runs of a function that is constant between stops.
+-- The runs of a function that is constant between stops.
 use Rattle.std.proofs.Common.{◌≡◌, ◌≢◌, ℕ, ◌<◌, ◌≤◌, Bool, true, false, ◌&&◌, nat_le, nat_lt, if◌then◌else◌, List, [], ◌∷◌, Option, None, Some, arith, refl}
 use Rattle.std.proofs.lemmas.Bool.Decides.{nat_tests}
 use Rattle.std.specs.Option.{option_or}
 use Rattle.step_maps.specs.Runs.{Run, has, value_in, AreRuns, Follows, between}
 use Rattle.func_flatten.specs.internal.Growing.{added, added_after, EndBy, Grown}
 
--- a test of equality
+-- A test of equality.
 pub record Compares {V : Type 0} (same : V → V → Bool) : Type 0 where
   pub yes : (u v : V) → same u v ≡ true → u ≡ v
   pub no : (u v : V) → same u v ≡ false → u ≢ v
@@ -34,14 +34,14 @@ or_none : {V : Type 0} (p : Option V) → option_or p None ≡ p
 or_none None = refl
 or_none (Some p) = refl
 
--- from one stop to the next
+-- The function from one stop to the next.
 longer : {V : Type 0} (low from to : ℕ) (f : ℕ → Option V) (a : ℕ) → low ≤ from → from < to → ((b : ℕ) → from ≤ b → b < to → f b ≡ f from) → option_or (between low from f a) (if nat_le from a && nat_lt a to then f from else None) ≡ between low to f a
 longer low from to f a order some constant = grind (arith, nat_tests, order, some, constant a, or_none (between low from f a))
 
 pub grown_none : {V : Type 0} (low : ℕ) (f : ℕ → Option V) → Grown low low f []
 grown_none low f = record { runs = record { apart = tt; values = λ a. grind (arith, nat_tests) }; by = tt }
 
--- the runs up to the next stop, where there is a value, and where there is none
+-- The runs up to the next stop, if there is a value and if there is none.
 pub grown_some : {V : Type 0} (same : V → V → Bool) → Compares same → (low from to : ℕ) (f : ℕ → Option V) (v : V) (runs : List (Run V)) → Grown low from f runs → low ≤ from → from < to → ((b : ℕ) → from ≤ b → b < to → f b ≡ f from) → f from ≡ Some v → Grown low to f (added same runs (record { start = from; end = to; value = v }))
 grown_some same test low from to f v [] g order some constant is = record {
   runs = record {

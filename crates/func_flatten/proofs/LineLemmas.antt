@@ -35,18 +35,18 @@ with_mapped : (xs : List LineRun) (r : LineRun) → map number_run (with_run xs 
 with_mapped [] r = refl
 with_mapped (x ∷ xs) r = added_mapped x xs r
 
--- where a function is constant, one part more
+-- One part more, on which the function is constant.
 grown_part : (low from to : ℕ) (f : ℕ → Option (ℕ × ℕ)) (o : Option (ℕ × ℕ)) (runs : List LineRun) → f from ≡ o → Grown low from f (map number_run runs) → low ≤ from → from < to → ((b : ℕ) → from ≤ b → b < to → f b ≡ f from) → Grown low to f (map number_run (with_part o from to runs))
 grown_part low from to f None runs is g order some constant = grown_empty low from to f (map number_run runs) g order some constant is
 grown_part low from to f (Some m) runs is g order some constant =
     rw with_mapped (grown_some same_mark marks_compare low from to f m (map number_run runs) g order some constant is)
 
--- up to the next stop, and from it on
+-- There is no stop before the next one.
 pub none_between : (low : ℕ) (stops : List ℕ) (a b : ℕ) → RisesFrom low stops → b < low → NoStopBetween a b stops
 none_between low [] a b rises below = tt
 none_between low (s ∷ stops) a b rises below = (inr (omega (arith, rises.0)), none_between (s + 1) stops a b rises.1 (omega (arith, rises.0)))
 
--- the line is the same up to the next stop
+-- The line is the same up to the next stop.
 steady : (f : ℕ → Option (ℕ × ℕ)) (count start end at : ℕ) (now : Option (ℕ × ℕ)) (rest : List ℕ) (runs : List LineRun) → Walks f count start end at now rest runs → (low : ℕ) → RisesFrom low rest → (b : ℕ) → at ≤ b → b < low → f b ≡ f at
 steady f count start end at now rest runs w low rises b high below = sym (w.same at b (omega arith) high (none_between low rest at b rises below))
 
@@ -77,7 +77,7 @@ walks_on f count start end at stop now next stops rest runs part walks more is k
       known_now = known;
     }
 
--- up to the end, where the next stop is not below it
+-- The last part, if the next stop is not below the end.
 pub walks_end : (f : ℕ → Option (ℕ × ℕ)) (count start end at stop : ℕ) (now : Option (ℕ × ℕ)) (stops rest : List ℕ) (runs : List LineRun) → stops ≡ stop ∷ rest → Walks f count start end at now stops runs → end ≤ stop → IsRuns (between start end f) (map number_run (with_part now at end runs))
 walks_end f count start end at stop now stops rest runs part walks last =
     let P : List ℕ → Type 0 = λ l. Walks f count start end at now l runs in
@@ -90,7 +90,7 @@ walks_out f count start end at now rest runs walks none =
     let w = subst P none walks in
     (grown_part start at end f now runs (sym w.is_now) w.grown w.order w.inside (λ b high low. steady f count start end at now [] runs w end tt b high low)).runs
 
--- the stops at or below an address part nothing above it
+-- Stops at or below an address are not above it.
 undropped : (stops : List ℕ) (n start a b : ℕ) → ((k d : ℕ) → k < n → slice_index_or stops k d ≤ start) → start ≤ a → n ≤ length stops → NoStopBetween a b (drop n stops) → NoStopBetween a b stops
 undropped stops zero start a b low above few none = none
 undropped [] (suc n) start a b low above few none = tt
@@ -123,7 +123,7 @@ walks_start table stops count n start end now same some rising few point is know
 pub drop_next : (xs : List ℕ) (n d : ℕ) → n < length xs → drop n xs ≡ slice_index_or xs n d ∷ drop (n + 1) xs
 drop_next xs n d inside = drop_more xs n d inside
 
--- the last run made longer, where another goes on with it
+-- The last run is made longer if the next one continues it.
 pub with_longer : (runs : List LineRun) (n : ℕ) (x r : LineRun) → n + 1 ≡ length runs → x ≡ slice_index_or runs n x → continues x r ≡ true → slice_set runs n (record { start = x.start; end = r.end; path = x.path; line = x.line }) ≡ with_run runs r
 with_longer [] n x r few last on = absurd (omega arith)
 with_longer (y ∷ []) zero x r few last on = grind (arith, nat_tests, last, on)
@@ -131,7 +131,7 @@ with_longer (y ∷ []) (suc n) x r few last on = absurd (omega arith)
 with_longer (y ∷ z ∷ runs) zero x r few last on = absurd (omega arith)
 with_longer (y ∷ z ∷ runs) (suc n) x r few last on = ap (λ l. y ∷ l) (with_longer (z ∷ runs) n x r (omega arith) last on)
 
--- another run after the last, where it does not go on with it
+-- A run is added after the last one if it does not continue it.
 pub with_more : (runs : List LineRun) (n : ℕ) (x r : LineRun) → n + 1 ≡ length runs → x ≡ slice_index_or runs n x → continues x r ≡ false → runs ++ r ∷ [] ≡ with_run runs r
 with_more [] n x r few last off = absurd (omega arith)
 with_more (y ∷ []) zero x r few last off = grind (arith, nat_tests, last, off)
@@ -143,7 +143,7 @@ pub known_by : (count : ℕ) (o : Option (ℕ × ℕ)) → IfSome o (λ line. li
 known_by count None known = tt
 known_by count (Some m) known = known
 
--- a run of a number's path
+-- The number of each run's path is known.
 known_values : (count : ℕ) (runs : List LineRun) → AreKnown count runs → AllValues (λ (m : ℕ × ℕ). m.0 < count) (map number_run runs)
 known_values count [] known = tt
 known_values count (r ∷ runs) known = (known.0, known_values count runs known.1)
@@ -157,7 +157,7 @@ get_some [] k inside = absurd (omega arith)
 get_some (p ∷ paths) zero inside = refl
 get_some (p ∷ paths) (suc k) inside = get_some paths k (omega arith)
 
--- two numbers have two paths, so runs by number are runs by path
+-- Different numbers have different paths, so runs by number are runs by path.
 paths_differ : (paths : List (List ℕ)) → AreDistinct paths → (u v : ℕ × ℕ) → u.0 < length paths → v.0 < length paths → path_line paths u ≡ path_line paths v → u ≡ v
 paths_differ paths apart u v p q same =
     let path : unwrap_or (slice_get paths u.0) [] ≡ unwrap_or (slice_get paths v.0) [] = ap (λ m. m.0) same in
@@ -182,7 +182,7 @@ named_between : (paths : List (List ℕ)) (b : Bool) (o : Option (ℕ × ℕ)) �
 named_between paths true o = refl
 named_between paths false o = refl
 
--- so the runs are those of paths and lines
+-- The runs, with paths instead of numbers.
 runs_named : (paths : List (List ℕ)) (f : ℕ → Option (ℕ × ℕ)) (start end : ℕ) (runs : List LineRun) → IsRuns (between start end f) (map number_run runs) → AreKnown (length paths) runs → (0 < length runs → AreDistinct paths) → IsRuns (between start end (λ a. named_line paths (f a))) (map (path_run paths) runs)
 runs_named paths f start end runs is known apart =
     rw runs_by_path (record {
@@ -215,7 +215,7 @@ no_line : (o : Option UnitRead) (a : ℕ) → None ≡ o → line_in a o ≡ Non
 no_line None a is = refl
 no_line (Some part) a is = absurd (cc)
 
--- the unit is not there
+-- The unit does not exist.
 pub lines_none : (units : List UnitRead) (piece : Piece) → None ≡ slice_get units piece.unit → AreLineRuns units piece []
 unfolding unit_number_line unit_line
 lines_none units piece is = record {
@@ -223,7 +223,7 @@ lines_none units piece is = record {
   paths = no_value piece.start piece.end (λ a. line_in a (slice_get units piece.unit)) (λ a low high. no_line (slice_get units piece.unit) a is);
 }
 
--- the piece has no address
+-- The piece has no address.
 pub lines_empty : (units : List UnitRead) (piece : Piece) → piece.end ≤ piece.start → AreLineRuns units piece []
 lines_empty units piece none = record {
   numbers = no_value piece.start piece.end (unit_number_line units piece.unit) (λ a low high. absurd (omega arith));
@@ -233,6 +233,6 @@ lines_empty units piece none = record {
 pub rising_same : (stops held : List ℕ) → stops ≡ held → RisesFrom 0 held → RisesFrom 0 stops
 rising_same stops held same rising = (let P : List ℕ → Type 0 = λ l. RisesFrom 0 l in subst P (sym same) rising)
 
--- the line at a stop of a list that is the table's
+-- The line at a stop of the table.
 pub line_at_stop : (table : LineMap) (stops : List ℕ) (k : ℕ) (now : Option (ℕ × ℕ)) → stops ≡ table.lines.stops → now ≡ numbered_line table (slice_index_or table.lines.stops k 0) → now ≡ numbered_line table (slice_index_or stops k 0)
 line_at_stop table stops k now same is = is ∙ sym (ap (λ l. numbered_line table (slice_index_or l k 0)) same)

@@ -1,4 +1,4 @@
--- Names that were met, and classes by them.
+-- The names of functions, as they are compared, and the classes that they give.
 use Rattle.std.proofs.Common.{◌≡◌, ◌≢◌, ℕ, zero, suc, ◌+◌, ◌-◌, ◌<◌, ◌==◌, Bool, true, false, cond, if◌then◌else◌, map, length, take, get_or, List, [], ◌∷◌, ◌++◌, codes, Option, None, Some, Result, Ok, Err, IfOk, arith, refl, sym, ap, subst, ◌∙◌, unwrap_or, option_and_then}
 use Rattle.std.proofs.lemmas.Bool.Decides.{nat_tests}
 use Rattle.std.proofs.lemmas.List.{take_more, nil_from_length}
@@ -38,7 +38,7 @@ fronts_nowhere : (numbers : List ℕ) → fronts [] numbers ≡ []
 fronts_nowhere [] = refl
 fronts_nowhere (n ∷ numbers) = ap (λ l. l ++ front_at [] n) (fronts_nowhere numbers)
 
--- what scopes put in front
+-- The prefix that scopes give to a name.
 pub scopes_are : (units : List UnitRead) (name : NameRef) → scopes_of units name ≡ outer_front units name.unit name.entry
 unfolding outer outer_front front_of entry_of
 scopes_are units name = go (slice_get units name.unit) refl
@@ -56,12 +56,12 @@ scopes_are units name = go (slice_get units name.unit) refl
         nowhere (Some die) = sym (fronts_nowhere (around [] name.entry die.parent))
     go (Some part) at = by part at (slice_get part.die.dies name.entry)
 
--- bytes behind what is put in front
+-- A name after the prefix of its scopes.
 pub joined_kept : (units : List UnitRead) (name : NameRef) (joined : Bool) (bytes whole : List ℕ) → whole ≡ joined_bytes units name joined bytes → kept_more (kept (if joined then outer_front units name.unit name.entry else [])) bytes ≡ kept whole
 joined_kept units name true bytes whole is = sym (kept_joined (outer_front units name.unit name.entry) bytes) ∙ ap (λ front. kept (front ++ bytes)) (sym (scopes_are units name)) ∙ ap kept (sym is)
 joined_kept units name false bytes whole is = sym (kept_joined [] bytes) ∙ ap kept (sym is)
 
--- what is kept of a clean name is all of it
+-- `<name omitted>` is kept as it is.
 pub omitted_is : kept (codes "<name omitted>") ≡ codes "<name omitted>"
 unfolding kept kept_upto skip
 omitted_is = refl
@@ -76,7 +76,7 @@ kept_clean bytes clean = go (kept bytes) refl
         absurd (cc))
     go (b ∷ l) is = ap or_omitted (sym is) ∙ sym (cleaned_kept bytes) ∙ clean
 
--- the empty key
+-- Nothing is kept of the empty text.
 empty_kept : [] ≡ kept []
 unfolding kept kept_upto skip
 empty_kept = refl
@@ -85,7 +85,7 @@ pub ok_key : {E : Type 0} (numbers : BlockNumbers) (result : Result NameKey E) �
 ok_key numbers (Ok key) is = subst (IsKey numbers key) empty_kept (is numbers)
 ok_key numbers (Err e) is = tt
 
--- the key of a name as a record carries it
+-- The key of a cleaned name.
 pub key_clean : (numbers : BlockNumbers) (key : NameKey) (bytes : List ℕ) → length (kept bytes) ≢ 0 → IsKey numbers key (kept bytes) → IsKey numbers key (cleaned bytes)
 key_clean numbers key bytes some is = subst (IsKey numbers key) (go (kept bytes) some ∙ sym (cleaned_kept bytes)) is
   where
@@ -111,7 +111,7 @@ some_length b n other is none = grind (arith, nat_tests, other, is, none)
 pub key_omitted : (numbers : BlockNumbers) (key : NameKey) (bytes : List ℕ) → length (kept bytes) ≡ 0 → IsKey numbers key (kept_more (kept bytes) (codes "<name omitted>")) → IsKey numbers key (cleaned bytes)
 key_omitted numbers key bytes none is = subst (IsKey numbers key) (ap (λ text. kept_more text (codes "<name omitted>")) (nothing (kept bytes) none) ∙ sym (kept_joined [] (codes "<name omitted>")) ∙ omitted_is ∙ left_out (kept bytes) none ∙ sym (cleaned_kept bytes)) is
 
--- names that were met
+-- Names that are stored stay stored when blocks are added.
 pub met_grows : (old new : BlockNumbers) (met : NameMet) (text : List ℕ) → Grows old new → IsMet old met text → IsMet new met text
 met_grows old new (Whole bytes) text grows is = is
 met_grows old new (Made key) text grows is = key_grows old new key text grows is
@@ -158,7 +158,7 @@ met_there numbers name (t ∷ items) (m ∷ names) zero s met all at is =
     (let one : t ≡ s = cc in let other : m ≡ met = cc in subst (λ (u : Stretch). IsMet numbers met (name u.index)) one (subst (λ (n : NameMet). IsMet numbers n (name t.index)) other all.0))
 met_there numbers name (t ∷ items) (m ∷ names) (suc k) s met all at is = met_there numbers name items names k s met all.1 at is
 
--- the name of the last stretch
+-- The name of the last stretch.
 pub met_ends : (numbers : BlockNumbers) (name : ℕ → List ℕ) (items : List Stretch) (names : List NameMet) (s : Stretch) (met : NameMet) (number : ℕ) → Some s ≡ slice_get items (length items - 1) → Some met ≡ slice_get names (length names - 1) → s.index ≡ number → AreMet numbers name items names → IsMet numbers met (name number)
 met_ends numbers name items names s met number at is same all =
     subst (λ (n : ℕ). IsMet numbers met (name n)) same
@@ -171,7 +171,7 @@ pub none_of : (o : Option ℕ) → false ≡ is_some o → None ≡ o
 none_of None is = refl
 none_of (Some n) is = absurd (cc)
 
--- the numbers of names that were made
+-- The numbers of names that were made.
 some_more : (old new : BlockNumbers) (key : List ℕ) (number : ℕ) (other : List ℕ) → HasMore old new key number → is_some (number_at old other) ≡ true → is_some (number_at new other) ≡ true
 some_more old new key number other has some = grind (arith, nat_tests, has.more other, some)
 
@@ -219,7 +219,7 @@ clean_at [] i met inside at all = absurd (omega arith)
 clean_at (m ∷ names) zero met inside at all = subst IsClean (sym at) all.0
 clean_at (m ∷ names) (suc i) met inside at all = clean_at names i met (omega arith) at all.1
 
--- no name was made
+-- No name was made.
 none_at : (made : BlockNumbers) (key : List ℕ) → made.entries ≡ [] → number_at made key ≡ None
 unfolding number_at
 none_at made key none = ap (λ l. lookup (λ k. is_eq (slice_cmp nat_cmp key k.items)) l) none
@@ -231,7 +231,7 @@ none_made numbers names text none = go (text_key numbers text)
     go None = refl
     go (Some key) = sym (none_at names.made key (nil_from_length names.made.entries none))
 
--- names that stand in the file
+-- Names that are in the file.
 whole_new : (old new : Names) (name : List ℕ) (number : ℕ) → tree.UpdatesBy (λ x y. slice_cmp nat_cmp x.now y.now) (λ k. slice_cmp nat_cmp name k.now) old.whole new.whole (Some number) → (text : List ℕ) → whole_number new text ≡ cond (bytes_eq name text) (Some number) (whole_number old text)
 whole_new old new name number updates text = btree_map_updates_str name old.whole new.whole (Some number) updates text
 
@@ -239,7 +239,7 @@ pub none_class : {A : Type 0} (o found : Option A) → ((x : A) → o ≢ Some x
 none_class None found none is = is
 none_class (Some x) found none is = absurd (none x refl)
 
--- one more name that stands in the file
+-- One more name that is in the file.
 pub record AddsWhole (numbers : BlockNumbers) (old new : Names) (name : List ℕ) (number : ℕ) : Type 0 where
   pub class : name_number numbers new name ≡ Some number
   pub stays : Stays (name_number numbers old) (name_number numbers new)
@@ -255,7 +255,7 @@ adds_whole numbers old new name number none unmade same updates = record {
   numbers_are = λ of here all text n is. grind (arith, nat_tests, whole_new old new name number updates text, same, here, (bytes_eq-Decides name text).0, all text n, is);
 }
 
--- stretches that have classes
+-- Stretches that have classes.
 class_grows : (old new : List ℕ → Option ℕ) (name : ℕ → List ℕ) (items named : List Stretch) → Stays old new → AreClassed old name items named → AreClassed new name items named
 class_grows old new name [] [] stays all = tt
 class_grows old new name [] (t ∷ named) stays all = absurd all
@@ -297,7 +297,7 @@ class_ends number name items named k class is all = go (slice_get named (length 
 pub stays_same : (number : List ℕ → Option ℕ) → Stays number number
 stays_same number text n is = is
 
--- the classes of stretches
+-- The classes of functions.
 abbrev pub class_of : (List ℕ → Option ℕ) → (ℕ → List ℕ) → ℕ → ℕ
 class_of number name k = unwrap_or (number (name k)) 0
 
@@ -324,7 +324,7 @@ classes_by name items named found = (
   classes_are found.0 name items named found.2,
 )
 
--- before the first name
+-- Before the first name.
 pub none_known : (numbers : BlockNumbers) (names : Names) (name : ℕ → List ℕ) → names.made.entries ≡ [] → AreNumbersOf name (key_number numbers names)
 none_known numbers names name none text n found = absurd (let wrong : None ≡ Some n = none_made numbers names text (ap length none) ∙ found in cc)
 

@@ -1,4 +1,4 @@
--- Covers of the stretches of all functions are the pieces.
+-- The covers of the stretches of all functions are the pieces.
 use Rattle.std.proofs.Common.{◌≡◌, ℕ, zero, suc, ◌+◌, ◌<◌, ◌≤◌, map, length, List, [], ◌∷◌, Option, None, Some, arith, refl, sym, ap, ◌∙◌, append-nil, subst}
 use Rattle.std.proofs.lemmas.Bool.Decides.{nat_tests}
 use Rattle.std.proofs.lemmas.Option.{slice_get_within}
@@ -28,7 +28,7 @@ key_from low high [] j rise within = absurd (omega arith)
 key_from low high (c ∷ functions) zero rise within = rise.0
 key_from low high (c ∷ functions) (suc j) rise within = omega (arith, rise.0, key_from (place_key (place_of c) + 1) high functions j rise.1 (omega arith))
 
--- so no two functions have one place
+-- No two functions are the same entry.
 one_place : (low high : ℕ) (functions : List Covering) → Rise low high functions → (i j : ℕ) → i < length (map place_of functions) → j < length (map place_of functions) → place_at (map place_of functions) i ≡ place_at (map place_of functions) j → i ≡ j
 one_place low high [] rise i j p q same = absurd (omega arith)
 one_place low high (c ∷ functions) rise zero zero p q same = refl
@@ -47,7 +47,7 @@ none_by : (o : Option ℕ) (a : ℕ) → 18446744073709551616 ≤ a → ((k : �
 none_by None a high fit = refl
 none_by (Some k) a high fit = absurd (omega (arith, fit k refl))
 
--- no stretch has an address above those of 64 bits
+-- No stretch has an address of 2^64 or more.
 inside_all : (items : List Stretch) (a : ℕ) → AreFit items → between 0 18446744073709551616 (index_at items) a ≡ index_at items a
 inside_all items a fit =
     let none : 18446744073709551616 ≤ a → index_at items a ≡ None = λ high. none_by (index_at items a) a high (λ k is. found_fit items a k fit is) in
@@ -61,11 +61,11 @@ number_by : (functions : List Covering) (o : Option Numbered) (k : ℕ) → opti
 number_by functions None k is at = absurd (cc)
 number_by functions (Some m) k is at = (let same : m.number ≡ k = cc in let less = slice_get_within functions m.number m.function (at m refl) in omega arith)
 
--- each index is the number of a function
+-- Each index is the number of a function.
 pub index_below : (functions : List Covering) (a k : ℕ) → HaveSets functions → index_at (function_stretches own_class 0 functions) a ≡ Some k → k < length functions
 index_below functions a k all is = number_by functions (first_function a 0 functions) k (sym (index_is own_class functions a all) ∙ is) (λ m at. first_at_number a functions m at)
 
--- the owner by the place of a function's number
+-- The owner, by the number of its function.
 owner_at : (units : List UnitRead) (functions : List Covering) (a : ℕ) → HaveSets functions → StandFor (covering_name units) (all_functions units) functions → option_map (place_at (map place_of functions)) (index_at (function_stretches own_class 0 functions) a) ≡ owner_place units a
 unfolding owner_place
 owner_at units functions a all s =
@@ -73,7 +73,7 @@ owner_at units functions a all s =
     ∙ placed_by functions (first_function a 0 functions) (λ m at. first_at_number a functions m at)
     ∙ ap (option_map place_of) (sym (owner_is units functions a s))
 
--- the runs of pieces are those of the covers, with places for numbers
+-- The runs of the pieces are those of the covers, with entries instead of numbers.
 runs_of_pieces : (places : List EntryRef) (covers : List Cover) → map piece_run (map (piece_of places) covers) ≡ map (map_run (place_at places)) (map cover_run covers)
 runs_of_pieces places [] = refl
 runs_of_pieces places (c ∷ covers) = ap (λ l. map_run (place_at places) (cover_run c) ∷ l) (runs_of_pieces places covers)
@@ -98,11 +98,11 @@ pieces_whole units functions low covers all s rise fit is =
       marks = marks_of_pieces units (map place_of functions) covers is.marks;
     }
 
--- what was passed are all functions, where nothing is left
+-- If no entry is left, the functions that were passed are all functions.
 pub stand_all : (units : List UnitRead) (places : List EntryRef) (stretches : List Stretch) (low : ℕ) (c : IsCollected units places stretches low []) → StandFor (covering_name units) (all_functions units) c.functions
 stand_all units places stretches low c = subst (λ (l : List Covering). StandFor (covering_name units) l c.functions) (sym (append-nil c.passed) ∙ c.whole) c.stand
 
--- covers of the collected stretches make the pieces
+-- The covers of the collected stretches give the pieces.
 pub pieces_are : (units : List UnitRead) (places : List EntryRef) (stretches : List Stretch) (covers : List Cover) (pieces : List Piece) → (low : ℕ) × IsCollected units places stretches low [] → AreFit stretches → AreNamedCovers units stretches covers → pieces ≡ map (piece_of places) covers → ArePieces units pieces
 pieces_are units places stretches covers pieces found fit is same =
     let c = found.1 in
@@ -118,7 +118,7 @@ cut_all count items (c ∷ covers) fit below all =
     (let order : c.first < c.last + 1 = all.0.some in
     (below.0, found_fit items c.last c.index fit (sym (inside_all items c.last fit) ∙ all.0.constant c.last (omega arith) (omega arith)), cut_all count items covers fit below.1 all.1))
 
--- so each cover has a place and an end
+-- Each cover has a function, and an end below 2^64.
 pub covers_cut : (units : List UnitRead) (places : List EntryRef) (stretches : List Stretch) (covers : List Cover) → (low : ℕ) × IsCollected units places stretches low [] → AreFit stretches → AreNamedCovers units stretches covers → AreCut (length places) covers
 covers_cut units places stretches covers found fit is =
     let c = found.1 in

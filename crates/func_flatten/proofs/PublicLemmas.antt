@@ -16,12 +16,12 @@ use Rattle.func_flatten.specs.Publics.{with_number, ascending, has, IsRising, st
 use Rattle.func_flatten.specs.declared.piece.Piece.{Piece}
 use Rattle.func_flatten.specs.internal.Grouping.{IsOrdered, starts_elsewhere, group_public, AgreeAt}
 
--- a number at or below the bound of a list is not in it
+-- A number at or below the lower bound of a list is not in the list.
 above_has : (a b : ℕ) (xs : List ℕ) → list_all (λ x. nat_lt a x) xs ≡ true → b ≤ a → has b xs ≡ false
 above_has a b [] all le = refl
 above_has a b (x ∷ xs) all le = grind (arith, nat_tests, above_has a b xs, all, le)
 
--- rising lists with the same members are one list
+-- Strictly ascending lists with the same members are equal.
 pub unique : (xs ys : List ℕ) → IsRising xs → IsRising ys → ((a : ℕ) → has a xs ≡ has a ys) → xs ≡ ys
 unique [] [] up down same = refl
 unique [] (y ∷ ys) up down same = absurd (grind (arith, nat_tests, same y))
@@ -31,28 +31,28 @@ unique (x ∷ xs) (y ∷ ys) up down same =
     let rest = unique xs ys up.1 down.1 (λ a. grind (arith, nat_tests, first, above_has x a xs up.0, above_has y a ys down.0, same a)) in
     cc
 
--- two tests that agree choose alike
+-- Two tests that agree choose the same members.
 filter_same : {X : Type 0} (p q : X → Bool) (xs : List X) → ((x : X) → p x ≡ q x) → filter p xs ≡ filter q xs
 filter_same p q [] same = refl
 filter_same p q (x ∷ xs) same = grind (arith, nat_tests, same x, filter_same p q xs same)
 
--- a test of what is seen of the elements
+-- A test of the values that a function gives for the members.
 filter_seen : {X Y : Type 0} (f : X → Y) (p : Y → Bool) (xs : List X) → filter p (map f xs) ≡ map f (filter (λ x. p (f x)) xs)
 filter_seen f p [] = refl
 filter_seen f p (x ∷ xs) = grind (arith, nat_tests, filter_seen f p xs)
 
--- neither number is below the other exactly where they are one
+-- Neither of two numbers is below the other exactly if they are equal.
 tied : (a b : ℕ) → (not (is_lt (nat_cmp a b)) && not (is_lt (nat_cmp b a))) ≡ (b == a)
 tied a b = grind (arith, nat_tests)
 
--- a stable sort by address keeps the symbols of each address
+-- A stable sort by address keeps the order of the symbols with one address.
 pub groups_kept : (xs ys : List Symbol) (x : Symbol) → filter (ties (λ p q. is_lt (nat_cmp p.address q.address)) x) ys ≡ filter (ties (λ p q. is_lt (nat_cmp p.address q.address)) x) xs → filter (stands_at x.address) (map symbol_view ys) ≡ filter (stands_at x.address) (map symbol_view xs)
 groups_kept xs ys x stable =
     let seen = λ (zs : List Symbol). filter_seen symbol_view (stands_at x.address) zs
     ∙ ap (map symbol_view) (sym (filter_same (ties (λ (p q : Symbol). is_lt (nat_cmp p.address q.address)) x) (λ (s : Symbol). s.address == x.address) zs (λ s. tied x.address s.address))) in
     seen ys ∙ ap (map symbol_view) stable ∙ sym (seen xs)
 
--- a sorted list is ordered
+-- A sorted list is in order.
 all_from : (a : ℕ) (xs : List Symbol) → ((j : ℕ) (d : Symbol) → j < length xs → a ≤ (get_or xs j d).address) → list_all (λ t. nat_le a t.address) (map symbol_view xs) ≡ true
 all_from a [] all = refl
 all_from a (x ∷ xs) all = grind (arith, nat_tests, all 0 x (omega arith), all_from a xs (λ j d inside. all (suc j) d (omega arith)))
@@ -72,7 +72,7 @@ and_second : (t u : Bool) → (t && u) ≡ true → u ≡ true
 and_second true u is = is
 and_second false u is = cc
 
--- a number put into its place joins the members
+-- Inserting a number adds it to the members.
 has_with : (a b : ℕ) (xs : List ℕ) → has b (with_number a xs) ≡ ((a == b) || has b xs)
 unfolding with_number
 has_with a b [] = refl
@@ -83,7 +83,7 @@ unfolding ascending
 has_ascending b [] = refl
 has_ascending b (x ∷ xs) = has_with x b (ascending xs) ∙ ap (λ t. (x == b) || t) (has_ascending b xs)
 
--- it keeps a bound that it meets
+-- Inserting a number above a lower bound keeps the bound.
 bound_with : (low a : ℕ) (xs : List ℕ) → nat_lt low a ≡ true → list_all (λ y. nat_lt low y) xs ≡ true → list_all (λ y. nat_lt low y) (with_number a xs) ≡ true
 unfolding with_number
 bound_with low a [] here all = grind (arith, nat_tests, here)
@@ -94,7 +94,7 @@ unfolding ascending
 bound_ascending low [] all = refl
 bound_ascending low (x ∷ xs) all = grind (arith, nat_tests, all, bound_with low x (ascending xs), bound_ascending low xs)
 
--- a lower bound of numbers above a bound
+-- A smaller number is also a lower bound.
 bound_lower : (low high : ℕ) (xs : List ℕ) → low < high → list_all (λ y. nat_lt high y) xs ≡ true → list_all (λ y. nat_lt low y) xs ≡ true
 bound_lower low high [] less all = refl
 bound_lower low high (x ∷ xs) less all = grind (arith, nat_tests, less, all, bound_lower low high xs less)
@@ -113,7 +113,7 @@ map_same : (f g : ℕ → PublicParts) (xs : List ℕ) → ((x : ℕ) → f x �
 map_same f g [] same = refl
 map_same f g (x ∷ xs) same = grind (arith, same x, map_same f g xs same)
 
--- all symbols stand above an address
+-- All symbols are above an address.
 unfoldable pub above : ℕ → List SymbolParts → Bool
 above a symbols = list_all (λ y. nat_lt a y) (map (λ s. s.address) symbols)
 
@@ -122,13 +122,13 @@ unfolding above
 lower_all a b [] less low = refl
 lower_all a b (s ∷ symbols) less low = grind (arith, nat_tests, less, low, lower_all a b symbols less)
 
--- in ordered symbols all that follow a first one elsewhere stand above
+-- If symbols are in order and the first has another address, all of them are above the address.
 above_rest : (a : ℕ) (later : List SymbolParts) → IsOrdered later → list_all (λ u. nat_le a u.address) later ≡ true → starts_elsewhere a later ≡ true → above a later ≡ true
 unfolding above
 above_rest a [] up low other = refl
 above_rest a (s ∷ later) up low other = grind (arith, nat_tests, low, other, up.0, lower_all a s.address later)
 
--- the address of a group, and its symbols
+-- The address of a group, and its symbols.
 has_group : (a b : ℕ) (group : List SymbolParts) → list_all (stands_at a) group ≡ true → has b (map (λ s. s.address) group) ≡ (nat_lt 0 (length group) && (a == b))
 has_group a b [] all = refl
 has_group a b (s ∷ group) all = grind (arith, nat_tests, all, has_group a b group)
@@ -146,7 +146,7 @@ unfolding above
 above_left a [] all = refl
 above_left a (s ∷ later) all = grind (arith, nat_tests, all, above_left a later)
 
--- the addresses of a group and of symbols above it
+-- The addresses of a group, and of symbols above it.
 pub addresses_group : (a : ℕ) (group later : List SymbolParts) → 0 < length group → list_all (stands_at a) group ≡ true → above a later ≡ true → addresses (group ++ later) ≡ a ∷ addresses later
 unfolding addresses above
 addresses_group a group later some all high =
@@ -156,7 +156,7 @@ addresses_group a group later some all high =
     (bound_ascending a (map seen later) high, rising_ascending (map seen later))
     (λ b. grind (arith, nat_tests, has_ascending b (map seen (group ++ later)), map-append seen group later, list_any-append (λ x. x == b) (map seen group) (map seen later), has_group a b group all, some, has_ascending b (map seen later)))
 
--- the records of symbols above a group do not see it
+-- The records of symbols above a group do not depend on the group.
 records_above : (a : ℕ) (group later : List SymbolParts) (bs : List ℕ) → list_all (stands_at a) group ≡ true → list_all (λ y. nat_lt a y) bs ≡ true → map (public_at (group ++ later)) bs ≡ map (public_at later) bs
 unfolding public_at
 records_above a group later [] all high = refl
@@ -172,7 +172,7 @@ all_filtered : (p q : ℕ → Bool) (xs : List ℕ) → list_all p xs ≡ true �
 all_filtered p q [] all = refl
 all_filtered p q (x ∷ xs) all = grind (arith, nat_tests, all, all_filtered p q xs)
 
--- what is said of a group stands in front of what is said of the symbols above it
+-- The record of a group comes before the records of the symbols above it.
 pub publics_group : (test : ℕ → Bool) (a : ℕ) (group later : List SymbolParts) → 0 < length group → list_all (stands_at a) group ≡ true → above a later ≡ true → publics_where test (group ++ later) ≡ (if test a then [] else public_named a (names_of group) ∷ []) ++ publics_where test later
 unfolding publics_where public_at
 publics_group test a group later some all high =
@@ -180,7 +180,7 @@ publics_group test a group later some all high =
     let rest = records_above a group later (filter q (addresses later)) all (all_filtered (λ b. nat_lt a b) q (addresses later) (high_addresses a later high)) in
     grind (arith, nat_tests, addresses_group a group later some all high, filter-append (stands_at a) group later, group_kept a group all, above_left a later high, append-nil group, rest)
 
--- the records rest on the groups alone
+-- The records depend only on the symbols of each address.
 has_filter : (a : ℕ) (symbols : List SymbolParts) → has a (map (λ s. s.address) symbols) ≡ nat_lt 0 (length (filter (stands_at a) symbols))
 has_filter a [] = refl
 has_filter a (s ∷ symbols) = grind (arith, nat_tests, has_filter a symbols)
@@ -207,7 +207,7 @@ low_later a [] later some all up = absurd (omega arith)
 low_later a (s ∷ group) later some all up =
     grind (arith, nat_tests, all, all_later (λ u. nat_le s.address u.address) group later up.0)
 
--- a group in front of ordered symbols, and the symbols after it
+-- A group at the start of symbols in order, and the symbols after it.
 first_group : (test : ℕ → Bool) (a : ℕ) (group later symbols : List SymbolParts) → symbols ≡ group ++ later → 0 < length group → list_all (stands_at a) group ≡ true → IsOrdered symbols → starts_elsewhere a later ≡ true → (publics_where test symbols ≡ (if test a then [] else public_named a (names_of group) ∷ []) ++ publics_where test later) × IsOrdered later
 first_group test a group later symbols is some all up other =
     let parted : IsOrdered (group ++ later) = subst IsOrdered is up in
@@ -220,7 +220,7 @@ view symbols = map symbol_view symbols
 view_parts : (n : ℕ) (symbols : List Symbol) → view symbols ≡ view (take n symbols) ++ view (drop n symbols)
 view_parts n symbols = ap view (sym (take-append-drop n symbols)) ∙ map-append symbol_view (take n symbols) (drop n symbols)
 
--- one group of the symbols that are left
+-- One group of the symbols that are left.
 pub record IsGroup (test : ℕ → Bool) (covered : Bool) (left : List Symbol) (count : ℕ) : Type 0 where
   pub some : 0 < count
   pub publics : publics_where test (view left) ≡ group_public covered (view (take count left)) ++ publics_where test (view (drop count left))
@@ -238,7 +238,7 @@ moved_on sorted at count = grind (arith, common_steps)
 front_is : (sorted : List Symbol) (at : ℕ) (d : Symbol) → at < length sorted → drop at sorted ≡ get_or sorted at d ∷ drop (at + 1) sorted
 front_is sorted at d inside = drop_more sorted at d inside
 
--- one group is done
+-- One group is done.
 pub group_step : (test : ℕ → Bool) (covered : Bool) (sorted left : List Symbol) (at count : ℕ) (d : Symbol) → at < length sorted → left ≡ drop at sorted → IsOrdered (view (drop at sorted)) → list_all (stands_at (get_or sorted at d).address) (view (take count left)) ≡ true → starts_elsewhere (get_or sorted at d).address (view (drop count left)) ≡ true → covered ≡ test (get_or sorted at d).address → IsGroup test covered (drop at sorted) count
 group_step test covered sorted left at count d inside part up all other known =
     let front = front_is sorted at d inside in
@@ -264,7 +264,7 @@ agree_above xs ys zs a (s ∷ symbols) same all agree = grind (arith, nat_tests,
 low_first : (x : SymbolParts) (symbols : List SymbolParts) → IsOrdered (x ∷ symbols) → list_all (λ t. nat_le x.address t.address) (x ∷ symbols) ≡ true
 low_first x symbols up = grind (arith, nat_tests, up.0)
 
--- what is left of the spans, and of the symbols
+-- What is left of the spans and of the symbols.
 pub record Goes (spans rest : List Range) (left : List Symbol) : Type 0 where
   pub canonical : IsCanonical rest
   pub ordered : IsOrdered (view left)
@@ -273,7 +273,7 @@ pub record Goes (spans rest : List Range) (left : List Symbol) : Type 0 where
 pub goes_begin : (spans : List Range) (sorted : List Symbol) → IsCanonical spans → IsOrdered (view sorted) → Goes spans spans sorted
 goes_begin spans sorted canonical up = record { canonical = canonical; ordered = up; agree = agree_same spans (view sorted) }
 
--- the first symbol is covered where the spans that are left have its address
+-- The first symbol is covered exactly if the spans that are left have its address.
 pub covers_here : (spans rest : List Range) (sorted : List Symbol) (at : ℕ) (d : Symbol) (covered : Bool) → at < length sorted → Goes spans rest (drop at sorted) → covered ≡ holds_any rest (get_or sorted at d).address → covered ≡ holds_any spans (get_or sorted at d).address
 covers_here spans rest sorted at d covered inside goes known = let agree = rw (front_is sorted at d inside) at goes.agree in known ∙ agree.0
 
@@ -288,7 +288,7 @@ goes_on spans rest beyond sorted at count d test covered inside goes canonical s
       agree = rw (moved_on sorted at count, front) (agree_drop beyond spans (get_or sorted at d ∷ drop (at + 1) sorted) count all);
     }
 
--- what is said of a group joins what was said before
+-- The record of a group is added after the earlier records.
 pub made_more : (test : ℕ → Bool) (covered : Bool) (made more whole : List PublicParts) (sorted group : List Symbol) (at count : ℕ) → IsGroup test covered (drop at sorted) count → group ≡ take count (drop at sorted) → more ≡ made ++ group_public covered (view group) → made ++ publics_where test (view (drop at sorted)) ≡ whole → more ++ publics_where test (view (drop (at + count) sorted)) ≡ whole
 made_more test covered made more whole sorted group at count g taken added is =
     ap (λ l. l ++ publics_where test (view (drop (at + count) sorted))) (added ∙ ap (λ l. made ++ group_public covered (view l)) taken)
@@ -304,7 +304,7 @@ pub made_all : (test : ℕ → Bool) (made whole : List PublicParts) (sorted : L
 made_all test made whole sorted at past is =
     sym (append-nil made) ∙ ap (λ l. made ++ l) (sym (none_publics test)) ∙ ap (λ l. made ++ publics_where test (view l)) (sym (drop_all at sorted past)) ∙ is
 
--- spans above an address do not have it
+-- Spans above an address do not have it.
 before_all : (r : Range) (spans : List Range) (a : ℕ) → IsCanonical (r ∷ spans) → a < r.start → holds_any (r ∷ spans) a ≡ false
 before_all r [] a canonical below = grind (arith, nat_tests, below)
 before_all r (s ∷ spans) a canonical below = grind (arith, nat_tests, below, canonical.0, canonical.1, before_all s spans a canonical.2)
@@ -322,14 +322,14 @@ test_same : (f g : ℕ → Bool) (symbols : List SymbolParts) → ((a : ℕ) →
 unfolding publics_where
 test_same f g symbols same = ap (map (public_at symbols)) (filter_same (λ a. not (f a)) (λ a. not (g a)) (addresses symbols) (λ a. ap not (same a)))
 
--- what is said of the sorted symbols is what is said of the symbols
+-- The records of the sorted symbols are those of the symbols.
 pub publics_are : (pieces : List Piece) (spans set : List Range) (sorted held : List Symbol) (symbols : List SymbolParts) (made : List PublicParts) → ((a : ℕ) → holds_any set a ≡ holds_any spans a) → ((a : ℕ) → holds_any spans a ≡ list_any (is_inside a) pieces) → ((a : ℕ) → filter (stands_at a) (view sorted) ≡ filter (stands_at a) (view held)) → view held ≡ symbols → made ≡ publics_where (holds_any set) (view sorted) → made ≡ publics pieces symbols
 unfolding publics is_covered
 publics_are pieces spans set sorted held symbols made one two groups are is =
     is ∙ test_same (holds_any set) (λ a. list_any (is_inside a) pieces) (view sorted) (λ a. one a ∙ two a)
     ∙ publics_same (λ a. list_any (is_inside a) pieces) (view sorted) (view held) groups ∙ ap (publics_where (λ a. list_any (is_inside a) pieces)) are
 
--- the addresses rise, and are those of the symbols
+-- The addresses ascend, and are those of the symbols.
 pub rising_addresses : (symbols : List SymbolParts) → IsRising (addresses symbols)
 unfolding addresses
 rising_addresses symbols = rising_ascending (map (λ s. s.address) symbols)

@@ -1,4 +1,4 @@
--- Of functions with one set of addresses two stand for all.
+-- Two of the functions with the same set of addresses represent all of them.
 use Rattle.std.proofs.Common.{◌≡◌, ℕ, zero, suc, ◌+◌, ◌<◌, ◌≤◌, Bool, true, false, not, ◌&&◌, ◌||◌, map, length, List, [], ◌∷◌, ◌++◌, Option, None, Some, arith, refl, sym, ap, ◌∙◌, subst}
 use Rattle.std.proofs.lemmas.Bool.Decides.{nat_tests}
 use Rattle.std.proofs.lemmas.List.Folds.{find-append, list_any-append}
@@ -21,7 +21,7 @@ no_more (Some c) = refl
 pub stand_none : (name : Covering → List ℕ) → StandFor name [] []
 stand_none name = record { first = λ a. refl; other = λ a text. refl }
 
--- one more function stands for itself
+-- One more function that is collected.
 pub stand_more : (name : Covering → List ℕ) (all kept : List Covering) (c : Covering) → StandFor name all kept → StandFor name (all ++ c ∷ []) (kept ++ c ∷ [])
 stand_more name all kept c s = record {
   first = λ a. find-append (has_address a) kept (c ∷ []) ∙ ap (λ o. option_or o (find (has_address a) (c ∷ []))) (s.first a) ∙ sym (find-append (has_address a) all (c ∷ []));
@@ -40,7 +40,7 @@ first_kept : (test : Covering → Bool) (kept : List Covering) (o : Option Cover
 first_kept test [] o any = absurd (cc)
 first_kept test (d ∷ kept) o any = grind (arith, nat_tests, any, first_kept test kept o)
 
--- a function for which others stand
+-- One more function that others represent.
 pub stand_known : (name : Covering → List ℕ) (all kept : List Covering) (c : Covering) → StandFor name all kept → ((a : ℕ) → has_address a c ≡ true → list_any (has_address a) kept ≡ true)
     → ((a : ℕ) (text : List ℕ) → has_address a c ≡ true → bytes_eq (name c) text ≡ false → any_name name text a kept ≡ true) → StandFor name (all ++ c ∷ []) kept
 stand_known name all kept c s held told = record {
@@ -48,7 +48,7 @@ stand_known name all kept c s held told = record {
   other = λ a text. grind (arith, nat_tests, list_any-append (λ d. has_address a d && not (bytes_eq (name d) text)) all (c ∷ []), s.other a text, told a text);
 }
 
--- a function of the same set and name stands for it
+-- A function with the same set and the same name represents it.
 pub stand_same : (name : Covering → List ℕ) (all kept : List Covering) (c f : Covering) (k : ℕ) → StandFor name all kept → slice_get kept k ≡ Some f → f.spans ≡ c.spans → bytes_eq (name c) (name f) ≡ true → StandFor name (all ++ c ∷ []) kept
 stand_same name all kept c f k s there set named =
     let same : name c ≡ name f = (bytes_eq-Decides (name c) (name f)).0 named in
@@ -61,7 +61,7 @@ one_other : (name : Covering → List ℕ) (f g : Covering) (text : List ℕ) �
 one_other name f g text apart same =
     grind (arith, nat_tests, apart, (bytes_eq-Decides (name g) text).0, (bytes_eq-Decides (name f) text).0 same, (bytes_eq-Decides (name g) (name f)).1)
 
--- two functions of the same set and of different names stand for it
+-- Two functions with the same set and with different names represent it.
 pub stand_two : (name : Covering → List ℕ) (all kept : List Covering) (c f g : Covering) (k l : ℕ) → StandFor name all kept → slice_get kept k ≡ Some f → slice_get kept l ≡ Some g → f.spans ≡ c.spans → g.spans ≡ c.spans → bytes_eq (name g) (name f) ≡ false
     → StandFor name (all ++ c ∷ []) kept
 stand_two name all kept c f g k l s first second set also apart =
@@ -77,7 +77,7 @@ stand_two name all kept c f g k l s first second set also apart =
     go a text is false other = here a text k f first set is other
     go a text is true same = here a text l g second also is (one_other name f g text apart same)
 
--- places that rise
+-- Functions in the order of `.debug_info`.
 pub rise_lower : (low mid high : ℕ) (functions : List Covering) → low ≤ mid → Rise mid high functions → Rise low high functions
 rise_lower low mid high [] less rise = omega arith
 rise_lower low mid high (c ∷ functions) less rise = (omega (arith, rise.0), rise.1)
@@ -93,7 +93,7 @@ rise_joined low mid high (x ∷ xs) ys p q = (p.0, rise_joined (place_key (place
 pub rise_more : (low : ℕ) (functions : List Covering) (c : Covering) → low ≤ place_key (place_of c) → Rise 0 low functions → Rise 0 (place_key (place_of c) + 1) (functions ++ c ∷ [])
 rise_more low functions c less rise = rise_joined 0 low (place_key (place_of c) + 1) functions (c ∷ []) rise (less, omega arith)
 
--- functions by their numbers
+-- Functions by their numbers.
 pub map_length : (functions : List Covering) → length (map place_of functions) ≡ length functions
 map_length [] = refl
 map_length (c ∷ functions) = omega (arith, map_length functions)

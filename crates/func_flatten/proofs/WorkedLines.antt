@@ -1,4 +1,6 @@
--- Worked rows: the lines in a piece. A sign for each address, in order: a digit for a line of the first path, a letter for one of the second, or a point.
+-- Worked examples: the lines in a piece. There is a character for each address, in order: a digit
+-- for a line of the first path, a letter for a line of the second path, or a point if there is no
+-- line.
 use Rattle.std.proofs.Common.{◌≡◌, ℕ, ◌+◌, ◌*◌, map, List, [], ◌∷◌, Option, Some, None, codes, rules}
 use Rattle.std.specs.List.{range_with_len}
 use Prim.Native.String.{String}
@@ -13,7 +15,8 @@ use Rattle.func_flatten.proofs.Computing.{func_flatten_computes}
 abbrev at : ℕ → ℕ → PathLine
 at path line = record { path = path; line = line }
 
--- the first path's line 1 from 2 on, its line 3 from 4 on, no line from 6 on, the second path's line 3 from 8 on, the same once more from 9 on, and none from 11 on
+-- Line 1 of the first path from 2 on, its line 3 from 4 on, no line from 6 on, line 3 of the second
+-- path from 8 on, the same line again from 9 on, and no line from 11 on.
 unfoldable lines : List UnitRead
 lines = record (bare_unit [] []) {
   lines = record {
@@ -33,9 +36,9 @@ seen unit start end = shown (map (λ a. sign (between start end (unit_number_lin
 
 record Signs : Type 0 where
   whole : seen 0 0 13 ≡ "..1133..ccc.."
-  -- across the piece's ends
+  -- Lines that reach across the ends of the piece.
   within : seen 0 3 9 ≡ "...133..c...."
-  -- a unit that is not there
+  -- A unit that does not exist.
   no_unit : seen 1 0 13 ≡ "............."
   by_path : unit_line lines 0 9 ≡ Some (codes "b.c", 3)
   without_a_line : unit_line lines 0 7 ≡ None

@@ -8,7 +8,7 @@ use Rattle.debug_units.specs.Owners.{line_in}
 use Rattle.func_flatten.specs.declared.line_run.LineRun.{LineRun}
 use Rattle.func_flatten.specs.declared.piece.Piece.{Piece}
 
--- path number and line of an address, from a unit's line table
+-- the number of the path and the line of an address, from a unit's line table
 abbrev pub number_line_in : ℕ → Option UnitRead → Option (ℕ × ℕ)
 number_line_in a None = None
 number_line_in a (Some part) = numbered_line part.lines a
@@ -16,7 +16,7 @@ number_line_in a (Some part) = numbered_line part.lines a
 unfoldable pub unit_number_line : List UnitRead → ℕ → ℕ → Option (ℕ × ℕ)
 unit_number_line units unit a = number_line_in a (slice_get units unit)
 
--- path and line of an address, from a unit's line table
+-- the path and the line of an address, from a unit's line table
 unfoldable pub unit_line : List UnitRead → ℕ → ℕ → Option (List ℕ × ℕ)
 unit_line units unit a = line_in a (slice_get units unit)
 

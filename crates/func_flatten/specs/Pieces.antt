@@ -1,4 +1,5 @@
--- Which function owns which addresses (DWARF 5, 3.3), and at which of them there is another function too.
+-- Which function owns which addresses (DWARF 5, 3.3), and which pieces are marked since their first
+-- address has another function with another name.
 use Rattle.std.specs.Prelude.{◌≡◌, ℕ, Bool, false, not, ◌&&◌, map, List, [], ◌∷◌, Option, None, Some}
 use Rattle.std.specs.List.{list_any}
 use Rattle.std.specs.Option.{option_map}

@@ -48,7 +48,8 @@ abbrev pub has_other_name : List (List ℕ) → Bool
 has_other_name [] = false
 has_other_name (name ∷ names) = list_any (λ other. not (bytes_eq other name)) names
 
--- what is said of an address: the name, cleaned for records, and whether there are other names
+-- what a PUBLIC record says of an address: the name, cleaned for records, and whether there are
+-- other names
 pub record PublicParts : Type 0 where
   pub address : ℕ
   pub many : Bool
@@ -61,7 +62,7 @@ public_named a names = record { address = a; many = has_other_name names; name =
 unfoldable pub public_at : List SymbolParts → ℕ → PublicParts
 public_at symbols a = public_named a (names_of (filter (stands_at a) symbols))
 
--- what is said of the addresses that are not covered
+-- what PUBLIC records say of those addresses of symbols that are not covered
 unfoldable pub publics_where : (ℕ → Bool) → List SymbolParts → List PublicParts
 publics_where covered symbols = map (public_at symbols) (filter (λ a. not (covered a)) (addresses symbols))
 
@@ -72,10 +73,10 @@ is_inside a p = nat_le p.start a && nat_lt a p.end
 unfoldable pub is_covered : List Piece → ℕ → Bool
 is_covered pieces a = list_any (is_inside a) pieces
 
--- what is said of those addresses of function symbols that no piece has
+-- what PUBLIC records say of those addresses of symbols that no piece has
 unfoldable pub publics : List Piece → List SymbolParts → List PublicParts
 publics pieces symbols = publics_where (is_covered pieces) symbols
 
--- what is said of an address, with the name in the file cleaned for records
+-- what a PUBLIC record says of an address, given the name as it is in the file
 abbrev pub public_view : PublicAt → PublicParts
 public_view p = record { address = p.address; many = p.many; name = cleaned p.name.now }

@@ -61,7 +61,7 @@ fn stretches_at(
     Ok(kept)
 }
 
-/// Whether a stretch of another class than the first one's is at an address.
+/// Whether an address has a stretch of another class than its first stretch.
 fn is_shared_at(items: &StepMap<Option<FirstItem>>, address: u64) -> bool
     ensures { result ≡ shared_in (value_at None items.now address) }
 {
@@ -71,7 +71,7 @@ fn is_shared_at(items: &StepMap<Option<FirstItem>>, address: u64) -> bool
     }
 }
 
-/// A cover, which stays shared only if another class is at its first address.
+/// A cover, which stays shared only if its first address has stretches of several classes.
 fn marked(items: &StepMap<Option<FirstItem>>, cover: Cover) -> Cover
     ensures { result ≡ marked items.now cover }
 {
@@ -83,7 +83,8 @@ fn marked(items: &StepMap<Option<FirstItem>>, cover: Cover) -> Cover
     }
 }
 
-/// The covers, each of which stays shared only if another class is at its first address.
+/// The covers, each of which stays shared only if its first address has stretches of several
+/// classes.
 fn mark_covers(mut covers: Vec<Cover>, items: &StepMap<Option<FirstItem>>) -> Vec<Cover>
     ensures { result.items ≡ map (marked items.now) covers.items }
 {

@@ -16,8 +16,9 @@ use std::alloc::Global;
 use step_maps::{Stretch, push_spans};
 use sym_edges::{OutOfMemory, Span};
 
-/// The functions' places, and the stretches of their addresses, each with the number of its function as its index and class; and the functions of the
-/// sets of the current unit, by the numbers of the sets.
+/// `places` has the collected functions, by number. `stretches` has the stretches of their
+/// addresses, each with the number of its function as its index and class. `sets` has the functions
+/// of the sets of the current unit, by the numbers of the sets.
 #[derive(Drop)]
 pub struct Collected {
     pub places: Vec<EntryRef>,
@@ -25,8 +26,9 @@ pub struct Collected {
     pub sets: Vec<SetOwners>,
 }
 
-/// Collects the functions of all units. Of those in a unit that have the same set, the first is collected, and the first with another name. The
-/// others own nothing, and show no other name if these two do not.
+/// Collects the functions of all units. Of the functions of a unit that have the same set, the
+/// first is collected, and the first with another name. The others own no address, and whether
+/// names differ at an address is the same without them.
 pub fn collect_all(alloc: Global, units: &Units<'_>) -> Result<Collected, OutOfMemory>
     ensures all { IfOk result (λ c. (low : ℕ) × IsCollected units.now c.places.items c.stretches.items low []) }
     ensures fit { IfOk result (λ c. AreFit c.stretches.items) }

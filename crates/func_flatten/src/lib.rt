@@ -12,8 +12,9 @@
 //! their functions' names, and are swept once more (`step_maps::first_items`). A name that is clean in the file is compared without a copy. Lines are
 //! made stop by stop, and sorted symbols are merged with the pieces.
 //!
-//! To read: `piece`, `set_owners`, `functions`; for names `name_blocks`, `scope_keys`, `name_met` and `name_classes`; then `cover_marks` and
-//! `owners`; `line_run` and `lines`; `public` and `uncovered`; last `laws`.
+//! The modules are best read in this order: `piece`, `set_owners`, `functions`; for names
+//! `name_blocks`, `scope_keys`, `name_met`, `name_classes`; then `cover_marks`, `owners`,
+//! `line_run`, `lines`, `public`, `uncovered`, `laws`.
 #![tactic(auto)]
 
 mod cover_marks;

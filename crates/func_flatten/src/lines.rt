@@ -12,8 +12,8 @@ use line_program::LineTable;
 use std::alloc::AllocError;
 use sym_edges::OutOfMemory;
 
-/// Replaces what `runs` had by the lines of a piece: a line run, by address, for each maximal run of its addresses with one path and one line, from
-/// the line table of its unit.
+/// Replaces what `runs` had by the lines of a piece, from the line table of its unit: a line run
+/// for each maximal run of its addresses with one path and one line, in the order of the addresses.
 pub fn lines_of(
     units: &Units<'_>,
     piece: &Piece,

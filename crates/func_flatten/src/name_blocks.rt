@@ -16,7 +16,7 @@ use sym_edges::OutOfMemory;
 /// The length of a block with the number in front of it.
 const BLOCK: usize = 68;
 
-/// Represents the text of a name, or of its beginning.
+/// The key of the text of a name, or of the beginning of a name.
 #[derive(Drop)]
 pub(crate) struct NameKey {
     bytes: Vec<u8>,
@@ -43,7 +43,7 @@ fn begun(so_far: usize, bytes: &[u8]) -> &[u8]
     bytes
 }
 
-/// Those of the bytes that a text of the given length still takes.
+/// Those of the bytes that are kept, if `so_far` bytes of the name were kept before them.
 #[tactic(auto, using(crate::proofs::BlockLemmas::part_is))]
 fn kept_part(limit: usize, so_far: usize, bytes: &[u8]) -> &[u8]
     ensures { result.now ≡ kept_part limit so_far bytes.now }
@@ -63,7 +63,7 @@ fn first_bytes(alloc: Global) -> Result<Vec<u8>, OutOfMemory>
     Ok(held)
 }
 
-/// The bytes of the key that ends with a block of this number.
+/// Sets `held` to the bytes of the key of a text that ends with the block of this number.
 fn begin_block(held: &mut Vec<u8>, number: u32) -> Result<(), OutOfMemory>
     ensures { OnOk result (held.new.items ≡ number_bytes number) }
 {
@@ -103,7 +103,7 @@ impl NameKey {
         self.length == 0
     }
 
-    /// The bytes of `bytes`, without a copy.
+    /// The bytes of the key, without a copy.
     pub(crate) fn as_slice(&self) -> &[u8]
         ensures { result.now ≡ self.now.bytes.items }
     {
@@ -209,7 +209,8 @@ impl NameBlocks {
         Ok(true)
     }
 
-    /// The bytes of the key of what a name keeps of the given bytes, if each of its blocks has a number.
+    /// The bytes of the key of a name that is made of the given bytes, if each of its blocks has a
+    /// number.
     #[tactic(auto, using(crate::proofs::BlockLemmas::look_next, crate::proofs::BlockLemmas::look_none, crate::proofs::BlockLemmas::look_end, crate::proofs::BlockLemmas::key_whole))]
     pub(crate) fn find(&self, alloc: Global, bytes: &[u8]) -> Result<Option<Vec<u8>>, OutOfMemory>
         ensures { IfOk result (λ found. option_map (λ held. held.items) found ≡ text_key self.now.numbers (kept bytes.now)) }

@@ -24,7 +24,7 @@ struct Names<'a> {
     made: BTreeMap<Vec<u8>, u32>,
 }
 
-/// The place of the function of a number.
+/// The entry of the function with a number.
 fn place_at(places: &[EntryRef], number: u32) -> EntryRef
     ensures { result ≡ place_at places.now number }
 {
@@ -34,7 +34,7 @@ fn place_at(places: &[EntryRef], number: u32) -> EntryRef
     }
 }
 
-/// The name of the last of some stretches, if that is a stretch of this function.
+/// The name of the last stretch's function, if the function has this number.
 fn met_last<'a>(
     alloc: Global,
     stretches: &[Stretch],
@@ -82,7 +82,7 @@ fn met_names<'a>(
     Ok(names)
 }
 
-/// Notes the number of a function with a name that was made, unless the name has a number.
+/// Notes the number of a function whose name was made, unless the name already has a number.
 fn note_made(
     alloc: Global,
     blocks: &NameBlocks,
@@ -124,7 +124,7 @@ fn note_all(
     Ok(())
 }
 
-/// The number of a name that is in the file, if the name was made too.
+/// The number of a name that is in the file, if the same name was also made for some function.
 fn number_made(
     alloc: Global,
     blocks: &NameBlocks,

@@ -1,4 +1,4 @@
-//! Names that were met, as they are compared.
+//! The names of functions, as they are compared.
 ghost use Rattle.std.specs.Prelude.{◌≡◌, if◌then◌else◌, List, [], ℕ, IfOk, OnOk};
 ghost use Rattle.clean_names.specs.Cleaning.{cleaned};
 ghost use Rattle.die_names.specs.NameRefs.{name_bytes};
@@ -23,7 +23,7 @@ pub(crate) enum NameMet<'a> {
 }
 
 impl<'a> NameMet<'a> {
-    /// The same name.
+    /// A copy of the name.
     pub(crate) fn again(&self, alloc: Global) -> Result<NameMet<'a>, OutOfMemory>
         ensures { IfOk result (λ met. (numbers : BlockNumbers) (text : List ℕ) → IsMet numbers self.now text → IsMet numbers met text) }
     {

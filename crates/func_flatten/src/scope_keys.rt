@@ -1,4 +1,4 @@
-//! The keys of the prefixes that scopes give to names. Each entry is walked once for all names.
+//! The keys of the prefixes that scopes give to names. Each entry is visited once for all names.
 ghost use Rattle.std.specs.Prelude.{◌≡◌, ℕ, ◌++◌, List, IfOk, IfSome, OnOk, ◌<◌};
 ghost use Rattle.std.specs.List.{slice_get};
 ghost use Rattle.debug_units.specs.declared.unit_read.UnitRead.{UnitRead};
@@ -14,21 +14,23 @@ use std::alloc::Global;
 use std::collections::BTreeMap;
 use sym_edges::OutOfMemory;
 
-/// The blocks of names, and the keys of the prefixes that walked entries, with the scopes around them, give to the names in them.
+/// The blocks of names, and for the visited entries the keys of prefixes. The prefix of an entry is
+/// what it and the scopes around it give to the names in it.
 #[derive(Drop)]
 pub(crate) struct ScopeKeys {
     pub(crate) blocks: NameBlocks,
     known: BTreeMap<u64, NameKey>,
 }
 
-/// Of the entries around an entry, the inner ones, the innermost first, and the key of the prefix that the others give.
+/// The entries around an entry: the numbers of the inner ones, beginning with the innermost, and
+/// the key of the prefix that the others give.
 #[derive(Drop)]
 struct Halfway {
     numbers: Vec<u32>,
     key: NameKey,
 }
 
-/// The entry of a number in a unit.
+/// The entry with a number in a unit.
 #[tactic(auto, using(crate::proofs::FrontLemmas::entry_is))]
 fn entry_at<'u, 'a>(units: &'u Units<'a>, unit: u32, entry: u32) -> Option<Die<'u, 'a>>
     ensures { result ≡ slice_get (unit_dies units.now unit) entry }
@@ -36,7 +38,7 @@ fn entry_at<'u, 'a>(units: &'u Units<'a>, unit: u32, entry: u32) -> Option<Die<'
     units.entry(EntryRef { unit, entry })
 }
 
-/// The number of the entry that an entry is in.
+/// The number of an entry's parent.
 #[tactic(auto, using(crate::proofs::FrontLemmas::outer_nowhere, crate::proofs::FrontLemmas::outer_top, crate::proofs::FrontLemmas::outer_past, crate::proofs::FrontLemmas::outer_lost, crate::proofs::FrontLemmas::outer_step))]
 fn outer_of(units: &Units<'_>, unit: u32, entry: u32) -> Option<u32>
     ensures around { outer (unit_dies units.now unit) entry ≡ outer_from (unit_dies units.now unit) result }
@@ -81,7 +83,7 @@ fn add_front(
     Ok(())
 }
 
-/// Appends to the text of a key the prefix that the entry of a number gives.
+/// Appends to the text of a key the prefix that the entry with a number gives.
 #[tactic(auto, using(crate::proofs::FrontLemmas::key_none, crate::proofs::FrontLemmas::front_some))]
 fn add_front_at(
     blocks: &mut NameBlocks,

@@ -68,7 +68,7 @@ fn has_other_name(alloc: Global, first: &[u8], others: &[Symbol<'_>]) -> Result<
     Ok(false)
 }
 
-/// What is said of the address of some symbols.
+/// What a PUBLIC record says of the address of some symbols.
 fn public_of<'a>(
     alloc: Global,
     first: &Symbol<'a>,
@@ -84,7 +84,8 @@ fn public_of<'a>(
     })
 }
 
-/// Adds what is said of a group of symbols with one address, unless the address is covered.
+/// Adds what a PUBLIC record says of a group of symbols with one address, unless the address is
+/// covered.
 fn add_group<'a>(
     alloc: Global,
     publics: &mut Vec<PublicAt<'a>>,
@@ -121,7 +122,8 @@ fn pass_to(spans: &[Span], address: u64) -> (&[Span], bool)
     (rest, false)
 }
 
-/// What is said of symbols that are sorted by address, except those that the spans cover.
+/// What PUBLIC records say of symbols that are sorted by address, except those that the spans
+/// cover.
 pub(crate) fn publics_beside<'a>(
     alloc: Global,
     sorted: &[Symbol<'a>],

@@ -1,4 +1,5 @@
--- Pieces begin where their functions may: for the law `pieces_begin_above`.
+-- Pieces begin at or above a base if no function owns an address below it; for the law
+-- `pieces_begin_above`.
 use Rattle.std.proofs.Common.{◌≡◌, ℕ, ◌≤◌, map, List, [], ◌∷◌, Option, None, Some, arith, refl}
 use Rattle.std.specs.Option.{option_map}
 use Rattle.step_maps.specs.Runs.{AreMaximal}

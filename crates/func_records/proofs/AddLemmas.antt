@@ -1,4 +1,4 @@
--- What the whole text has: the records of the paths and the names in use, and those of all pieces.
+-- The whole text: the records of the paths and the names in use, and those of all pieces.
 use Rattle.std.proofs.Common.{◌≡◌, ℕ, zero, suc, ◌<◌, ◌-◌, Bool, true, ◌||◌, cond, map, length, List, [], ◌∷◌, ◌++◌, Option, None, Some, unwrap_or, arith, refl, sym, ap, subst, ◌∙◌, Bor, append_assoc}
 use Rattle.std.specs.List.{slice_get, list_any}
 use Rattle.std.specs.List.Sorted.{IsStrictlySortedBy}
@@ -35,7 +35,7 @@ use Rattle.func_records.proofs.UsedLemmas.{bytes_sorted, same_used}
 use Rattle.func_records.proofs.ListLemmas.{same_bytes, or_left, or_right}
 use Rattle.func_records.proofs.OriginLemmas.{number_beside}
 
--- the parts of some pieces are one list
+-- The parts of the pieces, in one list.
 abbrev back : Run (ℕ × ℕ) → LineRun
 back r = record { start = r.start; end = r.end; path = r.value.0; line = r.value.1 }
 
@@ -71,7 +71,7 @@ one_parts units (x ∷ xs) (y ∷ ys) same held first second =
     let lines : x.lines ≡ y.lines = one_lines units y.piece x.lines y.lines (subst (λ (p : Piece). AreLineRuns units p x.lines) piece first.0) second.0 in
     ap (λ p. p ∷ xs) (part_is x y piece copies lines) ∙ ap (λ ps. y ∷ ps) (one_parts units xs ys (ap rest_of same) (ap rest_of held) first.1 second.1)
 
--- the number of a run's path
+-- The number of the path of a run.
 number_there : (paths : List (List ℕ)) (path : List ℕ) → list_any (bytes_eq path) paths ≡ true → number_or_0 paths path ≡ number_in paths path
 number_there paths path had = ap (λ b. cond b (number_in paths path) 0) had
 
@@ -105,7 +105,7 @@ lines_same base paths units unit (r ∷ runs) pathed used =
     ap (λ n. Line (r.start - base) (r.end - r.start) r.line n ∷ map (line_by base (row_of (unit_numbers paths units) unit)) runs) (number_is paths units unit r.path pathed.0 named)
     ∙ ap (λ rest. line_record base paths units unit r ∷ rest) (lines_same base paths units unit runs pathed.1 (λ path had. used path (or_right (bytes_eq path (path_in units unit r.path)) (list_any (λ (s : LineRun). bytes_eq path (path_in units unit s.path)) runs) had)))
 
--- the number of a call's path
+-- The number of the path of a call.
 abbrev HasCalls : List (List ℕ) → List UnitRead → ℕ → List InlineParts → Type 0
 HasCalls paths units unit copies = (path : List ℕ) → list_any (λ (r : InlineParts). bytes_eq path (call_path units unit r.entry)) copies ≡ true → list_any (bytes_eq path) paths ≡ true
 
@@ -121,7 +121,7 @@ call_is paths units unit entry known had =
     file_is paths units unit (call_number units unit entry) known.pathed (ap (λ path. list_any (bytes_eq path) paths) (sym known.path) ∙ had)
     ∙ ap (number_in paths) (sym known.path)
 
--- the numbers of names in use
+-- The numbers of the names in use.
 abbrev AreBeside : Numbers → List UnitRead → List (List ℕ) → Type 0
 AreBeside numbers units names = (name : List ℕ) → list_any (bytes_eq name) names ≡ true → name_number numbers units name ≡ number_in names name
 
@@ -166,7 +166,7 @@ parts_same base paths names numbers units (p ∷ parts) rows omitted named lined
     ∙ ap (λ rest. func_record base units p.piece ∷ rest) (append_assoc (map (inline_record base paths names units unit) p.copies) (map (line_record base paths units unit) p.lines) (parts_by base numbers units parts))
     ∙ ap (λ rest. func_record base units p.piece ∷ (map (inline_record base paths names units unit) p.copies ++ (map (line_record base paths units unit) p.lines ++ rest))) later
 
--- the names of all inlined copies
+-- The names of all inlined copies.
 any_name : (units : List UnitRead) (unit : ℕ) (name : List ℕ) (copies : List InlineParts) → list_any (bytes_eq name) (entry_names units unit copies) ≡ list_any (λ (r : InlineParts). bytes_eq name (entry_name units unit r.entry)) copies
 any_name units unit name [] = refl
 any_name units unit name (r ∷ copies) = ap (λ b. bytes_eq name (entry_name units unit r.entry) || b) (any_name units unit name copies)
@@ -178,14 +178,14 @@ names_in_parts units name (p ∷ parts) =
     ∙ ap (λ b. b || list_any (bytes_eq name) (all_names units (pieces_of parts) (copies_of parts))) (any_name units p.piece.unit name p.copies)
     ∙ ap (λ b. names_origin units name p || b) (names_in_parts units name parts)
 
--- the numbers beside the names that entries give are those of the names
+-- The numbers beside the names that entries give are the numbers of the names.
 names_beside : (units : List UnitRead) (numbers : Numbers) (old new : List ℕ) → (added : AddsNames units (all_refs numbers.entries.now) numbers.numbers.now old new) → AreBeside numbers units added.names
 names_beside units numbers old new added name has =
     ap (λ ns. beside (map (made_name units) (all_refs numbers.entries.now)) ns name) added.are
     ∙ number_beside (number_or_0 added.names) (map (made_name units) (all_refs numbers.entries.now)) name (sym (added.same name) ∙ has)
     ∙ number_there added.names name has
 
--- all together
+-- The whole text.
 pub functions_added : (base : ℕ) (units : List UnitRead) (pieces : List Piece) (held : List (List InlineParts)) (used sorted : List (Bor (List ℕ))) (numbers : Numbers) (old filed named new : List ℕ) → AreHeld units pieces held → Gathered units pieces held (has_text used) → IsStrictlySortedBy text_cmp sorted → SameTexts used sorted
     → ((name : List ℕ) → list_any (bytes_eq name) (map (made_name units) (all_refs numbers.entries.now)) ≡ list_any (bytes_eq name) (all_names units pieces held))
     → numbers.rows.now ≡ unit_numbers (bytes_of sorted) units → numbers.omitted ≡ number_or_0 (bytes_of sorted) no_path

@@ -1,4 +1,4 @@
--- The INLINE records of a piece that cover an address, and what they say.
+-- The INLINE records of a piece that cover an address, and the calls that they name.
 use Rattle.std.proofs.Common.{◌≡◌, ℕ, zero, suc, ◌+◌, ◌-◌, ◌<◌, ◌≤◌, Bool, true, false, ◌&&◌, ◌||◌, ◌==◌, nat_le, nat_lt, cond, max, map, length, List, [], ◌∷◌, ◌++◌, Option, None, Some, arith, refl, sym, ap, ◌∙◌}
 use Rattle.std.proofs.lemmas.Bool.Decides.{nat_tests}
 use Rattle.std.proofs.lemmas.Slice.Eq.{bytes_eq-Decides}
@@ -22,7 +22,7 @@ use Rattle.debug_units.specs.CallPaths.{no_path, path_of_call}
 use Rattle.func_records.specs.TextNames.{call_in}
 use Rattle.func_records.proofs.ChainLemmas.{IsEntry, chain_entry, is_copy_at, Agree, found_any, copies_agree, AllRanges, AllOfRuns, Good, copies_good}
 
--- an INLINE covers an address of the text just where its copy has the address
+-- An INLINE record covers an address of the text exactly if its copy has the address.
 range_within : (base low high x : ℕ) (range : Range) → base ≤ low → Good low high range → is_within (range.start - base) (range.end - range.start) x ≡ holds range (x + base)
 range_within base low high x range above good = within base range.start range.end x (omega (arith, good.0)) good.1
   where
@@ -35,7 +35,7 @@ ranges_within base low high x (range ∷ ranges) above good =
     ap (λ b. b || list_any (λ (r : Extent). is_within r.address r.size x) (map (extent base) ranges)) (range_within base low high x range above good.0)
     ∙ ap (λ b. holds range (x + base) || b) (ranges_within base low high x ranges above good.1)
 
--- line records are no INLINE records, and INLINE records no line records
+-- Line records are no INLINE records, and INLINE records are no line records.
 lines_no_inline : (base : ℕ) (paths : List (List ℕ)) (units : List UnitRead) (unit level x : ℕ) (lines : List LineRun) → find (is_inline_at level x) (map (line_record base paths units unit) lines) ≡ None
 lines_no_inline base paths units unit level x [] = refl
 lines_no_inline base paths units unit level x (r ∷ lines) = lines_no_inline base paths units unit level x lines
@@ -44,11 +44,11 @@ pub line_past : (base : ℕ) (paths names : List (List ℕ)) (units : List UnitR
 line_past base paths names units unit x [] rest = refl
 line_past base paths names units unit x (r ∷ copies) rest = line_past base paths names units unit x copies rest
 
--- the records under a FUNC: those of its copies, then those of its lines
+-- The records under a FUNC: those of its copies, and then those of its lines.
 abbrev pub below : ℕ → List (List ℕ) → List (List ℕ) → List UnitRead → Part → List SymLine
 below base paths names units p = map (inline_record base paths names units p.piece.unit) p.copies ++ map (line_record base paths units p.piece.unit) p.lines
 
--- the first INLINE of a level that covers an address is the record of the first copy that has it
+-- The first INLINE record of a level that covers an address is that of the first copy that has it.
 find_copy : (base : ℕ) (paths names : List (List ℕ)) (units : List UnitRead) (unit low high level x : ℕ) (copies : List InlineParts) (rest : List SymLine) → base ≤ low → AllOfRuns (Good low high) copies → find (is_inline_at level x) rest ≡ None → find (is_inline_at level x) (map (inline_record base paths names units unit) copies ++ rest) ≡ option_map (inline_record base paths names units unit) (find (is_copy_at level (x + base)) copies)
 find_copy base paths names units unit low high level x [] rest above good none = none
 find_copy base paths names units unit low high level x (r ∷ copies) rest above good none =
@@ -59,7 +59,7 @@ find_copy base paths names units unit low high level x (r ∷ copies) rest above
     go true is = refl
     go false is = is
 
--- the level of a copy is one of the levels of the records
+-- The level of a copy is one of the levels of the records.
 level_counted : (base : ℕ) (paths names : List (List ℕ)) (units : List UnitRead) (unit level a : ℕ) (copies : List InlineParts) (rest : List SymLine) (r : InlineParts) → find (is_copy_at level a) copies ≡ Some r → level < level_count (map (inline_record base paths names units unit) copies ++ rest)
 level_counted base paths names units unit level a [] rest r is = absurd (cc)
 level_counted base paths names units unit level a (s ∷ copies) rest r is = go (s.level == level) refl (holds_any s.spans a) is (λ found. level_counted base paths names units unit level a copies rest r found)
@@ -79,7 +79,7 @@ chain_counted (suc n) (c ∷ chain) each =
     let rest : length chain ≤ n = chain_counted n chain (λ k d is. let next : suc k < suc n = each (suc k) d is in omega (arith, next)) in
     omega (arith, rest)
 
--- calls level by level
+-- The calls, level by level.
 calls_chain : (records : List SymLine) (units : List UnitRead) (x level fuel : ℕ) (under : List SymLine) (chain : List Covering) → ((k : ℕ) → option_map (call_of records) (find (is_inline_at (level + k) x) under) ≡ option_map (call_in units) (slice_get chain k)) → length chain ≤ fuel → map (call_of records) (inlines_from x level fuel under) ≡ map (call_in units) chain
 calls_chain records units x level zero under [] each few = refl
 calls_chain records units x level zero under (c ∷ chain) each few = absurd (omega (arith, few))
@@ -98,7 +98,7 @@ calls_chain records units x level (suc fuel) under (c ∷ chain) each few =
         let first : call_of records s ≡ call_in units c = cc in
         ap (λ e. e ∷ map (call_of records) (inlines_from x (level + 1) fuel under)) first ∙ ap (λ es. call_in units c ∷ es) rest
 
--- what the record of a copy says is what is said of the call of its entry
+-- The record of a copy names the call of its entry.
 call_made : (units : List UnitRead) (unit : ℕ) (c : Covering) → IsEntry units unit c → call_in units c ≡ record { name = Some (entry_name units unit c.entry); path = Some (call_path units unit c.entry); line = call_line units unit c.entry }
 call_made units unit c entry =
     ap (λ u. record { name = Some (entry_name units u c.entry); path = Some (path_of_call units u c.die); line = c.die.call_line }) entry.unit_is
@@ -130,7 +130,7 @@ call_said base paths names units records unit level a copies o pathed named entr
         ∙ ap (λ e. Some (let call : Call = record { name = Some (entry_name units unit e); path = Some (call_path units unit e); line = call_line units unit e } in call)) same.0
         ∙ ap (λ (call : Call). Some call) (sym (call_made units unit c (each c refl)))
 
--- the INLINE records of a piece that cover an address in it are the calls of its chain
+-- The INLINE records of a piece that cover an address in it name the calls of its chain.
 pub part_calls : (base : ℕ) (paths names : List (List ℕ)) (units : List UnitRead) (records : List SymLine) (x : ℕ) (p : Part) → base ≤ p.piece.start → AreInlineRuns units p.piece p.copies → is_inside (x + base) p.piece ≡ true → HasPaths records paths units p.piece.unit p.copies → HasOrigins records names units p.piece.unit p.copies
     → map (call_of records) (inlines_from x 0 (level_count (below base paths names units p)) (below base paths names units p)) ≡ map (call_in units) (entry_chain units p.piece.unit p.piece.entry (x + base))
 part_calls base paths names units records x p above are inside pathed named =

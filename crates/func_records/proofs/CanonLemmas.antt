@@ -1,4 +1,4 @@
--- The text of records after one another.
+-- The text of records, one after the other.
 use Rattle.std.proofs.Common.{◌≡◌, ℕ, length, List, [], ◌∷◌, ◌++◌, None, arith, refl, sym, ap, ◌∙◌, append_assoc, append-nil}
 use Rattle.std.proofs.lemmas.Grind.{flat_map-append}
 use Rattle.sym_records.specs.Canon.{canon, canon_text}
@@ -21,7 +21,7 @@ canon_more s xs = refl
 pub nothing_added : (old : List ℕ) → old ≡ old ++ canon_text []
 nothing_added old = sym (ap (λ t. old ++ t) canon_none ∙ append-nil old)
 
--- one record more after a text, of records that are left
+-- One record more was added to the text.
 pub record_more : (old mid all : List ℕ) (s : SymLine) (rest : List SymLine) → old ++ canon_text (s ∷ rest) ≡ all → mid ≡ old ++ canon s → mid ++ canon_text rest ≡ all
 record_more old mid all s rest so added =
     ap (λ t. t ++ canon_text rest) added ∙ append_assoc old (canon s) (canon_text rest) ∙ ap (λ t. old ++ t) (sym (canon_more s rest)) ∙ so
@@ -33,7 +33,7 @@ none_left (x ∷ xs) is = absurd (omega (arith, is))
 pub records_done : (old new : List ℕ) (rest : List SymLine) → rest ≡ [] → old ++ canon_text rest ≡ new → old ≡ new
 records_done old new rest none so = sym (append-nil old) ∙ ap (λ t. old ++ t) (sym (ap canon_text none ∙ canon_none)) ∙ so
 
--- no record
+-- No record is left.
 pub none_here : (i : ℕ) (place : Place) → first_bad_from i place [] ≡ None
 unfolding first_bad_from
 none_here i place = refl

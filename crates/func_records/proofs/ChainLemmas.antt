@@ -1,4 +1,5 @@
--- The inlined copies of a piece at one address: the first of each level is the entry of that level on the chain.
+-- The inlined copies of a piece at one address: the first copy of each level is the entry of that
+-- level on the chain.
 use Rattle.std.proofs.Common.{◌≡◌, ℕ, zero, suc, ◌+◌, ◌-◌, ◌<◌, ◌≤◌, Bool, true, false, ◌&&◌, ◌||◌, ◌==◌, nat_le, nat_lt, cond, map, filter, List, [], ◌∷◌, ◌++◌, Option, None, Some, arith, refl, sym, ap, ◌∙◌}
 use Rattle.std.proofs.lemmas.Bool.Decides.{nat_tests}
 use Rattle.std.specs.List.{find, slice_get, list_any}
@@ -16,7 +17,7 @@ use Rattle.func_flatten.specs.Publics.{is_inside}
 use Rattle.inline_chain.specs.InlineRuns.{InlineParts, is_on_chain, is_of, spans_of, joined, AreInlineRuns}
 use Rattle.func_records.proofs.ListLemmas.{or_left, or_right}
 
--- the entries on a chain are those of the unit
+-- The entries on a chain are entries of the unit.
 pub record IsEntry (units : List UnitRead) (unit : ℕ) (c : Covering) : Type 0 where
   pub unit_is : c.unit ≡ unit
   pub entry_is : entry_of units unit c.entry ≡ Some (record { unit = unit; entry = c.entry; die = c.die })
@@ -60,7 +61,7 @@ chain_entry units unit entry a k c is = go (slice_get units unit) refl is
           entry_is = rw there (ap (option_map (λ (die : DieFields). record { unit = unit; entry = c.entry; die = die })) both.1);
         }
 
--- the addresses of those of one entry at one level
+-- The addresses of the copies of one entry at one level.
 holds_append : (xs ys : List Range) (a : ℕ) → holds_any (xs ++ ys) a ≡ (holds_any xs a || holds_any ys a)
 holds_append [] ys a = refl
 holds_append (x ∷ xs) ys a = ap (λ b. holds x a || b) (holds_append xs ys a) ∙ or_assoc (holds x a) (holds_any xs a) (holds_any ys a)
@@ -81,7 +82,7 @@ joined_holds level entry a (r ∷ runs) = go (is_of level entry r) (joined_holds
     go true rest = holds_append r.spans (joined (spans_of level entry runs)) a ∙ ap (λ b. holds_any r.spans a || b) rest
     go false rest = rest
 
--- the first of a level that has an address
+-- The first copy of a level that has an address.
 abbrev pub is_copy_at : ℕ → ℕ → InlineParts → Bool
 is_copy_at level a r = (r.level == level) && holds_any r.spans a
 
@@ -156,14 +157,14 @@ agree_by level a runs o each = go (find (is_copy_at level a) runs) refl o each
         let any : list_any (is_held level c.entry a) runs ≡ true = every c.entry ∙ same_entry c.entry in
         absurd (cc)
 
--- at an address of the piece the first copy of a level is the entry of that level on the chain
+-- At an address of the piece, the first copy of a level is the entry of that level on the chain.
 pub copies_agree : (units : List UnitRead) (piece : Piece) (runs : List InlineParts) (level a : ℕ) → AreInlineRuns units piece runs → is_inside a piece ≡ true → Agree level (slice_get (entry_chain units piece.unit piece.entry a) level) (find (is_copy_at level a) runs)
 unfolding is_on_chain
 copies_agree units piece runs level a are inside =
     agree_by level a runs (slice_get (entry_chain units piece.unit piece.entry a) level)
     (λ entry. sym (joined_holds level entry a runs) ∙ (are.copies level entry).members a ∙ ap (λ b. b && option_map_or (λ (c : Covering). c.entry == entry) (slice_get (entry_chain units piece.unit piece.entry a) level) false) inside)
 
--- the ranges of copies are not empty, and lie in their piece
+-- The ranges of copies are not empty, and are inside their piece.
 abbrev pub AllRanges : (Range → Type 0) → List Range → Type 0
 AllRanges P [] = Unit {0}
 AllRanges P (range ∷ ranges) = P range × AllRanges P ranges

@@ -29,7 +29,7 @@ use Rattle.func_records.proofs.CallLemmas.{below}
 use Rattle.func_records.proofs.RunLemmas.{AreBetween, AreFrom, from_between, text_run, runs_apart}
 use Rattle.func_records.proofs.NameLemmas.{after, regroup, under_part, FindPaths, FindNames, part_runs, around, around_is, paths_found, names_found, lines_between}
 
--- what holds of a list, and of one record more in front of it, holds after records in front
+-- What still holds after one record was put in front holds after several.
 mapped : {X : Type 0} (P : List SymLine → Type 0) (f : X → SymLine) (xs : List X) (rest : List SymLine) → ((x : X) (later : List SymLine) → P later → P (f x ∷ later)) → P rest → P (map f xs ++ rest)
 mapped P f [] rest more is = is
 mapped P f (x ∷ xs) rest more is = more x (map f xs ++ rest) (mapped P f xs rest more is)
@@ -47,7 +47,7 @@ over_parts P base paths names units (p ∷ parts) behind func inline line is =
     (mapped P (line_record base paths units p.piece.unit) p.lines (part_lines base paths names units parts ++ behind) (line p.piece.unit)
     (over_parts P base paths names units parts behind func inline line is))))
 
--- each number is given once
+-- Each number is given once.
 numbers_above : {is : ℕ → SymLine → Bool} {made : ℕ → List ℕ → SymLine} {said : SymLine → List ℕ} → Numbers is made said → (n k : ℕ) (texts : List (List ℕ)) (rest : List SymLine) → n < k → list_any (is n) rest ≡ false → list_any (is n) (numbered_lines made k texts ++ rest) ≡ false
 numbers_above numbers n k [] rest above none = none
 numbers_above {is} {made} numbers n k (text ∷ texts) rest above none =
@@ -71,7 +71,7 @@ all_once base units paths names parts front behind file origin last_file last_or
     (numbers_once file_numbers (λ k text rest none once. (none, once)) 0 paths (origin_lines 0 names ++ functions) (λ n. origins_no_file n 0 names functions ∙ no_file n functions files)
     (numbers_once origin_numbers (λ k text rest none once. (none, once)) 0 names functions (λ n. no_origin n functions origins) (none_given functions files origins)))
 
--- a test that all records pass
+-- A test that all records pass.
 numbered_all : (q : SymLine → Bool) (made : ℕ → List ℕ → SymLine) (k : ℕ) (texts : List (List ℕ)) → ((n : ℕ) (text : List ℕ) → q (made n text) ≡ true) → list_all q (numbered_lines made k texts) ≡ true
 numbered_all q made k [] each = refl
 numbered_all q made k (text ∷ texts) each = ap (λ b. b && list_all q (numbered_lines made (k + 1) texts)) (each k text) ∙ numbered_all q made (k + 1) texts each
@@ -98,7 +98,7 @@ all_pass q base units paths names parts front behind first files origins pass la
     (all_both q (origin_lines 0 names) functions (numbered_all q Origin 0 names origins)
     (all_both q (part_lines base paths names units parts) behind (parts_pass q base paths names units parts pass) last)))
 
--- what a record names is there
+-- What a record names is there.
 found_any : {Y : Type 0} (g : SymLine → Y) (q : SymLine → Bool) (all : List SymLine) (y : Y) → option_map g (find q all) ≡ Some y → list_any q all ≡ true
 found_any g q [] y is = absurd (cc)
 found_any {Y = Y} g q (s ∷ all) y is = go (q s) is (found_any g q all y)
@@ -110,7 +110,7 @@ found_any {Y = Y} g q (s ∷ all) y is = go (q s) is (found_any g q all y)
 same_text : (text : List ℕ) → bytes_eq text text ≡ true
 same_text text = (bytes_eq-Decides text text).1 refl
 
--- each of some records names a text of which something is known
+-- Each of some records names a text.
 mapped_pass : {X : Type 0} (q : SymLine → Bool) (f : X → SymLine) (text : X → List ℕ) (xs : List X) → ((x : X) → list_any (λ y. bytes_eq (text x) (text y)) xs ≡ true → q (f x) ≡ true) → list_all q (map f xs) ≡ true
 mapped_pass q f text [] each = refl
 mapped_pass q f text (x ∷ xs) each =
@@ -156,7 +156,7 @@ origins_pass base paths names units all (p ∷ parts) found =
       origins_pass base paths names units all parts (λ name had. found name (or_right (names_origin units name p) (list_any (names_origin units name) parts) had)),
     )
 
--- a test that each run between two addresses passes, less the base
+-- A test that each run between two addresses passes, with the base subtracted.
 abbrev PassBetween : (Extent → Bool) → ℕ → ℕ → ℕ → Type 0
 PassBetween t base low high = (start end : ℕ) → low ≤ start → start < end → end ≤ high → t (run_of (start - base) (end - start)) ≡ true
 
@@ -200,7 +200,7 @@ sized_pass base paths names units (p ∷ parts) small apart lined inlined = (
     within : (a b c : ℕ) → a ≤ b → b < c → a < c
     within a b c first second = omega arith
 
--- the FUNC records have the addresses of the pieces
+-- The FUNC records have the addresses of the pieces.
 func_runs_numbered : (made : ℕ → List ℕ → SymLine) (k : ℕ) (texts : List (List ℕ)) (rest : List SymLine) → ((n : ℕ) (text : List ℕ) → func_run (made n text) ≡ []) → flat_map func_run (numbered_lines made k texts ++ rest) ≡ flat_map func_run rest
 func_runs_numbered made k [] rest none = refl
 func_runs_numbered made k (text ∷ texts) rest none = ap (λ (l : List Extent). l ++ flat_map func_run (numbered_lines made (k + 1) texts ++ rest)) (none k text) ∙ func_runs_numbered made (k + 1) texts rest none
@@ -230,7 +230,7 @@ functions_apart base units paths names parts front behind above apart plain last
     ∙ func_runs_parts base paths names units parts behind (no_func_runs behind last) in
     subst (λ (l : List Extent). AreApart l) (sym runs) (runs_apart base (part_runs parts) (pieces_from base (pieces_of parts) above) apart)
 
--- what is said of each FUNC and the records under it
+-- What holds for each FUNC and the records under it.
 abbrev EachPart : (Extent → List SymLine → Type 0) → ℕ → List (List ℕ) → List (List ℕ) → List UnitRead → List Part → Type 0
 EachPart P base paths names units [] = Unit {0}
 EachPart P base paths names units (p ∷ parts) = P (text_run base (piece_run p.piece)) (below base paths names units p) × EachPart P base paths names units parts
@@ -271,7 +271,7 @@ parts_inside base paths names units (p ∷ parts) above lined inlined = (
   parts_inside base paths names units parts above.1 lined.1 inlined.1,
 )
 
--- the line records have the addresses of the lines
+-- The line records have the addresses of the lines.
 line_runs_are : (base : ℕ) (paths table : List (List ℕ)) (units : List UnitRead) (unit : ℕ) (lines : List LineRun) → flat_map line_run (map (line_record base paths units unit) lines) ≡ map (text_run base) (map (path_run table) lines)
 line_runs_are base paths table units unit [] = refl
 line_runs_are base paths table units unit (r ∷ lines) = ap (λ (l : List Extent). run_of (r.start - base) (r.end - r.start) ∷ l) (line_runs_are base paths table units unit lines)
@@ -291,7 +291,8 @@ parts_lines_apart base paths names units (p ∷ parts) above lined =
       parts_lines_apart base paths names units parts above.1 lined.1,
     )
 
--- in a text with the records of functions, among others that are none, a checker finds nothing of files, functions, inlined copies and lines
+-- In a text with the records of functions, among other records, a checker finds nothing about
+-- files, functions, inlined copies and lines.
 pub none_found : (base : ℕ) (units : List UnitRead) (pieces : List Piece) (front records behind : List SymLine) → ArePieces units pieces → BeginAbove base pieces → EndBelow (2 ^ 64) pieces → AreFuncRecords base units pieces records → ArePlain front → HaveNoFile front → HaveNoOrigin front → list_all are_sized front ≡ true → ArePlain behind → HaveNoFile behind → HaveNoOrigin behind → list_all are_sized behind ≡ true → HasNoFuncFindings (front ++ (records ++ behind))
 none_found base units pieces front records behind pieced above small are plain first_file first_origin first_sized last last_file last_origin last_sized =
     let parts = are.parts in

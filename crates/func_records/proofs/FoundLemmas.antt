@@ -12,7 +12,7 @@ use Rattle.sym_meaning.specs.Plain.{HaveNoFile, HaveNoOrigin}
 use Rattle.sym_meaning.proofs.TextLemmas.{file_behind, origin_behind}
 use Rattle.func_records.specs.FuncRecords.{number_in, numbered_lines, file_lines, origin_lines}
 
--- records that say their numbers and their texts
+-- Records that give numbers to texts.
 pub record Numbers (is : ℕ → SymLine → Bool) (made : ℕ → List ℕ → SymLine) (said : SymLine → List ℕ) : Type 0 where
   pub tells : (n k : ℕ) (text : List ℕ) → is n (made k text) ≡ (k == n)
   pub says : (k : ℕ) (text : List ℕ) → said (made k text) ≡ text
@@ -23,7 +23,7 @@ file_numbers = record { tells = λ n k text. refl; says = λ k text. refl }
 pub origin_numbers : Numbers is_origin Origin origin_name
 origin_numbers = record { tells = λ n k text. refl; says = λ k text. refl }
 
--- the first one of a text's number has that text
+-- The first record with the number of a text has that text.
 numbered_by : {is : ℕ → SymLine → Bool} {made : ℕ → List ℕ → SymLine} {said : SymLine → List ℕ} → Numbers is made said → (k : ℕ) (text q : List ℕ) (texts : List (List ℕ)) (rest : List SymLine) (same : Bool) → bytes_eq q text ≡ same → ((same ≡ false) → option_map said (find (is (k + 1 + number_in texts text)) (numbered_lines made (k + 1) texts ++ rest)) ≡ Some text) → option_map said (find (is (k + cond same 0 (number_in texts text + 1))) (numbered_lines made k (q ∷ texts) ++ rest)) ≡ Some text
 numbered_by {is} {made} {said} numbers k text q texts rest true same later =
     let here : (k == (k + 0)) ≡ true = grind (arith, nat_tests) in

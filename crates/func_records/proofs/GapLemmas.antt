@@ -1,4 +1,4 @@
--- Texts that stand at a place among sorted ones, or between two of them.
+-- A text is at a place among sorted texts, or between two of them.
 use Rattle.std.proofs.Common.{◌≡◌, ℕ, zero, suc, ◌-◌, Bool, true, false, ◌||◌, cond, List, [], ◌∷◌, Option, None, Some, arith, refl, sym, ap, subst, ◌∙◌, Bor}
 use Rattle.std.specs.List.{slice_get, list_any, AllByRecursion}
 use Rattle.std.specs.List.Sorted.{IsStrictlySortedBy}
@@ -63,7 +63,7 @@ none_of xs text = list_any (bytes_eq text) (bytes_of xs)
 or_none : (b c : Bool) → b ≡ false → c ≡ false → (b || c) ≡ false
 or_none b c is rest = ap (λ x. x || c) is ∙ rest
 
--- all texts are above
+-- All texts come after it.
 all_above : (x text : List ℕ) (y : Bor (List ℕ)) (xs : List (Bor (List ℕ))) → y.now ≡ x → slice_cmp nat_cmp text x ≡ Less → AllByRecursion (λ z. text_cmp y z ≡ Less) xs → none_of xs text ≡ false
 all_above x text y [] is less all = refl
 all_above x text y (z ∷ xs) is less all =

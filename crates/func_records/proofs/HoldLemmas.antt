@@ -31,12 +31,12 @@ held_count units [] (h ∷ held) all = absurd all
 held_count units (p ∷ pieces) [] all = absurd all
 held_count units (p ∷ pieces) (h ∷ held) all = omega (arith, held_count units pieces held all.1)
 
--- the parts that have these pieces and these copies
+-- The parts with these pieces and these copies.
 pub held_inlined : (units : List UnitRead) (parts : List Part) → AreHeld units (pieces_of parts) (copies_of parts) → AreInlined units parts
 held_inlined units [] are = tt
 held_inlined units (p ∷ parts) are = (are.0, held_inlined units parts are.1)
 
--- each copy has some ranges, and not too many
+-- Each copy has at least one range, and at most as many as a record may have.
 abbrev IsShort : List Range → Type 0
 IsShort spans = (0 < length spans) × (length spans ≤ 16384)
 

@@ -1,4 +1,4 @@
--- For src/line_paths.rt: what is noted from stop to stop are the paths of the runs.
+-- The paths that are noted from stop to stop are those of the runs; for src/line_paths.rt.
 use Rattle.std.proofs.Common.{◌≡◌, ℕ, ◌<◌, ◌≤◌, Bool, true, false, ◌&&◌, ◌||◌, ◌==◌, if◌then◌else◌, length, drop, List, [], ◌∷◌, Option, None, Some, arith, refl, sym, ap, ◌∙◌}
 use Rattle.std.proofs.lemmas.Bool.Decides.{nat_tests}
 use Rattle.std.specs.List.{slice_get}
@@ -22,7 +22,7 @@ use Rattle.func_records.proofs.ListLemmas.{or_assoc, or_false}
 pub one_number : (units : List UnitRead) (unit number other : ℕ) (path : List ℕ) → number ≡ other → bytes_eq path (path_in units unit number) ≡ bytes_eq path (path_in units unit other)
 one_number units unit number other path same = ap (λ k. bytes_eq path (path_in units unit k)) same
 
--- a path that the next line has too
+-- A path that the next line has too.
 pub left_to_next : (units : List UnitRead) (unit : ℕ) (line next : Option (ℕ × ℕ)) (old : List PathRef) (path : List ℕ) → has_line units unit line path ≡ has_line units unit next path → (has_path units old path || has_line units unit next path) ≡ ((has_path units old path || has_line units unit line path) || has_line units unit next path)
 left_to_next units unit line next old path same =
     twice (has_path units old path) (has_line units unit next path)
@@ -48,7 +48,7 @@ and_right : (p q : Bool) → (p && q) ≡ true → q ≡ true
 and_right true q is = is
 and_right false q is = absurd (cc)
 
--- the paths of runs, where one is added
+-- The paths of runs, after one run was added.
 any_after : (units : List UnitRead) (unit : ℕ) (x : LineRun) (xs : List LineRun) (r : LineRun) (path : List ℕ) → any_run units unit (with_run_after x xs r) path ≡ (any_run units unit (x ∷ xs) path || bytes_eq path (path_in units unit r.path))
 any_after units unit x [] r path = go (continues x r) refl
   where
@@ -79,14 +79,14 @@ any_part : (units : List UnitRead) (unit : ℕ) (line : Option (ℕ × ℕ)) (st
 any_part units unit None start end runs path = sym (or_false (any_run units unit runs path))
 any_part units unit (Some m) start end runs path = any_with units unit runs (record { start = start; end = end; path = m.0; line = m.1 }) path
 
--- with the line that is there now
+-- The path of the line at the current stop was added.
 part_noted : (table : LineMap) (unit start end stop : ℕ) (line : Option (ℕ × ℕ)) (rest : List ℕ) (old mid : List PathRef) (n : Noting table unit start end line rest old mid) (units : List UnitRead) (path : List ℕ) → (has_path units mid path || has_line units unit line path) ≡ (has_path units old path || any_run units unit (with_part line n.reached stop n.lines) path)
 part_noted table unit start end stop line rest old mid n units path =
     n.same units path
     ∙ or_assoc (has_path units old path) (any_run units unit n.lines path) (has_line units unit line path)
     ∙ ap (λ b. has_path units old path || b) (sym (any_part units unit line n.reached stop n.lines path))
 
--- from the start, up to the next stop, and up to the end
+-- From the start to the next stop, and to the end.
 pub noting_start : (table : LineMap) (stops : List ℕ) (unit k start end : ℕ) (line : Option (ℕ × ℕ)) (old : List PathRef) → stops ≡ table.lines.stops → start < end → RisesFrom 0 table.lines.stops → k ≤ length stops → Point stops start k → line ≡ numbered_line table start → IsKnown (length table.paths) line → Noting table unit start end line (drop k stops) old old
 noting_start table stops unit k start end line old same some rising few point is known = record {
   reached = start;
@@ -125,7 +125,7 @@ noting_out table unit start end line rest old mid new n all adds = record {
   same = λ units path. adds units path ∙ part_noted table unit start end end line rest old mid n units path;
 }
 
--- the lines of a piece
+-- The paths of the lines of a piece.
 pub adds_some : (units : List UnitRead) (piece : Piece) (part : UnitRead) (old new : List PathRef) → Some part ≡ slice_get units piece.unit → Noted part.lines piece.unit piece.start piece.end old new → AreDistinct part.lines.paths → AddsLines units piece old new
 adds_some units piece part old new is noted apart = record {
   lines = noted.lines;
@@ -139,7 +139,7 @@ adds_none units piece old is = record { lines = []; runs = lines_none units piec
 pub adds_empty : (units : List UnitRead) (piece : Piece) (old : List PathRef) → piece.end ≤ piece.start → AddsLines units piece old old
 adds_empty units piece old none = record { lines = []; runs = lines_empty units piece none; same = λ path. sym (or_false (has_path units old path)) }
 
--- with the calls of its copies
+-- The paths of the calls of its copies are added.
 pub adds_piece : (units : List UnitRead) (piece : Piece) (copies : List InlineParts) (old mid new : List PathRef) → AddsLines units piece old mid → AreKnown units piece.unit copies → ((path : List ℕ) → has_path units new path ≡ (has_path units mid path || any_call units piece.unit copies path)) → AddsPiece units piece copies old new
 adds_piece units piece copies old mid new lines known calls = record {
   lines = lines.lines;

@@ -1,4 +1,5 @@
--- In a text with the records of functions a look-up names the owner, the inlined copies and the line of each address.
+-- In a text with the records of functions, a look-up names the owner, the inlined copies and the
+-- line of each address.
 use Rattle.std.proofs.Common.{◌≡◌, ℕ, ◌+◌, ◌-◌, ◌<◌, ◌≤◌, Bool, true, false, ◌&&◌, ◌||◌, nat_le, nat_lt, if◌then◌else◌, map, List, [], ◌∷◌, ◌++◌, Option, None, Some, arith, refl, sym, ap, ◌∙◌, append_assoc, append-nil}
 use Rattle.std.proofs.lemmas.Bool.Decides.{nat_tests}
 use Rattle.std.proofs.lemmas.Slice.Eq.{bytes_eq-Decides}
@@ -27,7 +28,7 @@ use Rattle.func_records.proofs.CallLemmas.{below, line_past, part_calls, HasPath
 use Rattle.func_records.proofs.ListLemmas.{or_left, or_right}
 use Rattle.func_records.proofs.RunLemmas.{AreBetween, AreFrom, are_between, from_between}
 
--- records in front that are no FUNC
+-- Earlier records that are no FUNC.
 no_func : (behind : List SymLine) (x : ℕ) → ArePlain behind → text_func behind x ≡ None
 no_func behind x plain = ap (λ l. text_func l x) (sym (append-nil behind)) ∙ func_behind behind [] x plain
 
@@ -55,21 +56,21 @@ under_copies : (base : ℕ) (paths names : List (List ℕ)) (units : List UnitRe
 under_copies base paths names units unit [] rest = refl
 under_copies base paths names units unit (r ∷ copies) rest = ap (λ k. inline_record base paths names units unit r ∷ k) (under_copies base paths names units unit copies rest)
 
--- a record covers an address of the text just where its run has the address
+-- A record covers an address of the text exactly if its run has the address.
 within_run : (base start end x : ℕ) → base ≤ start → start < end → is_within (start - base) (end - start) x ≡ (nat_le start (x + base) && nat_lt (x + base) end)
 within_run base start end x above some = grind (arith, nat_tests)
 
--- at an address between the two
+-- At an address between the two.
 between_in : (low high a : ℕ) (f : ℕ → Option (List ℕ × ℕ)) → low ≤ a → a < high → between low high f a ≡ f a
 between_in low high a f above below =
     let inside : (nat_le low a && nat_lt a high) ≡ true = grind (arith, nat_tests) in
     ap (λ b. if b then f a else None) inside
 
--- a path as its number finds it, and the line
+-- The path that is found by its number, and the line.
 abbrev numbered : List SymLine → List (List ℕ) → List ℕ × ℕ → Option (List ℕ) × ℕ
 numbered records paths m = (text_path records (number_in paths m.0), m.1)
 
--- the line record that is found is the run's
+-- The line record that is found is that of the run.
 line_found : (base : ℕ) (paths : List (List ℕ)) (units : List UnitRead) (unit low x : ℕ) (records : List SymLine) (runs : List LineRun) → base ≤ low → AreFrom low (map (path_run (unit_paths units unit)) runs) → AreRuns (map (path_run (unit_paths units unit)) runs) → option_map (path_and_line records) (find (is_line_at x) (map (line_record base paths units unit) runs)) ≡ option_map (numbered records paths) (value_in (map (path_run (unit_paths units unit)) runs) (x + base))
 line_found base paths units unit low x records [] above from apart = refl
 line_found base paths units unit low x records (r ∷ runs) above from apart =
@@ -81,17 +82,17 @@ line_found base paths units unit low x records (r ∷ runs) above from apart =
     go true is = refl
     go false is = is
 
--- the lines of a part lie in its piece
+-- The lines of a part are inside its piece.
 pub lines_between : (units : List UnitRead) (p : Part) → AreLineRuns units p.piece p.lines → AreBetween p.piece.start p.piece.end (map (path_run (unit_paths units p.piece.unit)) p.lines)
 lines_between units p lined =
     are_between p.piece.start p.piece.end (unit_line units p.piece.unit) (map (path_run (unit_paths units p.piece.unit)) p.lines) (maximal _ (map (path_run (unit_paths units p.piece.unit)) p.lines) lined.paths)
 
--- after a part no line record stands
+-- No line record comes after a part.
 none_after : (base : ℕ) (paths names : List (List ℕ)) (units : List UnitRead) (parts : List Part) (behind : List SymLine) → ArePlain behind → under (part_lines base paths names units parts ++ behind) ≡ []
 none_after base paths names units [] behind plain = none_under behind plain
 none_after base paths names units (p ∷ parts) behind plain = refl
 
--- what stands after the record of a part
+-- The records after the FUNC of a part.
 abbrev pub after : ℕ → List (List ℕ) → List (List ℕ) → List UnitRead → Part → List Part → List SymLine → List SymLine
 after base paths names units p parts behind = (map (inline_record base paths names units p.piece.unit) p.copies ++ (map (line_record base paths units p.piece.unit) p.lines ++ part_lines base paths names units parts)) ++ behind
 
@@ -112,12 +113,12 @@ func_after base paths names units p parts behind x =
     ∙ func_copies base paths names units p.piece.unit p.copies (map (line_record base paths units p.piece.unit) p.lines ++ (part_lines base paths names units parts ++ behind)) x
     ∙ func_lines base paths units p.piece.unit p.lines (part_lines base paths names units parts ++ behind) x
 
--- the line of an address where a unit's function owns it, with the path that its number finds
+-- The line of an address that a function owns, with the path that is found by its number.
 abbrev numbered_at : List SymLine → List (List ℕ) → List UnitRead → ℕ → Option EntryRef → Option (Option (List ℕ) × ℕ)
 numbered_at records paths units a None = None
 numbered_at records paths units a (Some p) = option_map (numbered records paths) (unit_line units p.unit a)
 
--- the calls at an address where a function owns it
+-- The calls at an address that a function owns.
 abbrev calls_at : List UnitRead → ℕ → Option EntryRef → List Call
 calls_at units a None = []
 calls_at units a (Some p) = map (call_in units) (entry_chain units p.unit p.entry a)
@@ -125,13 +126,13 @@ calls_at units a (Some p) = map (call_in units) (entry_chain units p.unit p.entr
 abbrev place_name : List UnitRead → EntryRef → List ℕ
 place_name units p = entry_name units p.unit p.entry
 
--- the FUNC that is found is the piece's, and under it stand its inlined copies and its lines
+-- The FUNC that is found is that of the piece, and its inlined copies and lines come after it.
 record Shows (base : ℕ) (paths : List (List ℕ)) (units : List UnitRead) (records : List SymLine) (x : ℕ) (found : Option Found) (place : Option EntryRef) : Type 0 where
   function : option_map (λ f. func_name f.func) found ≡ option_map (place_name units) place
   chain : map (call_of records) (option_map_or (inlines_under x) found []) ≡ calls_at units (x + base) place
   line : option_map (path_and_line records) (option_and_then (line_under x) found) ≡ numbered_at records paths units (x + base) place
 
--- the numbers of paths and names in the records of parts lead to them
+-- The numbers of paths and names in the records of parts lead to the paths and names.
 abbrev pub FindPaths : List SymLine → List (List ℕ) → List UnitRead → List Part → Type 0
 FindPaths records paths units parts = (path : List ℕ) → list_any (names_path units path) parts ≡ true → text_path records (number_in paths path) ≡ Some path
 
@@ -185,7 +186,7 @@ parts_show base paths names units records x (p ∷ parts) behind plain above lin
     go true here is = part_shows base paths names units records x p parts behind plain above.0 lined inlined pathed named here
     go false other is = is
 
--- the path of a line that is found is named
+-- The path of a line that is found is one of those in use.
 run_named : (units : List UnitRead) (unit a : ℕ) (m : List ℕ × ℕ) (runs : List LineRun) → value_in (map (path_run (unit_paths units unit)) runs) a ≡ Some m → list_any (λ (r : LineRun). bytes_eq m.0 (path_in units unit r.path)) runs ≡ true
 run_named units unit a m [] is = absurd (cc)
 run_named units unit a m (r ∷ runs) is = go (has (path_run (unit_paths units unit) r) a) is (λ later. run_named units unit a m runs later)
@@ -220,7 +221,7 @@ part_named units a place m (p ∷ parts) are is line =
         or_left (names_path units m.0 p) (list_any (names_path units m.0) parts) (here inside owned)
     go false inside same later = or_right (names_path units m.0 p) (list_any (names_path units m.0) parts) (later same)
 
--- the line of an address by its owner, and the line record that is found there
+-- The line of an address, given its owner, and the line record that is found for it.
 found_by : (records : List SymLine) (paths : List (List ℕ)) (o : Option (List ℕ × ℕ)) → ((m : List ℕ × ℕ) → o ≡ Some m → text_path records (number_in paths m.0) ≡ Some m.0) → option_map (numbered records paths) o ≡ option_map found_line o
 found_by records paths None each = refl
 found_by records paths (Some m) each = ap (λ (q : Option (List ℕ)). Some (q, m.1)) (each m refl)
@@ -234,12 +235,12 @@ name_by_owner : (units : List UnitRead) (o : Option Covering) → option_map (pl
 name_by_owner units None = refl
 name_by_owner units (Some c) = refl
 
--- the chain of an address by its owner
+-- The chain of an address, given its owner.
 chain_by_owner : (units : List UnitRead) (a : ℕ) (o : Option Covering) → calls_at units a (option_map place_of o) ≡ map (call_in units) (chain_under units a o)
 chain_by_owner units a None = refl
 chain_by_owner units a (Some c) = refl
 
--- the records of functions among others
+-- The records of functions, among other records.
 abbrev pub around : ℕ → List UnitRead → List (List ℕ) → List (List ℕ) → List Part → List SymLine → List SymLine → List SymLine
 around base units paths names parts front behind = front ++ (file_lines 0 paths ++ (origin_lines 0 names ++ (part_lines base paths names units parts ++ behind)))
 
@@ -249,15 +250,15 @@ around_is base units pieces front records behind are =
     ∙ ap (λ (r : List SymLine). front ++ r) (append_assoc (file_lines 0 are.paths) (origin_lines 0 are.names ++ part_lines base are.paths are.names units are.parts) behind
     ∙ ap (λ (r : List SymLine). file_lines 0 are.paths ++ r) (append_assoc (origin_lines 0 are.names) (part_lines base are.paths are.names units are.parts) behind))
 
--- the number of each path and name that a record has leads to it
+-- Each number of a path or a name in a record leads to the path or the name.
 pub paths_found : (base : ℕ) (units : List UnitRead) (pieces : List Piece) (front records behind : List SymLine) (are : AreFuncRecords base units pieces records) → HaveNoFile front → FindPaths (around base units are.paths are.names are.parts front behind) are.paths units are.parts
 paths_found base units pieces front records behind are none path named = path_found front are.paths (origin_lines 0 are.names ++ (part_lines base are.paths are.names units are.parts ++ behind)) path none (are.used.same path ∙ named)
 
 pub names_found : (base : ℕ) (units : List UnitRead) (pieces : List Piece) (front records behind : List SymLine) (are : AreFuncRecords base units pieces records) → HaveNoOrigin front → FindNames (around base units are.paths are.names are.parts front behind) are.names units are.parts
 names_found base units pieces front records behind are none name named = origin_found front are.paths are.names (part_lines base are.paths are.names units are.parts ++ behind) name none (are.origins.same name ∙ named)
 
--- in a text with the records of functions, among others that are none, a look-up names the owner, the inlined copies and the line of
--- each address
+-- In a text with the records of functions, among other records, a look-up names the owner, the
+-- inlined copies and the line of each address.
 pub all_named : (base : ℕ) (units : List UnitRead) (pieces : List Piece) (front records behind : List SymLine) → ArePieces units pieces → BeginAbove base pieces → AreFuncRecords base units pieces records → ArePlain front → HaveNoFile front → HaveNoOrigin front → ArePlain behind → (x : ℕ) → Names base units (front ++ (records ++ behind)) x
 unfolding text_owner text_chain text_line owner_place chain line
 all_named base units pieces front records behind pieced above are plain no_file no_origin last x =

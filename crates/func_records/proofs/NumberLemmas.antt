@@ -16,7 +16,7 @@ use Rattle.func_records.specs.internal.Gathering.{bytes_of}
 use Rattle.func_records.specs.internal.Spelling.{number_or_0}
 use Rattle.func_records.proofs.ListLemmas.{take_more, take_next}
 
--- a text below all others is none of them
+-- A text before all others is not one of them.
 other_there : (x : Bor (List ℕ)) (xs : List (Bor (List ℕ))) (n : ℕ) (path : List ℕ) → AllByRecursion (λ y. text_cmp x y ≡ Less) xs → slice_get (bytes_of xs) n ≡ Some path → bytes_eq x.now path ≡ false
 other_there x [] n path below is = absurd (cc)
 other_there x (y ∷ xs) zero path below is = go (bytes_eq x.now path) refl
@@ -70,14 +70,14 @@ number_none xs path none = go (list_any (bytes_eq path) (bytes_of xs)) refl
     go true is = absurd (none (Any-from_list_any (λ (t : Bor (List ℕ)). bytes_eq path t.now) xs (sym (not_there xs path) ∙ is)))
     go false is = refl
 
--- the numbers of one path more
+-- The number of one path more.
 pub row_more : (paths texts : List (List ℕ)) (n : ℕ) (path : List ℕ) (number : ℕ) (row after : List ℕ) → row ≡ map (number_or_0 texts) (take n paths) → Some path ≡ slice_get paths n → number ≡ number_or_0 texts path → after ≡ row ++ number ∷ [] → after ≡ map (number_or_0 texts) (take (n + 1) paths)
 row_more paths texts n path number row after is there numbered added =
     added ∙ ap (λ r. r ++ number ∷ []) is ∙ ap (λ k. map (number_or_0 texts) (take n paths) ++ k ∷ []) numbered
     ∙ sym (map-append (number_or_0 texts) (take n paths) (path ∷ []))
     ∙ ap (map (number_or_0 texts)) (sym (take_more paths n path (sym there)))
 
--- a text that stands at a place
+-- A text that is at a place.
 pub number_here : (xs : List (Bor (List ℕ))) (n : ℕ) (x d : Bor (List ℕ)) (text : List ℕ) → IsStrictlySortedBy text_cmp xs → n < length xs → x ≡ get_or xs n d → bytes_eq x.now text ≡ true → n ≡ number_or_0 (bytes_of xs) text
 number_here xs n x d text sorted below is same = number_found xs n text sorted (bytes_at xs n d below ∙ ap (λ (t : Bor (List ℕ)). Some t.now) (sym is) ∙ ap Some ((bytes_eq-Decides x.now text).0 same))
   where
@@ -86,7 +86,7 @@ number_here xs n x d text sorted below is same = number_found xs n text sorted (
     bytes_at (z ∷ ys) zero d less = refl
     bytes_at (z ∷ ys) (suc k) d less = bytes_at ys k d (omega arith)
 
--- the numbers of one text more
+-- The number of one text more.
 pub numbers_more : (f : List ℕ → ℕ) (texts : List (Bor (List ℕ))) (n : ℕ) (d : Bor (List ℕ)) (number : ℕ) (numbers after : List ℕ) → n < length texts → number ≡ f (get_or texts n d).now → numbers ≡ map f (bytes_of (take n texts)) → after ≡ numbers ++ number ∷ [] → after ≡ map f (bytes_of (take (n + 1) texts))
 numbers_more f texts n d number numbers after below is so added =
     added ∙ ap (λ ns. ns ++ number ∷ []) so ∙ ap (λ k. map f (bytes_of (take n texts)) ++ k ∷ []) is

@@ -1,4 +1,4 @@
--- The names of the functions that were inlined, as they are gathered and numbered.
+-- The names of the inlined functions, as they are gathered and numbered.
 use Rattle.std.proofs.Common.{◌≡◌, ℕ, zero, suc, ◌+◌, ◌<◌, ◌≤◌, Bool, true, false, cond, map, length, take, drop, get_or, List, [], ◌∷◌, ◌++◌, ◌||◌, Some, unwrap_or, option_map, inl, inr, arith, refl, sym, ap, subst, ◌∙◌, append_assoc, append-nil}
 use Rattle.std.proofs.Math.Seq.{take-append_seam, drop-append_seam}
 use Rattle.std.proofs.lemmas.List.{length-take-le, length-append, length-map, map-append, take_all}
@@ -15,7 +15,7 @@ use Rattle.func_records.specs.internal.Origins.{made_name, entry_names, all_name
 use Rattle.func_records.proofs.ListLemmas.{same_bytes, take_next, get_front, get_last, or_left, or_right}
 use Rattle.func_records.proofs.NumberLemmas.{there}
 
--- the names of a piece more
+-- The names of one piece more.
 names_push : (units : List UnitRead) (pieces : List Piece) (held : List (List InlineParts)) (piece : Piece) (copies : List InlineParts) → length held ≡ length pieces → all_names units (pieces ++ piece ∷ []) (held ++ copies ∷ []) ≡ all_names units pieces held ++ entry_names units piece.unit copies
 names_push units [] [] piece copies same = append-nil (entry_names units piece.unit copies)
 names_push units [] (h ∷ held) piece copies same = absurd (omega (arith, same))
@@ -35,7 +35,7 @@ names_next units pieces held n d e copies old new below count is so added =
     ∙ ap (λ cs. all_names units (take n pieces ++ get_or pieces n d ∷ []) cs) (sym second)
     ∙ ap (λ ps. all_names units ps (take (n + 1) held)) (sym first)
 
--- the names of a piece and those of the later ones
+-- The names of a piece, followed by those of the later pieces.
 pub names_from : (units : List UnitRead) (pieces : List Piece) (held : List (List InlineParts)) (n : ℕ) (d : Piece) (e copies : List InlineParts) → n < length pieces → length held ≡ length pieces → copies ≡ get_or held n e → all_names units (drop n pieces) (drop n held) ≡ entry_names units (get_or pieces n d).unit copies ++ all_names units (drop (n + 1) pieces) (drop (n + 1) held)
 names_from units [] held n d e copies below count is = absurd (omega (arith, below))
 names_from units (p ∷ pieces) [] n d e copies below count is = absurd (omega (arith, count))
@@ -45,7 +45,7 @@ names_from units (p ∷ pieces) (h ∷ held) (suc n) d e copies below count is =
     names_from units pieces held n d e copies (omega (arith, below)) (omega (arith, count)) is
     ∙ ap (λ k. entry_names units (get_or pieces n d).unit copies ++ all_names units (drop k (p ∷ pieces)) (drop k (h ∷ held))) (sym next)
 
--- their numbers
+-- The numbers of these names.
 pub count_names : (f : List ℕ → ℕ) (units : List UnitRead) (unit : ℕ) (copies : List InlineParts) → length (map f (entry_names units unit copies)) ≡ length copies
 count_names f units unit [] = refl
 count_names f units unit (r ∷ copies) = ap suc (count_names f units unit copies)
@@ -76,13 +76,13 @@ numbers_later f units pieces held n d e copies rest below count is so =
     ∙ ap (λ k. drop k (here ++ map f (all_names units (drop (n + 1) pieces) (drop (n + 1) held)))) (sym (count_names f units (get_or pieces n d).unit copies))
     ∙ drop-append_seam here (map f (all_names units (drop (n + 1) pieces) (drop (n + 1) held)))
 
--- the number of a copy's name
+-- The number of a copy's name.
 pub number_at : (f : List ℕ → ℕ) (units : List UnitRead) (unit : ℕ) (copies : List InlineParts) (n : ℕ) (d : InlineParts) (e : ℕ) → n < length copies → get_or (map f (entry_names units unit copies)) n e ≡ f (entry_name units unit (get_or copies n d).entry)
 number_at f units unit [] n d e below = absurd (omega (arith, below))
 number_at f units unit (r ∷ copies) zero d e below = refl
 number_at f units unit (r ∷ copies) (suc n) d e below = number_at f units unit copies n d e (omega (arith, below))
 
--- texts at places
+-- Texts at places.
 at_more : (texts more : List (List ℕ)) (places : List ℕ) (names : List (List ℕ)) → AreAt texts places names → AreAt (texts ++ more) places names
 at_more texts more [] [] are = tt
 at_more texts more [] (n ∷ names) are = absurd are
@@ -95,7 +95,7 @@ at_push texts [] (n ∷ names) k name are at = absurd are
 at_push texts (j ∷ places) [] k name are at = absurd are
 at_push texts (j ∷ places) (n ∷ names) k name are at = (are.0, at_push texts places names k name are.1 at)
 
--- one text more
+-- One text more, which is added or was there before.
 absorbed : (b c : Bool) → (b ≡ true → c ≡ true) → c ≡ (c || (b || false))
 absorbed true c is = is refl ∙ sym (or_right c true refl)
 absorbed false true is = refl
@@ -120,7 +120,7 @@ get_made units [] k name is = absurd (cc)
 get_made units (r ∷ refs) zero name is = ap (λ o. option_map (made_name units) o) is
 get_made units (r ∷ refs) (suc k) name is = get_made units refs k name is
 
--- a text more
+-- One name more.
 said_kept : (texts : List (List ℕ)) (places : List ℕ) (names : List (List ℕ)) (name : List ℕ) (k : ℕ) → slice_get texts k ≡ Some name → TextsSay texts places names → TextsSay texts (places ++ k ∷ []) (names ++ name ∷ [])
 said_kept texts places names name k at say = record {
   at = at_push texts places names k name say.at at;
@@ -137,11 +137,11 @@ said_more : (texts more : List (List ℕ)) (places stands : List ℕ) (names : L
 said_more texts more places stands names name k (inl stood) is say = rw is (rw stood.0 (said_kept texts places names name k stood.1 say))
 said_more texts more places stands names name k (inr grown) is say = rw is (rw grown.0 (rw grown.1 (said_added texts places names name say)))
 
--- no reference yet
+-- There is no reference yet.
 pub refs_none : (units : List UnitRead) (parts : RefParts) (names : List (List ℕ)) → parts ≡ record { refs = []; places = [] } → names ≡ [] → RefsSay units parts names
 refs_none units parts names is none = rw is (rw none (record { at = tt; same = λ name. refl }))
 
--- the reference of a name more
+-- The reference of one name more.
 made_placed : (units : List UnitRead) (refs after : List NameRef) (name : NameRef) (k : ℕ) → IsPlaced refs after name k → IsPlaced (map (made_name units) refs) (map (made_name units) after) (made_name units name) k
 made_placed units refs after name k (inl stood) = inl (ap (map (made_name units)) stood.0, get_made units refs k name stood.1)
 made_placed units refs after name k (inr grown) = inr (ap (map (made_name units)) grown.0 ∙ map-append (made_name units) refs (name ∷ []), grown.1 ∙ sym (length-map refs (made_name units)))
@@ -151,7 +151,7 @@ refs_more units old new names name made k placed added said say =
     subst (λ (t : List ℕ). RefsSay units new (names ++ t ∷ [])) said
     (said_more (map (made_name units) old.refs) (map (made_name units) new.refs) old.places new.places names (made_name units name) k (made_placed units old.refs new.refs name k placed) added say)
 
--- the name at a place more
+-- The place of one name more.
 pub said_none : (texts names : List (List ℕ)) (places : List ℕ) → texts ≡ [] → places ≡ [] → TextsSay texts places (take 0 names)
 said_none texts names places no_text no_place = rw no_text (rw no_place (record { at = tt; same = λ name. refl }))
 
@@ -164,7 +164,7 @@ said_next texts more places stands names n d name k below is placed added say =
 pub said_all : (texts : List (List ℕ)) (places : List ℕ) (names : List (List ℕ)) (n : ℕ) → length names ≤ n → TextsSay texts places (take n names) → TextsSay texts places names
 said_all texts places names n all say = subst (TextsSay texts places) (take_all n names all) say
 
--- the names of a piece's copies, one more
+-- The names of a piece's copies, one by one.
 pub copies_none : (units : List UnitRead) (unit : ℕ) (copies : List InlineParts) (parts : RefParts) (names : List (List ℕ)) → RefsSay units parts names → RefsSay units parts (names ++ entry_names units unit (take 0 copies))
 copies_none units unit copies parts names say = subst (RefsSay units parts) (sym (append-nil names)) say
 
@@ -183,7 +183,7 @@ copies_next units unit n copies copy parts names below is say =
 pub copies_all : (units : List UnitRead) (unit n : ℕ) (copies : List InlineParts) (parts : RefParts) (names : List (List ℕ)) → length copies ≤ n → RefsSay units parts (names ++ entry_names units unit (take n copies)) → RefsSay units parts (names ++ entry_names units unit copies)
 copies_all units unit n copies parts names all say = subst (λ (cs : List InlineParts). RefsSay units parts (names ++ entry_names units unit cs)) (take_all n copies all) say
 
--- the numbers at the places of names
+-- The numbers at the places of names.
 pub places_numbered : (f : List ℕ → ℕ) (texts : List (List ℕ)) (numbers places : List ℕ) (names : List (List ℕ)) → numbers ≡ map f texts → AreAt texts places names → map (λ k. unwrap_or (slice_get numbers k) 0) places ≡ map f names
 places_numbered f texts numbers [] [] are at = refl
 places_numbered f texts numbers [] (n ∷ names) are at = absurd at
@@ -197,7 +197,7 @@ places_numbered f texts numbers (k ∷ places) (n ∷ names) are at =
     get_mapped g (u ∷ ts) zero t is = ap (option_map g) is
     get_mapped g (u ∷ ts) (suc j) t is = get_mapped g ts j t is
 
--- the number beside a text, where each text has that which a function gives
+-- The number beside a text, if each number is the one that a function gives for its text.
 beside_by : (g : List ℕ → ℕ) (name text : List ℕ) (later : ℕ) (here had : Bool) → bytes_eq name text ≡ here → (here || had) ≡ true → (had ≡ true → later ≡ g name) → cond here (g text) later ≡ g name
 beside_by g name text later true had is has below = ap g (sym ((bytes_eq-Decides name text).0 is))
 beside_by g name text later false had is has below = below has

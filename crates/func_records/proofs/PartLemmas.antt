@@ -1,4 +1,4 @@
--- One part more.
+-- One part more, with the records of its piece.
 use Rattle.std.proofs.Common.{◌≡◌, List, [], ◌∷◌, ◌++◌, refl, ap}
 use Rattle.debug_units.specs.declared.unit_read.UnitRead.{UnitRead}
 use Rattle.func_flatten.specs.LineRuns.{AreLineRuns}

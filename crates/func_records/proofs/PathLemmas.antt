@@ -23,7 +23,7 @@ use Rattle.func_records.specs.internal.Shares.{all_paths}
 use Rattle.func_records.proofs.PartLemmas.{lined_push, pieces_push, copies_push, known_push}
 use Rattle.func_records.proofs.ListLemmas.{or_assoc, or_false, or_left, or_right, take_more, take_next, flat_next}
 
--- a path that is there already
+-- A path that is already there.
 pub path_known : (refs : List PathRef) (k : ℕ) (at : PathRef) (units : List UnitRead) (path : List ℕ) → slice_get refs k ≡ Some at → has_path units refs path ≡ (has_path units refs path || bytes_eq path (path_at units at))
 path_known refs k at units path stands = absorbed (has_path units refs path) (bytes_eq path (path_at units at)) (has_at refs k stands)
   where
@@ -39,21 +39,21 @@ path_known refs k at units path stands = absorbed (has_path units refs path) (by
         or_left (bytes_eq path (path_at units r)) (has_path units rs path) (ap (λ (q : PathRef). bytes_eq path (path_at units q)) alike ∙ same)
     has_at (r ∷ rs) (suc j) is same = or_right (bytes_eq path (path_at units r)) (has_path units rs path) (has_at rs j is same)
 
--- one path more
+-- One path more.
 pub path_added : (old new : List PathRef) (at : PathRef) (units : List UnitRead) (path : List ℕ) → new ≡ old ++ at ∷ [] → has_path units new path ≡ (has_path units old path || bytes_eq path (path_at units at))
 path_added old new at units path added =
     ap (λ rs. has_path units rs path) added
     ∙ list_any-append (λ (r : PathRef). bytes_eq path (path_at units r)) old (at ∷ [])
     ∙ ap (λ b. has_path units old path || b) (or_false (bytes_eq path (path_at units at)))
 
--- the texts of paths
+-- The texts of paths.
 pub text_next : (units : List UnitRead) (refs : List PathRef) (n : ℕ) (d : PathRef) (old : List (List ℕ)) (texts more : List (Bor (List ℕ))) (t : Bor (List ℕ)) → n < length refs → t.now ≡ path_at units (get_or refs n d) → more ≡ texts ++ t ∷ [] → bytes_of texts ≡ old ++ map (path_at units) (take n refs) → bytes_of more ≡ old ++ map (path_at units) (take (n + 1) refs)
 text_next units refs n d old texts more t below is pushed so =
     ap bytes_of pushed ∙ map-append (λ (u : Bor (List ℕ)). u.now) texts (t ∷ []) ∙ ap (λ l. l ++ t.now ∷ []) so ∙ ap (λ u. (old ++ map (path_at units) (take n refs)) ++ u ∷ []) is
     ∙ append_assoc old (map (path_at units) (take n refs)) (path_at units (get_or refs n d) ∷ [])
     ∙ ap (λ l. old ++ l) (sym (map-append (path_at units) (take n refs) (get_or refs n d ∷ [])) ∙ ap (map (path_at units)) (sym (take_next refs n d below)))
 
--- some paths more, one after another
+-- Some paths more, one after the other.
 pub path_next : (units : List UnitRead) (refs : List PathRef) (n : ℕ) (d : PathRef) (old : Bool) (mid new : Bool) (path : List ℕ) → n < length refs → new ≡ (mid || bytes_eq path (path_at units (get_or refs n d))) → mid ≡ (old || has_path units (take n refs) path) → new ≡ (old || has_path units (take (n + 1) refs) path)
 path_next units refs n d old mid new path below is so =
     is ∙ ap (λ b. b || bytes_eq path (path_at units (get_or refs n d))) so
@@ -71,7 +71,7 @@ share_next units shares k d mid new path below is so =
     is ∙ ap (λ b. b || has_path units (get_or shares k d).paths.items path) so
     ∙ sym (ap (λ rs. has_path units rs path) (flat_next (λ (f : FoundShare). f.paths.items) shares k d below) ∙ list_any-append (λ (r : PathRef). bytes_eq path (path_at units r)) (all_paths (take k shares)) (get_or shares k d).paths.items)
 
--- the paths of one piece more
+-- The paths of one piece more.
 gathered_one : (units : List UnitRead) (pieces : List Piece) (held : List (List InlineParts)) (piece : Piece) (copies : List InlineParts) (old new : List PathRef) → Gathered units pieces held (has_path units old) → AddsPiece units piece copies old new → Gathered units (pieces ++ piece ∷ []) (held ++ copies ∷ []) (has_path units new)
 gathered_one units pieces held piece copies old new so adds =
     let part : Part = record { piece = piece; copies = copies; lines = adds.lines } in
@@ -104,7 +104,7 @@ gathered_all units pieces held n refs all count so =
     let every : take n held ≡ held = take_all n held (omega (arith, all, count)) in
     subst (λ (ps : List Piece). Gathered units ps held (has_path units refs)) whole (subst (λ (hs : List (List InlineParts)). Gathered units (take n pieces) hs (has_path units refs)) every so)
 
--- each run of a piece has a path of the table: where it begins there is a line with that path
+-- Each run of a piece has a path of the table: at its start there is a line with that path.
 named_some : (paths : List (List ℕ)) (k line : ℕ) (m : List ℕ × ℕ) → named_line paths (Some (k, line)) ≡ Some m → k < length paths
 named_some paths k line m is = go (slice_get paths k) refl is
   where

@@ -1,4 +1,4 @@
--- For src/path_rows.rt: what is numbered unit by unit is numbered of all units.
+-- Numbering the paths unit by unit numbers those of all units; for src/path_rows.rt.
 use Rattle.std.proofs.Common.{◌≡◌, ℕ, zero, suc, ◌<◌, length, get_or, map, List, [], ◌∷◌, Some, arith, ap, ◌∙◌}
 use Rattle.std.specs.List.{slice_get}
 use Rattle.std.proofs.lemmas.List.{nil_from_length}

@@ -1,4 +1,4 @@
--- Runs of a function between two addresses.
+-- The runs of a function between two addresses.
 use Rattle.std.proofs.Common.{◌≡◌, ℕ, ◌+◌, ◌-◌, ◌<◌, ◌≤◌, Bool, true, false, ◌&&◌, ◌||◌, nat_le, nat_lt, min, max, if◌then◌else◌, map, List, [], ◌∷◌, Option, None, Some, arith, refl, ap, ◌∙◌}
 use Rattle.std.proofs.lemmas.Bool.Decides.{nat_tests}
 use Rattle.std.specs.List.{list_any}
@@ -6,7 +6,7 @@ use Rattle.step_maps.specs.Runs.{Run, Follows, AreRuns, IsMaximal, AreMaximal, b
 use Rattle.sym_records.specs.declared.line.Extent.{Extent}
 use Rattle.sym_meaning.specs.Findings.{run_of, meet, AreApart}
 
--- no run is empty, and each lies between the two addresses
+-- No run is empty, and each is between the two addresses.
 abbrev pub AreBetween : {V : Type 0} → ℕ → ℕ → List (Run V) → Type 0
 AreBetween low high [] = Unit {0}
 AreBetween low high (r ∷ runs) = ((low ≤ r.start) × (r.start < r.end) × (r.end ≤ high)) × AreBetween low high runs
@@ -28,7 +28,7 @@ are_between {V = V} low high f (r ∷ runs) all =
     let to = found_between low high (r.end - 1) f r.value (is.constant (r.end - 1) (omega arith) (omega arith)) in
     ((from.0, some, omega (arith, to.1, some)), are_between low high f runs all.1)
 
--- each run begins at or above an address
+-- Each run begins at or above an address.
 abbrev pub AreFrom : {V : Type 0} → ℕ → List (Run V) → Type 0
 AreFrom low [] = Unit {0}
 AreFrom low (r ∷ runs) = (low ≤ r.start) × AreFrom low runs
@@ -51,7 +51,7 @@ all_from low (r ∷ runs) first apart =
     let some : r.start < r.end = apart.0 in
     (first, all_from low runs (follows_from low r runs (omega (arith, first)) apart.1) apart.2)
 
--- the addresses of a run in the text, less the base
+-- The addresses of a run in the text, with the base subtracted.
 abbrev pub text_run : {V : Type 0} → ℕ → Run V → Extent
 text_run base r = run_of (r.start - base) (r.end - r.start)
 
@@ -66,7 +66,7 @@ none_meets base r (s ∷ runs) above some from =
     (not_less (max (r.start - base) (s.start - base)) (min ((r.start - base) + (r.end - r.start)) ((s.start - base) + (s.end - s.start))) (omega arith))
     ∙ none_meets base r runs above some from.1
 
--- no two runs have an address in common
+-- No two runs have an address in common.
 pub runs_apart : {V : Type 0} (base : ℕ) (runs : List (Run V)) → AreFrom base runs → AreRuns runs → AreApart (map (text_run base) runs)
 runs_apart base [] from apart = tt
 runs_apart base (r ∷ runs) from apart =

@@ -1,4 +1,4 @@
--- For src/finder.rt and src/speller.rt: what holds of each share holds of all pieces.
+-- What holds for each share holds for all pieces; for src/finder.rt and src/speller.rt.
 use Rattle.std.proofs.Common.{◌≡◌, ℕ, zero, suc, ◌+◌, ◌*◌, ◌<◌, ◌≤◌, ◌^◌, ◌||◌, map, length, take, drop, get_or, reverse, List, [], ◌∷◌, ◌++◌, unwrap_or, arith, refl, sym, ap, subst, ◌∙◌, Bor, append_assoc, append-nil}
 use Rattle.std.proofs.Math.Seq.{take-append_seam, drop-append_seam}
 use Rattle.std.proofs.lemmas.List.{length-drop, length-append, map-append, take-append-drop, drop-drop, nil_from_length, reverse-append, take_all}
@@ -36,7 +36,7 @@ share_first xs = ap (λ n. take 512 (drop n xs)) (let none : 512 * 0 ≡ 0 = ome
 share_next : {A : Type 0} (k : ℕ) (xs : List A) → share 512 k (drop 512 xs) ≡ share 512 (suc k) xs
 share_next k xs = ap (take 512) (drop-drop (512 * k) 512 xs ∙ ap (λ n. drop n xs) (let more : 512 + 512 * k ≡ 512 * suc k = omega arith in more))
 
--- what is made of each share is made of all
+-- What is made for each share is made for all shares.
 pub shares_mapped : {X A B : Type 0} (f : X → List B) (g : A → B) (shares : List X) (xs : List A) → length xs ≤ 512 * length shares → ((k : ℕ) (d : X) → k < length shares → f (get_or shares k d) ≡ map g (share 512 k xs)) → flat_map f shares ≡ map g xs
 shares_mapped f g [] xs inside each = sym (ap (map g) (nil_from_length xs (omega (arith, inside))))
 shares_mapped f g (s ∷ shares) xs inside each =
@@ -44,7 +44,7 @@ shares_mapped f g (s ∷ shares) xs inside each =
     ∙ ap (λ l. map g (take 512 xs) ++ l) (shares_mapped f g shares (drop 512 xs) (omega (arith, inside, length-drop 512 xs)) (λ k d below. each (suc k) d (omega (arith, below)) ∙ ap (map g) (sym (share_next k xs))))
     ∙ sym (map-append g (take 512 xs) (drop 512 xs)) ∙ ap (map g) (take-append-drop 512 xs)
 
--- lists that are taken from the end of the reversed list
+-- Lists that are taken from the end of the reversed list.
 pub pop_next : {X A : Type 0} (f : X → List A) (left less : List X) (one : X) (made more all : List A) → left ≡ less ++ one ∷ [] → more ≡ made ++ f one → made ++ flat_map f (reverse left) ≡ all → more ++ flat_map f (reverse less) ≡ all
 pop_next f left less one made more all is grown so =
     ap (λ m. m ++ flat_map f (reverse less)) grown
@@ -55,14 +55,14 @@ pop_next f left less one made more all is grown so =
 pub pop_all : {X A : Type 0} (f : X → List A) (left : List X) (made all : List A) → left ≡ [] → made ++ flat_map f (reverse left) ≡ all → made ≡ all
 pop_all f left made all none so = sym (append-nil made) ∙ ap (λ l. made ++ flat_map f (reverse l)) (sym none) ∙ so
 
--- the copies of all shares
+-- The copies of all shares.
 held_joined : (units : List UnitRead) (pieces more : List Piece) (held others : List (List InlineParts)) → AreHeld units pieces held → AreHeld units more others → AreHeld units (pieces ++ more) (held ++ others)
 held_joined units [] more [] others are later = later
 held_joined units [] more (h ∷ held) others are later = absurd are
 held_joined units (p ∷ pieces) more [] others are later = absurd are
 held_joined units (p ∷ pieces) more (h ∷ held) others are later = (are.0, held_joined units pieces more held others are.1 later)
 
--- the paths of all shares
+-- The paths of all shares.
 known_joined : (units : List UnitRead) (parts more : List Part) → AreAllKnown units parts → AreAllKnown units more → AreAllKnown units (parts ++ more)
 known_joined units [] more known later = later
 known_joined units (p ∷ parts) more known later = (known.0, known_joined units parts more known.1 later)
@@ -83,7 +83,7 @@ gathered_joined units pieces more held others refs rest first second = record {
       ∙ sym (list_any-append (names_path units path) first.parts second.parts);
 }
 
--- the names of a share
+-- The names of a share.
 names_joined : (units : List UnitRead) (pieces more : List Piece) (held others : List (List InlineParts)) → length held ≡ length pieces → all_names units (pieces ++ more) (held ++ others) ≡ all_names units pieces held ++ all_names units more others
 names_joined units [] more [] others same = refl
 names_joined units [] more (h ∷ held) others same = absurd (omega (arith, same))
@@ -99,7 +99,7 @@ names_had units pieces more held others refs rest name same first second =
     ∙ ap (λ b. b || list_any (bytes_eq name) (map (made_name units) rest)) first ∙ ap (λ b. list_any (bytes_eq name) (all_names units pieces held) || b) second
     ∙ sym (ap (list_any (bytes_eq name)) (names_joined units pieces more held others same) ∙ list_any-append (bytes_eq name) (all_names units pieces held) (all_names units more others))
 
--- what is found of all shares is found of all pieces
+-- What is found for all shares is found for all pieces.
 pub record AreJoined (units : List UnitRead) (pieces : List Piece) (shares : List FoundShare) : Type 0 where
   pub held : AreHeld units pieces (all_held shares)
   pub names : (name : List ℕ) → list_any (bytes_eq name) (map (made_name units) (all_refs shares)) ≡ list_any (bytes_eq name) (all_names units pieces (all_held shares))
@@ -124,7 +124,7 @@ found_shares units (s ∷ shares) pieces inside each =
 pub all_found : (units : List UnitRead) (pieces : List Piece) (shares : List FoundShare) → AreFound units pieces shares → AreJoined units pieces shares
 all_found units pieces shares found = found_shares units shares pieces found.enough found.each
 
--- the numbers of each share
+-- The numbers of the names of each share.
 pub split_push : (numbers : Numbers) (units : List UnitRead) (shares : List FoundShare) (split : List (Bor (List ℕ))) (s : FoundShare) (here : Bor (List ℕ)) → AreSplit numbers units shares split → here.now ≡ ref_numbers numbers units s.refs.items → AreSplit numbers units (shares ++ s ∷ []) (split ++ here ∷ [])
 split_push numbers units [] [] s here are is = (is, tt)
 split_push numbers units [] (h ∷ split) s here are is = absurd are
@@ -182,12 +182,12 @@ numbers_behind numbers units shares k d rest below is =
     ∙ ap (λ n. drop n (here ++ ref_numbers numbers units (all_refs (drop (k + 1) shares)))) (sym (count_numbers numbers units (get_or shares k d).refs.items))
     ∙ drop-append_seam here (ref_numbers numbers units (all_refs (drop (k + 1) shares)))
 
--- the numbers of a share's copies
+-- The numbers of the names of a share's copies.
 pub share_numbers : (numbers : Numbers) (units : List UnitRead) (pieces : List Piece) (s : FoundShare) (known : List ℕ) → IsFound units pieces s → known ≡ ref_numbers numbers units s.refs.items → map (λ k. unwrap_or (slice_get known k) 0) s.places.items ≡ all_numbers numbers units pieces s.held
 share_numbers numbers units pieces s known found is =
     places_numbered (name_number numbers units) (map (made_name units) s.refs.items) known s.places.items (all_names units pieces s.held) is found.names.at
 
--- the records of all shares
+-- The records of all shares.
 below_joined : (limit : ℕ) (pieces more : List Piece) → EndBelow limit pieces → EndBelow limit more → EndBelow limit (pieces ++ more)
 below_joined limit [] more below later = later
 below_joined limit (p ∷ pieces) more below later = (below.0, below_joined limit pieces more below.1 later)

@@ -1,4 +1,4 @@
--- Where a call is, by its unit and its entry.
+-- Where a call is, given its unit and its entry.
 use Rattle.std.proofs.Common.{◌≡◌, ℕ, zero, suc, ◌<◌, length, List, [], ◌∷◌, arith, Option, None, Some, unwrap_or, option_and_then, refl, sym, ap, ◌∙◌, IfSome}
 use Rattle.std.specs.List.{slice_get}
 use Rattle.std.specs.Option.{option_map, option_map_or}
@@ -11,7 +11,7 @@ use Rattle.func_records.specs.declared.calls.CallSite.{CallSite}
 use Rattle.debug_units.specs.CallPaths.{no_path, file_path, file_path_in, path_of_call}
 use Rattle.func_records.specs.internal.Calls.{file_number_in, number_by, call_number, path_or, IsPathed, IsSite}
 
--- an entry that is not there
+-- The entry does not exist.
 lost_site : (units : List UnitRead) (unit entry : ℕ) → entry_of units unit entry ≡ None → IsSite units unit entry (record { path = None; line = 0 })
 unfolding call_number
 lost_site units unit entry none = record {
@@ -32,7 +32,7 @@ unfolding entry_of
 site_without_entry units unit entry site part is there none =
     rw is (lost_site units unit entry (ap (entry_in unit entry) (sym there) ∙ ap (option_map (λ (die : DieFields). record { unit = unit; entry = entry; die = die })) (sym none)))
 
--- an entry that is there
+-- The entry exists.
 either_default : {X : Type 0} (xs : List X) (k : ℕ) (d e : X) → k < length xs → unwrap_or (slice_get xs k) d ≡ unwrap_or (slice_get xs k) e
 either_default [] k d e below = absurd (omega arith)
 either_default (x ∷ xs) zero d e below = refl

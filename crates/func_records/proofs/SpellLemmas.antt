@@ -27,14 +27,14 @@ use Rattle.func_records.proofs.ListLemmas.{take_next}
 use Rattle.func_records.proofs.PartLemmas.{lined_push, pieces_push, copies_push}
 use Rattle.func_records.proofs.CanonLemmas.{canon_none, canon_join, canon_more, none_here}
 
--- a name as it stands in the file
+-- A name that the file has as it is.
 pub sliced_name : (units : List UnitRead) (name : NameRef) (unit entry : ℕ) (bytes : Bor (List ℕ)) → option_copied (Some bytes) ≡ name_slice units name → cleaned (name_bytes units name) ≡ entry_name units unit entry → cleaned bytes.now ≡ entry_name units unit entry
 sliced_name units name unit entry bytes is same = ap cleaned (sym (slice_bytes units name bytes.now (sym is))) ∙ same
 
 pub name_made : (units : List UnitRead) (name : NameRef) (unit entry : ℕ) (made : List ℕ) → made ≡ cleaned (name_bytes units name) → cleaned (name_bytes units name) ≡ entry_name units unit entry → cleaned made ≡ entry_name units unit entry
 name_made units name unit entry made is same = ap cleaned is ∙ cleaned_again (name_bytes units name) ∙ same
 
--- the records of a piece after one another
+-- The records of a piece, one after the other.
 lines_fit : (base : ℕ) (row : List ℕ) (i : ℕ) (runs : List LineRun) → list_all fields_fit (map (line_by base row) runs) ≡ true → first_bad_from i Function (map (line_by base row) runs) ≡ None
 lines_fit base row i [] fit = none_here i Function
 lines_fit base row i (r ∷ runs) fit =
@@ -47,7 +47,7 @@ copies_fit base numbers units unit i (r ∷ copies) row runs fit lines =
     let halves = and_true fit in
     from_here i Function (inline_by base numbers units unit r) (map (inline_by base numbers units unit) copies ++ map (line_by base row) runs) refl halves.0 (copies_fit base numbers units unit (i + 1) copies row runs halves.1 lines)
 
--- the text of a piece: its own record, those of its inlined copies, and those of its lines
+-- The text of a piece: its own record, those of its inlined copies, and those of its lines.
 pub part_added : (base : ℕ) (numbers : Numbers) (units : List UnitRead) (piece : Piece) (copies : List InlineParts) (lines : List LineRun) (full old owned copied last new : List ℕ) → owned ≡ old ++ canon (func_record base units piece) → copied ≡ owned ++ canon_text (map (inline_by base numbers units piece.unit) copies) → last ≡ copied ++ canon_text (map (line_by base (row_of numbers.rows.now piece.unit)) lines) → new ≡ full ++ last
     → fields_fit (func_record base units piece) ≡ true → list_all fields_fit (map (inline_by base numbers units piece.unit) copies) ≡ true → list_all fields_fit (map (line_by base (row_of numbers.rows.now piece.unit)) lines) ≡ true → AreLineRuns units piece lines → piece.end < 2 ^ 64 → AddsPart base numbers units piece copies (full ++ old) new
 part_added base numbers units piece copies lines full old owned copied last new owner inlined runs all fit copies_good lines_good are ends =
@@ -64,7 +64,7 @@ part_added base numbers units piece copies lines full old owned copied last new 
       below = ends;
     }
 
--- a piece more
+-- One piece more.
 text_part : (base : ℕ) (numbers : Numbers) (units : List UnitRead) (parts : List Part) (p : Part) → parts_by base numbers units (parts ++ p ∷ []) ≡ parts_by base numbers units parts ++ part_by base numbers units p
 text_part base numbers units [] p = append-nil (part_by base numbers units p)
 text_part base numbers units (q ∷ parts) p =

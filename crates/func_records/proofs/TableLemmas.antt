@@ -19,7 +19,7 @@ use Rattle.func_records.specs.declared.text_numbers.Numbering.TheVariants as by
 use Rattle.func_records.proofs.ListLemmas.{take_more}
 use Rattle.func_records.proofs.CanonLemmas.{canon_none, canon_join, canon_more, none_here}
 
--- a record more
+-- One record more.
 lines_push : (made : ℕ → List ℕ → SymLine) (k : ℕ) (texts : List (List ℕ)) (text : List ℕ) → numbered_lines made k (texts ++ text ∷ []) ≡ numbered_lines made k texts ++ made (k + length texts) text ∷ []
 lines_push made k [] text = ap (λ n. made n text ∷ []) (omega arith)
 lines_push made k (t ∷ texts) text =
@@ -52,7 +52,7 @@ line_text made xs n x full old mid last after new clean is so added all turned =
     ∙ sym (canon_join front (made n x.now ∷ []))
     ∙ sym (ap canon_text (lines_more made (bytes_of xs) n x.now text)))
 
--- such a record may stand anywhere
+-- Such a record may be anywhere in a text.
 pub stands_inside : (numbering : Numbering) (number : ℕ) (text : List ℕ) → fits Inside (numbered numbering number text) ≡ true
 stands_inside by.Files number text = refl
 stands_inside by.Origins number text = refl

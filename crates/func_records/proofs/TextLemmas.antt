@@ -40,7 +40,7 @@ once_same xs ys zs moved once = rw (dedup_is text_eq ys zs once) (record {
   all = λ t has. Any-dedup text_equiv ys t (Contains-permutation xs ys t moved has);
 })
 
--- texts with their places, in the order of the texts
+-- Texts with their places, in the order of the texts.
 abbrev placed_cmp : Bor (List ℕ) × ℕ → Bor (List ℕ) × ℕ → Ordering
 placed_cmp x y = ordering_then (text_cmp x.0 y.0) (nat_cmp x.1 y.1)
 
@@ -83,7 +83,7 @@ found_text (x ∷ xs) (suc n) t within is = found_text xs n t (omega arith) is
 not_falling : (x y : Bor (List ℕ)) → text_cmp x y ≡ Less → is_lt (text_cmp y x) ≡ false
 not_falling x y less = ap is_lt (text_total.antisymm y x ∙ ap ordering_reverse less)
 
--- strictly sorted texts are sorted
+-- Strictly sorted texts are sorted.
 strict_sorted : (xs : List (Bor (List ℕ))) → IsStrictlySortedBy text_cmp xs → (k : ℕ) (d : Bor (List ℕ)) → 0 ≤ k → k + 1 < length xs → is_lt (text_cmp (slice_index_or xs (k + 1) d) (slice_index_or xs k d)) ≡ false
 unfolding IsStrictlySortedBy
 strict_sorted [] strict k d low within = absurd (omega arith)
@@ -93,7 +93,7 @@ strict_sorted (x ∷ y ∷ xs) strict (suc k) d low within =
     (let next : suc k + 1 ≡ suc (k + 1) = omega arith in
     ap (λ n. is_lt (text_cmp (slice_index_or (x ∷ y ∷ xs) n d) (slice_index_or (y ∷ xs) k d))) next ∙ strict_sorted (y ∷ xs) strict.1 k d (omega arith) (omega arith))
 
--- where a binary search found no place, no such text is there
+-- If a binary search finds no place, the text is not there.
 pub none_there : (xs : List (Bor (List ℕ))) (t : Bor (List ℕ)) (i : ℕ) → IsStrictlySortedBy text_cmp xs → (IsNonDecreasingBy (λ y. ordering_index (text_cmp y t)) xs → IsPartitionPoint (λ y. text_cmp y t ≡ Less) (λ y. text_cmp y t ≡ Greater) xs i) → Any (λ u. bytes_eq t.now u.now ≡ true) xs → ⊥
 none_there xs t i strict position any =
     let rises : IsNonDecreasingBy (λ y. ordering_index (text_cmp y t)) xs = searchable_from_sorted text_total (λ y. y) xs t (strict_sorted xs strict) in

@@ -1,4 +1,4 @@
--- The texts in use: they are sorted, the same as those that were gathered, and cleaned.
+-- The texts in use: they are sorted, they are the texts that were gathered, and they are cleaned.
 use Rattle.std.proofs.Common.{◌≡◌, ℕ, zero, suc, ◌<◌, Bool, true, false, ◌||◌, map, length, List, [], ◌∷◌, Option, None, Some, unwrap_or, arith, refl, sym, ap, ◌∙◌, Bor}
 use Rattle.std.specs.List.{slice_get, list_any, AllByRecursion}
 use Rattle.std.specs.List.Sorted.{IsStrictlySortedBy}
@@ -33,7 +33,7 @@ omitted_clean : cleaned no_path ≡ no_path
 unfolding cleaned no_path
 omitted_clean = omitted_again 65536 (omega arith)
 
--- sorted texts by their bytes
+-- Sorted texts are sorted by their bytes.
 all_below : (x : Bor (List ℕ)) (xs : List (Bor (List ℕ))) → AllByRecursion (λ y. text_cmp x y ≡ Less) xs → AllByRecursion (λ y. slice_cmp nat_cmp x.now y ≡ Less) (bytes_of xs)
 all_below x [] below = tt
 all_below x (y ∷ xs) below = (below.0, all_below x xs below.1)
@@ -47,7 +47,7 @@ pub bytes_had : (xs : List (Bor (List ℕ))) (path : List ℕ) → list_any (byt
 bytes_had [] path = refl
 bytes_had (x ∷ xs) path = ap (λ b. bytes_eq path x.now || b) (bytes_had xs path)
 
--- the texts of paths
+-- The texts of paths.
 pub paths_had : (units : List UnitRead) (refs : List PathRef) (used : List (Bor (List ℕ))) (path : List ℕ) → bytes_of used ≡ map (path_at units) refs → has_text used path ≡ has_path units refs path
 paths_had units refs used path are = sym (bytes_had used path) ∙ ap (list_any (bytes_eq path)) are ∙ any_mapped refs
   where
@@ -58,7 +58,7 @@ paths_had units refs used path are = sym (bytes_had used path) ∙ ap (list_any 
 pub texts_gathered : (units : List UnitRead) (pieces : List Piece) (held : List (List InlineParts)) (refs : List PathRef) (used : List (Bor (List ℕ))) → ((path : List ℕ) → has_text used path ≡ has_path units refs path) → Gathered units pieces held (has_path units refs) → Gathered units pieces held (has_text used)
 texts_gathered units pieces held refs used are so = record { parts = so.parts; pieces_are = so.pieces_are; copies_are = so.copies_are; lines_are = so.lines_are; known = so.known; same = λ path. are path ∙ so.same path }
 
--- the same texts
+-- Both lists have the same texts.
 same_true : (a b : Bool) → (a ≡ true → b ≡ true) → (b ≡ true → a ≡ true) → a ≡ b
 same_true true true there back = refl
 same_true true false there back = sym (there refl)
@@ -81,7 +81,7 @@ had_all xs ys path same had =
 pub same_used : (xs ys : List (Bor (List ℕ))) (path : List ℕ) → SameTexts xs ys → list_any (bytes_eq path) (bytes_of ys) ≡ has_text xs path
 same_used xs ys path same = bytes_had ys path ∙ same_true (has_text ys path) (has_text xs path) (had_from xs ys path same) (had_all xs ys path same)
 
--- the paths that records name are cleaned
+-- The paths that records name are cleaned.
 clean_at : (paths : List (List ℕ)) (n : ℕ) → n < length paths → AreClean paths → cleaned (unwrap_or (slice_get paths n) []) ≡ unwrap_or (slice_get paths n) []
 clean_at [] n below clean = absurd (omega arith)
 clean_at (p ∷ paths) zero below clean = clean.0
@@ -135,7 +135,7 @@ pub paths_clean : (units : List UnitRead) (pieces : List Piece) (held : List (Li
 paths_clean units pieces held used sorted clean gathered same =
     each_clean (bytes_of sorted) (λ path had. part_clean units gathered.parts path clean gathered.lines_are gathered.known (sym (gathered.same path) ∙ sym (same_used used sorted path same) ∙ had))
 
--- the names that entries give are cleaned
+-- The names that entries give are cleaned.
 any_clean : (texts : List (List ℕ)) (text : List ℕ) → AreClean texts → list_any (bytes_eq text) texts ≡ true → cleaned text ≡ text
 any_clean [] text clean had = absurd (cc)
 any_clean (t ∷ texts) text clean had =

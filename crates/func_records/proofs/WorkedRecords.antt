@@ -1,4 +1,4 @@
--- Worked rows: the call paths of inlined copies, and the records of a piece with its copies.
+-- Worked examples: the call paths of inlined copies, and the records of a piece with its copies.
 use Rattle.std.proofs.Common.{◌≡◌, ℕ, false, List, [], ◌∷◌, Option, Some, None, codes, refl}
 use Rattle.sym_edges.specs.Addresses.{Range}
 use Rattle.sym_records.specs.declared.line.SymLine.TheVariants.{File, Origin, Func, Inline, Line}
@@ -10,17 +10,17 @@ use Rattle.func_flatten.proofs.Computing.{func_flatten_computes}
 use Rattle.func_records.specs.FuncRecords.{Part, call_path, number_in, file_lines, origin_lines, part_lines}
 use Rattle.debug_units.specs.CallPaths.{no_path, path_of_call}
 
--- an entry with this tag, this linkage name, and a call of this file and line
+-- An entry with this tag and this linkage name, and with a call in this file and line.
 unfoldable entry : ℕ → List ℕ → Option ℕ → ℕ → DieFields
 entry tag name file line = record (bare_entry tag) { parent = Some 0; linkage = Some name; call_file = file; call_line = line }
 
--- a unit of a function and three inlined copies, whose files are numbered from `first`
+-- A unit with a function and three inlined copies, whose files are numbered from `first` on.
 unfoldable unit : ℕ → UnitRead
 unit first = record (bare_unit (entry 0x2e (codes "f") None 0 ∷ entry 0x1d (codes "g") (Some 1) 7 ∷ entry 0x1d (codes "h") None 0 ∷ entry 0x1d (codes "g") (Some 0) 8 ∷ []) []) {
   lines = record { lines = record { stops = []; values = [] }; paths = codes "b.h" ∷ codes "a.c" ∷ []; first = first; files = 1 ∷ 0 ∷ [] };
 }
 
--- files are numbered from 1 in the first unit, and from 0 in the second
+-- Files are numbered from 1 in the first unit, and from 0 in the second.
 unfoldable units : List UnitRead
 units = unit 1 ∷ unit 0 ∷ []
 
@@ -36,7 +36,7 @@ without_a_file : call_path units 0 2 ≡ codes "<name omitted>"
 unfolding units unit entry func_flatten_computes no_path path_of_call
 without_a_file = refl
 
--- file 0 is in a table whose files are numbered from 0, and in no other
+-- File 0 is only in a table whose files are numbered from 0.
 file_zero : call_path units 0 3 ≡ codes "<name omitted>"
 unfolding units unit entry func_flatten_computes no_path path_of_call
 file_zero = refl
@@ -59,7 +59,7 @@ part = record {
   lines = record { start = 0x1010; end = 0x1050; path = 0; line = 3 } ∷ [];
 }
 
--- numbers by the order of bytes, and the base taken off all addresses
+-- Numbers are in the order of bytes, and the base is subtracted from all addresses.
 unfoldable paths : List (List ℕ)
 paths = codes "<name omitted>" ∷ codes "a.c" ∷ codes "b.h" ∷ []
 

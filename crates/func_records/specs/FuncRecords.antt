@@ -96,7 +96,7 @@ names_path units path p =
 abbrev pub names_origin : List UnitRead → List ℕ → Part → Bool
 names_origin units name p = list_any (λ (r : InlineParts). bytes_eq name (entry_name units p.piece.unit r.entry)) p.copies
 
--- the texts that some record of the parts names, in the order of their bytes, once each
+-- the texts that some record of the parts names, in the order of their bytes, each once
 pub record AreUsed (named : List ℕ → Part → Bool) (parts : List Part) (texts : List (List ℕ)) : Type 0 where
   pub sorted : IsStrictlySortedBy (slice_cmp nat_cmp) texts
   pub same : (text : List ℕ) → list_any (bytes_eq text) texts ≡ list_any (named text) parts

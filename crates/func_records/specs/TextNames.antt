@@ -1,4 +1,4 @@
--- What a text with these records names at each address.
+-- What a look-up names at each address of a text with the records of functions.
 use Rattle.std.specs.Prelude.{◌≡◌, ℕ, ◌+◌, List, map, Option, Some}
 use Rattle.std.specs.Option.{option_map}
 use Rattle.sym_records.specs.declared.line.SymLine.{SymLine}

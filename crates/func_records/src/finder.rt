@@ -48,7 +48,7 @@ struct FinderScratch {
     levels: LevelLists,
 }
 
-/// Units and pieces. The pieces' copies and what they name are found share by share.
+/// A job that finds, share by share, the inlined copies of pieces and what they name.
 #[derive(Drop)]
 struct ShareFinder<'t, 'u, 'a> {
     trees: &'t InlineTrees<'u, 'a>,
@@ -83,7 +83,7 @@ impl<'t, 'u, 'a> ShareFinder<'t, 'u, 'a> {
         }
     }
 
-    /// What is found for some pieces.
+    /// Finds the copies of some pieces, and what they name.
     fn find(
         &self,
         alloc: Global,
@@ -130,7 +130,7 @@ impl<'t, 'u, 'a> UnitJob for ShareFinder<'t, 'u, 'a> {
     }
 }
 
-/// What is found for all pieces by a crew of workers.
+/// Finds the copies of all pieces and what they name, by a crew of workers.
 pub fn find_shares<R: Threads + Sync>(
     crew: &Crew<'_, R>,
     units: &Units<'_>,

@@ -48,12 +48,14 @@ fn add_names<R: Threads + Sync>(
     Ok(numbers)
 }
 
-/// Adds the records of functions (Breakpad's symbol_files.md) to a text, and returns the text. First come a FILE record for each path that a line
-/// record or a call names, and an INLINE_ORIGIN record for each name of an inlined function. Both kinds are sorted by bytes and numbered from 0. Then
-/// each piece has its FUNC record, an INLINE record for each inlined copy on the chains of its addresses, and a line record for each run of its
-/// lines. The base is subtracted from all addresses. Inlined copies are kept from the first pass to the second. Line runs are made when they are
-/// spelled, and are not kept. A crew of workers finds the copies and what they name, numbers the paths, and spells the records; the number of workers
-/// changes nothing.
+/// Adds the records of functions (Breakpad's symbol_files.md) to a text, and returns the text.
+/// First come a FILE record for each path that a line record or a call names, and an INLINE_ORIGIN
+/// record for each name of an inlined function. Both kinds are sorted by bytes and numbered from 0.
+/// Then each piece has its FUNC record, an INLINE record for each inlined copy on the chains of its
+/// addresses, and a line record for each run of its lines. The base is subtracted from all
+/// addresses. Inlined copies are kept from the first pass to the second. Line runs are made when
+/// they are spelled, and are not kept. A crew of workers finds the copies and what they name,
+/// numbers the paths, and spells the records; the text does not depend on the number of workers.
 pub fn add_functions<R: Threads + Sync>(
     crew: &Crew<'_, R>,
     base: u64,

@@ -14,7 +14,7 @@ use std::alloc::Global;
 use std::cmp::Ordering;
 use sym_edges::OutOfMemory;
 
-/// The number of slots.
+/// The number of places that are remembered.
 const SLOTS: usize = 32768;
 
 /// How many bytes at the end of a text distinguish it from most others.
@@ -40,7 +40,7 @@ fn compare_at(sorted: &[&[u8]], place: usize, text: &[u8]) -> Option<Ordering>
     }
 }
 
-/// 0 if a text would be directly before the one at a place: then it is none of the texts.
+/// 0, if a text would be directly before the one at a place, and so is none of the sorted texts.
 #[tactic(auto, using(crate::proofs::GapLemmas::none_in_front, crate::proofs::GapLemmas::none_between))]
 fn zero_before(sorted: &[&[u8]], place: u32, text: &[u8]) -> Option<u32>
     requires sorted { IsStrictlySortedBy text_cmp sorted.now }
@@ -56,7 +56,8 @@ fn zero_before(sorted: &[&[u8]], place: u32, text: &[u8]) -> Option<u32>
     }
 }
 
-/// The number of a text, if it is at a place or would be there.
+/// The number of a text, if it is at a place; 0, if it is missing and would be at that place;
+/// otherwise none.
 #[tactic(auto, using(crate::proofs::GapLemmas::number_equal))]
 fn number_near(sorted: &[&[u8]], place: u32, text: &[u8]) -> Option<u32>
     requires sorted { IsStrictlySortedBy text_cmp sorted.now }
@@ -70,7 +71,7 @@ fn number_near(sorted: &[&[u8]], place: u32, text: &[u8]) -> Option<u32>
     }
 }
 
-/// Where a text is, or would be.
+/// The place of a text among the sorted texts, or the place where it would be.
 fn place_of(sorted: &[&[u8]], text: &[u8]) -> u32 {
     let place = match sorted.binary_search(&text) {
         Ok(place) => place,

@@ -11,8 +11,8 @@ ghost use Rattle.func_flatten.specs.Pieces.{ArePieces};
 ghost use Rattle.func_records.specs.FuncRecords.{AreFuncRecords, BeginAbove, EndBelow};
 ghost use Rattle.func_records.specs.TextNames.{Names};
 
-/// In a text with the records of the units' functions, a look-up names the owner, the inlined copies and the line of each address, and nothing if
-/// there is none.
+/// In a text with the records of the units' functions, a look-up names the owner, the inlined
+/// copies and the line of each address; if there is no owner, no copy or no line, it names none.
 pub fn names_are_kept()
     ensures { (base : ℕ) (units : List UnitRead) (pieces : List Piece) (front records behind : List SymLine) → ArePieces units pieces → BeginAbove base pieces → AreFuncRecords base units pieces records → ArePlain front → HaveNoFile front → HaveNoOrigin front → ArePlain behind → (x : ℕ) → Names base units (front ++ (records ++ behind)) x }
 {}

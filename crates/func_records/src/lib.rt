@@ -7,8 +7,9 @@
 //! text that has them: at each address the function that owns it, the calls that are inlined there, and its line in the file
 //! (`laws::names_are_kept`). A checker finds nothing in such a text (`laws::records_have_no_findings`).
 //!
-//! To read: `functions` first, then `shares`, `found` and `finder`; `origin_refs`, `made_names` and `names`; `calls`, `path_list`, `line_paths`,
-//! `call_paths` and `paths`; `text_ranks`, `gaps`, `numbers` and `path_rows`; `text_numbers`, `inlines` and `parts`; and `speller`.
+//! The modules are best read in this order: `functions`; `shares`, `found`, `finder`;
+//! `origin_refs`, `made_names`, `names`; `calls`, `path_list`, `line_paths`, `call_paths`, `paths`;
+//! `text_ranks`, `gaps`, `numbers`, `path_rows`; `text_numbers`, `inlines`, `parts`; `speller`.
 #![tactic(auto)]
 
 mod call_paths;

@@ -22,7 +22,7 @@ fn note_line(unit: u32, line: Option<(u32, u32)>, paths: &mut PathList) -> Resul
     Ok(())
 }
 
-/// Whether there are two lines with the same path.
+/// Whether both lines exist and have the same path.
 #[tactic(auto, using(crate::proofs::LinePathLemmas::one_number))]
 fn share_path(line: Option<(u32, u32)>, next: Option<(u32, u32)>) -> bool
     ensures { result ≡ true → (units : List UnitRead) (unit : ℕ) (path : List ℕ) → has_line units unit line path ≡ has_line units unit next path }
@@ -36,7 +36,8 @@ fn share_path(line: Option<(u32, u32)>, next: Option<(u32, u32)>) -> bool
     }
 }
 
-/// Adds the path of a line, unless the next line has the same path: then it is left to that line.
+/// Adds the path of a line, unless the next line has the same path: then the path is added with
+/// that line.
 #[tactic(auto, using(crate::proofs::LinePathLemmas::left_to_next, crate::proofs::LinePathLemmas::noted_now))]
 fn note_before(
     unit: u32,

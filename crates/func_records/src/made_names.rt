@@ -59,14 +59,14 @@ impl<'a> MadeName<'a> {
     }
 }
 
-/// Names, mostly once each, and for each given name its place among them.
+/// Names, most of them once each, and for each given name its place among them.
 #[derive(Drop)]
 pub struct DistinctNames<'t> {
     pub texts: Vec<&'t [u8]>,
     pub places: Vec<u32>,
 }
 
-/// Names once each, except perhaps for names whose keys collide.
+/// The given names, each once. Only if keys collide, a name may be there several times.
 pub fn distinct_names<'t>(
     alloc: Global,
     names: &'t [MadeName<'_>],

@@ -52,7 +52,7 @@ fn make_names<'a>(
     Ok(texts)
 }
 
-/// Entries whose names are made share by share.
+/// A job that makes the names of entries, share by share.
 #[derive(Drop)]
 struct NameMaker<'t, 'a> {
     units: &'t Units<'a>,

@@ -88,7 +88,7 @@ pub fn numbers_of(
     Ok(numbers)
 }
 
-/// The numbers at some places.
+/// The numbers at some places; 0 for a place after the end.
 pub fn numbers_at(alloc: Global, numbers: &[u32], places: &[u32]) -> Result<Vec<u32>, OutOfMemory>
     ensures { IfOk result (λ found. found.items ≡ map (λ k. unwrap_or (slice_get numbers.now k) 0) places.now) }
 {

@@ -13,10 +13,11 @@ use std::alloc::Global;
 use std::marker::Model;
 use sym_edges::OutOfMemory;
 
-/// The number of slots for the entries of a share.
+/// The number of guesses for the entries of a share.
 const SLOTS: usize = 8192;
 
-/// References to entries that name functions, mostly once each, and for each added reference its place among them.
+/// References to entries that name functions, most of them once each, and for each added reference
+/// its place among them.
 #[derive(Drop)]
 pub struct OriginRefs {
     refs: Vec<NameRef>,
@@ -38,7 +39,7 @@ fn key_of(name: NameRef) -> u64 {
 }
 
 impl OriginRefs {
-    /// No references yet, and this many slots.
+    /// No references yet, with room for this many guesses.
     pub fn new(alloc: Global, slots: usize) -> Result<OriginRefs, OutOfMemory>
         ensures { IfOk result (λ origins. origins ≡ record { refs = []; places = [] }) }
     {
@@ -64,7 +65,7 @@ impl OriginRefs {
         (refs, places)
     }
 
-    /// Adds the place of a reference, given its slot.
+    /// Adds the place of a reference, given where its guess is.
     fn add(&mut self, slot: usize, name: NameRef) -> Result<(), OutOfMemory>
         ensures { OnOk result ((units : List UnitRead) (names : List (List ℕ)) → RefsSay units self.old names → RefsSay units self.new (names ++ made_name units name ∷ [])) }
     {

@@ -21,7 +21,7 @@ pub struct PathRef {
     pub path: Option<u32>,
 }
 
-/// Paths, mostly once each.
+/// Paths, most of them once each.
 #[derive(Drop)]
 pub struct PathList {
     refs: Vec<PathRef>,
@@ -78,7 +78,8 @@ fn key_of(at: PathRef) -> u64 {
     }
 }
 
-/// The slot of a path. `starts` has for each unit the number of paths in the units before it, plus 1. Slot 0 is for unknown paths.
+/// Where the guess for a path is. `starts` has for each unit the number of paths in the units
+/// before it, plus 1. The guess for unknown paths is at 0.
 fn own_slot(starts: &[usize], at: PathRef) -> usize {
     let Some(path) = at.path else {
         return 0;
@@ -90,7 +91,7 @@ fn own_slot(starts: &[usize], at: PathRef) -> usize {
 }
 
 impl PathList {
-    /// No paths yet, and this many slots.
+    /// No paths yet, with room for this many guesses.
     pub fn new(alloc: Global, slots: usize) -> Result<PathList, OutOfMemory>
         ensures { IfOk result (λ list. list ≡ []) }
     {
@@ -112,7 +113,7 @@ impl PathList {
         refs
     }
 
-    /// Adds a path, given its slot, unless it is known to be there.
+    /// Adds a path, given where its guess is, unless it is known to be in the list.
     #[tactic(auto, using(crate::proofs::PathLemmas::path_known, crate::proofs::PathLemmas::path_added))]
     fn put(&mut self, slot: usize, at: PathRef) -> Result<(), OutOfMemory>
         ensures { OnOk result ((units : List UnitRead) (path : List ℕ) → has_path units self.new path ≡ (has_path units self.old path || bytes_eq path (path_at units at))) }
@@ -121,7 +122,7 @@ impl PathList {
         Ok(())
     }
 
-    /// Adds a path, unless it is known to be there.
+    /// Adds a path, unless it is known to be in the list.
     pub fn add(&mut self, at: PathRef) -> Result<(), OutOfMemory>
         ensures { OnOk result ((units : List UnitRead) (path : List ℕ) → has_path units self.new path ≡ (has_path units self.old path || bytes_eq path (path_at units at))) }
     {
@@ -129,7 +130,7 @@ impl PathList {
         self.put(slot, at)
     }
 
-    /// Adds paths, each with a slot of its own, which `own_slot` finds by `starts`.
+    /// Adds paths. Each has a guess of its own, which `own_slot` finds by `starts`.
     pub fn add_all(&mut self, starts: &[usize], refs: &[PathRef]) -> Result<(), OutOfMemory>
         ensures { OnOk result ((units : List UnitRead) (path : List ℕ) → has_path units self.new path ≡ (has_path units self.old path || has_path units refs.now path)) }
     {

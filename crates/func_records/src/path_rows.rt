@@ -38,7 +38,7 @@ fn number_row(
     Ok(ListOf::of(row))
 }
 
-/// Units whose paths are numbered among sorted texts.
+/// A job that numbers the paths of units among sorted texts, unit by unit.
 #[derive(Drop)]
 struct RowMaker<'s, 'a> {
     units: &'s Units<'a>,

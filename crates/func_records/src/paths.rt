@@ -14,7 +14,7 @@ use inline_chain::InlineRun;
 use std::alloc::Global;
 use sym_edges::OutOfMemory;
 
-/// The number of slots for the paths of a share.
+/// The number of guesses for the paths of a share.
 const SLOTS: usize = 4096;
 
 /// Adds the paths of a piece.
@@ -76,7 +76,7 @@ fn path_starts(alloc: Global, units: &Units<'_>) -> Result<(Vec<usize>, usize), 
     Ok((starts, count))
 }
 
-/// The paths that were found, once each.
+/// The paths that were found, each once.
 fn join_paths(
     alloc: Global,
     units: &Units<'_>,

@@ -43,7 +43,8 @@ fn split_numbers<'n>(
     Ok(split)
 }
 
-/// What is spelled share by share: the pieces, what was found for them, and the numbers of the names that the entries found there give.
+/// A job that spells records share by share: the pieces, what was found for them, and the numbers
+/// of the names that the entries found there give.
 #[derive(Drop)]
 struct Speller<'s, 'u, 'a, 'n> {
     writer: &'s FuncWriter<'u, 'a, 'n>,

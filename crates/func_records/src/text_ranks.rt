@@ -9,7 +9,8 @@ use sym_edges::OutOfMemory;
 /// A text, and its place among the given texts.
 type PlacedText<'t> = (&'t [u8], u32);
 
-/// Texts in the order of their bytes, once each; and for each given text the place that it should have among them.
+/// Texts in the order of their bytes, each once; and for each given text the place that it should
+/// have among them.
 #[derive(Drop)]
 pub struct RankedTexts<'t> {
     pub sorted: Vec<&'t [u8]>,
@@ -40,7 +41,8 @@ fn bare_texts<'t>(alloc: Global, placed: &[PlacedText<'t>]) -> Result<Vec<&'t [u
     Ok(texts)
 }
 
-/// The place of each text among the sorted texts, each of which is there once. It only says where a text is looked for first.
+/// The place of each text among the sorted texts, each of which is there once. A place is only used
+/// as a guess: the text is looked for there first.
 fn guess_places(alloc: Global, placed: &[PlacedText<'_>]) -> Result<Vec<u32>, OutOfMemory> {
     let mut guesses = vec![in alloc; 0; placed.len()]?;
     let mut last = match placed.first() {
@@ -61,7 +63,7 @@ fn guess_places(alloc: Global, placed: &[PlacedText<'_>]) -> Result<Vec<u32>, Ou
     Ok(guesses)
 }
 
-/// The texts in the order of their bytes, once each.
+/// The texts in the order of their bytes, each once.
 pub fn ranked_texts<'t>(alloc: Global, texts: &[&'t [u8]]) -> Result<RankedTexts<'t>, OutOfMemory>
     ensures sorted { IfOk result (λ ranked. IsStrictlySortedBy text_cmp ranked.sorted.items) }
     ensures same { IfOk result (λ ranked. SameTexts texts.now ranked.sorted.items) }

@@ -1,4 +1,4 @@
--- For `covers_of`: stretches that follow one another are their own covers.
+-- Stretches that follow one another are their own covers; for `fill_covers`.
 use Rattle.std.proofs.Common.{◌≡◌, ◌<◌, ◌+◌, ◌^◌, ◌&&◌, nat_le, nat_lt, ℕ, Bool, true, false, if◌then◌else◌, List, [], ◌∷◌, ◌++◌, length, map, Option, None, Some, ◌≤◌, refl, sym, ap, subst, ◌∙◌, arith}
 use Rattle.std.specs.List.{AllByRecursion}
 use Rattle.std.specs.List.Sorted.{IsPermutation}
@@ -19,7 +19,7 @@ both : (x y : Bool) → (x && y) ≡ true → (x ≡ true) × (y ≡ true)
 both true y is = (refl, is)
 both false y is = absurd (cc)
 
--- the runs stand apart
+-- Their covers are runs that do not touch with the same index.
 follow_runs : (s t : Stretch) (items : List Stretch) → follows s t ≡ true → Follows (cover_run (own_cover s)) (map cover_run (map own_cover (t ∷ items)))
 follow_runs s t items is = (grind (arith, nat_tests, is), λ touch same. grind (arith, nat_tests, is, touch, same))
 
@@ -33,7 +33,7 @@ apart_all : (items : List Stretch) → AreFit items → apart items ≡ true →
 apart_all [] fit is = tt
 apart_all (s ∷ items) fit is = apart_by s items fit is
 
--- and have the first stretch's index at each address
+-- The covers have the index of the first stretch at each address.
 one_run : (s : Stretch) (a : ℕ) (index later : Option ℕ) → s.last + 1 < 2 ^ 64
     → later ≡ (if nat_le 0 a && nat_lt a 18446744073709551616 then index else None)
     → (if nat_le s.first a && nat_lt a (s.last + 1) then Some s.index else later) ≡ (if nat_le 0 a && nat_lt a 18446744073709551616 then (if reaches s a then Some s.index else index) else None)
@@ -56,7 +56,8 @@ apart_runs items covers fit is same = rw same (record { apart = apart_all items 
 pub covers_run : (items : List Stretch) (covers : List Cover) → AreCovers items covers → IsRuns (between 0 18446744073709551616 (index_at items)) (map cover_run covers)
 covers_run items covers are = are.runs
 
--- sorted stretches that stand apart have the first stretch's index of those that were not sorted
+-- Sorting does not change the first stretch at an address, if the sorted stretches follow one
+-- another.
 none_after : (s : Stretch) (items : List Stretch) (a : ℕ) → AreFit items → a ≤ s.last → apart_from s items ≡ true → AllByRecursion (λ (t : Stretch). reaches t a ≡ false) items
 none_after s [] a fit below is = tt
 none_after s (t ∷ items) a fit below is =

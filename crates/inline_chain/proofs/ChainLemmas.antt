@@ -1,4 +1,4 @@
--- The chain, level by level.
+-- The chain of an address, level by level.
 use Rattle.std.proofs.Common.{◌≡◌, ℕ, zero, suc, ◌+◌, ◌≤◌, ◌==◌, ◌&&◌, Bool, true, false, if◌then◌else◌, List, [], ◌∷◌, Option, None, Some, option_and_then, arith, refl, sym, ap, subst, ◌∙◌}
 use Rattle.std.proofs.lemmas.Bool.{cond-false, ne_eqb}
 use Rattle.std.specs.List.{find, slice_get}
@@ -16,7 +16,7 @@ use Rattle.inline_chain.specs.Trees.{is_number, first_child, child_at}
 use Rattle.inline_chain.specs.internal.Levels.{child_under, depth_at}
 use Rattle.inline_chain.proofs.InsideLemmas.{IsBelow, inside_below}
 
--- it is an inlined copy directly in an entry, and has the address
+-- Whether an entry is an inlined copy directly in an entry and has the address.
 abbrev is_child : List DieFields → ℕ → ℕ → Covering → Bool
 is_child dies a entry c = is_inlined c.die && (holds_any c.spans a && option_map_or (λ e. e == entry) (inside_of dies c.entry c.die.parent) false)
 
@@ -29,11 +29,11 @@ and_false true true r is = is
 and_false true false r is = refl
 and_false false q r is = refl
 
--- an entry stands in none after it
+-- An entry is not in an entry after it.
 not_child : (dies : List DieFields) (a e : ℕ) (c : Covering) → c.entry ≤ e → is_child dies a e c ≡ false
 not_child dies a e c above = and_false (is_inlined c.die) (holds_any c.spans a) _ (not_above e c.entry (inside_of dies c.entry c.die.parent) (inside_below dies c.entry c.die.parent) above)
 
--- the entries are numbered
+-- The entries are numbered.
 abbrev Numbered : ℕ → List Covering → Type 0
 Numbered n [] = Prim.Unit {0}
 Numbered n (c ∷ cs) = (c.entry ≡ n) × Numbered (n + 1) cs
@@ -59,7 +59,7 @@ found_from t n (c ∷ cs) is = go (t c) (omega (arith, is.0)) (from_less n (find
     go true here later = here
     go false here later = later
 
--- the first copy, and those in it
+-- The first copy, followed by the copies in it.
 abbrev chain_step : List DieFields → ℕ → List Covering → Option Covering → List Covering
 chain_step dies a cs None = []
 chain_step dies a cs (Some c) = c ∷ chain_from dies a c.entry cs
@@ -86,7 +86,7 @@ number_is : (e : ℕ) (o : Option ℕ) → option_map_or (λ x. x == e) o false 
 number_is e None = refl
 number_is e (Some x) = refl
 
--- the first copy directly in an entry, by its number
+-- The first copy directly in an entry, by its number.
 first_is : (all : List DieFields) (a e unit n : ℕ) (dies : List DieFields) (sets : List (List Range)) → option_map (λ c. c.entry) (find (is_child all a e) (unit_covering unit n dies sets)) ≡ first_child all a e n dies sets
 first_is all a e unit n [] sets = refl
 first_is all a e unit n (die ∷ dies) [] = refl
@@ -101,7 +101,7 @@ first_is all a e unit n (die ∷ dies) (spans ∷ sets) =
     go true later = refl
     go false later = later
 
--- the levels, from an entry on
+-- The entry at each depth below an entry.
 from_at : UnitRead → ℕ → ℕ → ℕ → Option ℕ
 from_at part a zero e = child_at part e a
 from_at part a (suc k) e = option_and_then (from_at part a k) (child_at part e a)
@@ -160,7 +160,7 @@ by_number : (entry : ℕ) (o : Option Covering) → option_map_or (λ c. c.entry
 by_number entry None = refl
 by_number entry (Some c) = refl
 
--- whether an entry is on the chain at a level, by its depth
+-- Whether an entry is on the chain at a level, given the entry at that depth.
 pub on_chain : (units : List UnitRead) (piece : Piece) (part : UnitRead) (level entry a : ℕ) → slice_get units piece.unit ≡ Some part
     → is_on_chain units piece level entry a ≡ (is_inside a piece && is_number entry (depth_at part piece.entry (level + 1) a))
 unfolding is_on_chain entry_chain copies

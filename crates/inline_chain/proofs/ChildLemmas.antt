@@ -1,4 +1,4 @@
--- The first inlined copy directly in an entry, by the stretches of all copies.
+-- The first inlined copy directly in an entry is that of the first stretch of its class.
 use Rattle.std.proofs.Common.{◌≡◌, ℕ, ◌+◌, ◌-◌, ◌==◌, ◌&&◌, ◌||◌, ◌++◌, Bool, true, false, if◌then◌else◌, nat_le, nat_lt, List, [], ◌∷◌, Option, None, Some, arith, refl, sym, ap, ◌∙◌}
 use Rattle.std.proofs.lemmas.Bool.{cond-true, cond-false}
 use Rattle.std.proofs.lemmas.Bool.Decides.{nat_tests}
@@ -25,7 +25,7 @@ index_first s items a = go (reaches s a)
     go true = refl
     go false = refl
 
--- the first of a set's stretches, or of those after
+-- The first stretch at an address is one of a set's, or one after these.
 spans_first : (n p : ℕ) (spans : List Range) (items : List Stretch) (a : ℕ) → IsCanonical spans → index_at (span_stretches n p spans ++ items) a ≡ (if holds_any spans a then Some n else index_at items a)
 spans_first n p [] items a canonical = refl
 spans_first n p (r ∷ spans) items a canonical =

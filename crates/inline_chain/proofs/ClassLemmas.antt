@@ -1,4 +1,4 @@
--- Stretches by their classes.
+-- Stretches, sorted by their classes.
 use Rattle.std.proofs.Common.{◌≡◌, ℕ, zero, suc, ◌+◌, ◌<◌, ◌≤◌, ◌==◌, ◌&&◌, ◌≢◌, ◌^◌, not, Bool, true, false, if◌then◌else◌, List, [], ◌∷◌, length, take, drop, get_or, arith, refl, sym, ap, subst, ◌∙◌, inl, inr}
 use Rattle.std.specs.List.{AllByRecursion}
 use Rattle.std.specs.List.Sorted.{IsNonDecreasingBy, IsStableByKey, IsPermutation, ties}
@@ -15,7 +15,7 @@ use Rattle.inline_chain.specs.internal.Copies.{of_class, SortedFrom, front_count
 pub tie_is : (v w : ℕ) → (not (is_lt (nat_cmp v w)) && not (is_lt (nat_cmp w v))) ≡ (w == v)
 tie_is v w = grind (arith, nat_tests)
 
--- a stable sort keeps those of each class in their order
+-- A stable sort keeps the order of the stretches of each class.
 pub same_sorted : (xs ys : List Stretch) → IsStableByKey (λ (s : Stretch). s.class) nat_cmp xs ys → (x : ℕ) → of_class x ys ≡ of_class x xs
 same_sorted xs ys stable x =
     let tied : Stretch = record { first = 0; last = 0; index = 0; class = x } in
@@ -68,12 +68,12 @@ front_inside x (s ∷ items) = go (s.class == x) (front_inside x items)
     go true less = omega (arith, less)
     go false less = omega arith
 
--- those of a class above the lowest
+-- Sorted stretches have none of a class below the lowest.
 none_low : (x low : ℕ) (items : List Stretch) → SortedFrom low items → x < low → of_class x items ≡ []
 none_low x low [] sorted above = refl
 none_low x low (s ∷ items) sorted above = cond-false _ _ _ (ne_eqb s.class x (λ (is : s.class ≡ x). absurd (omega (arith, sorted.0)))) ∙ none_low x s.class items sorted.1 (omega (arith, sorted.0))
 
--- the front of a class
+-- The stretches of the first class are at the start.
 pub take_front : (x : ℕ) (items : List Stretch) → SortedFrom x items → take (front_count x items) items ≡ of_class x items
 unfolding front_count
 take_front x [] sorted = refl
@@ -87,7 +87,7 @@ take_front x (s ∷ items) sorted = elim (eqb_tells s.class x) [
       ∙ sym (cond-false _ _ _ is.0 ∙ none_low x s.class items sorted.1 (let less : x < s.class = omega (arith, sorted.0, is.1) in less))
 ]
 
--- and what is after it
+-- The stretches of other classes are after them.
 pub drop_front : (x y : ℕ) (items : List Stretch) → x ≢ y → of_class y (drop (front_count x items) items) ≡ of_class y items
 unfolding front_count
 drop_front x y [] other = refl
@@ -111,7 +111,7 @@ sorted_behind x (s ∷ items) sorted = elim (eqb_tells s.class x) [
       ((let less : x + 1 ≤ s.class = omega (arith, sorted.0, is.1) in less), sorted.1)
 ]
 
--- the front is counted
+-- The stretches at the start are counted.
 pub counted_one : (x : ℕ) (s : Stretch) (rest left items : List Stretch) (count : ℕ) → rest ≡ s ∷ left → s.class ≡ x → count + front_count x rest ≡ front_count x items → count + 1 + front_count x left ≡ front_count x items
 unfolding front_count
 counted_one x s rest left items count is same counted =

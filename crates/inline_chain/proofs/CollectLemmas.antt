@@ -1,4 +1,4 @@
--- What is collected of the inlined copies.
+-- The inlined copies that are collected.
 use Rattle.std.proofs.Common.{◌≡◌, ◌==◌, ℕ, zero, suc, ◌+◌, ◌<◌, ◌≤◌, ◌++◌, ◌&&◌, inl, inr, Bool, true, false, if◌then◌else◌, List, [], ◌∷◌, length, drop, Option, None, Some, unwrap_or, arith, refl, sym, ap, subst, ◌∙◌, ⊎_elim}
 use Rattle.std.proofs.lemmas.Bool.{cases_lt, cond-true, cond-false}
 use Rattle.std.proofs.lemmas.List.{append_assoc, append-nil, drop_more, drop_all}
@@ -30,7 +30,7 @@ got_none [] k is = omega arith
 got_none (y ∷ xs) zero is = absurd (cc)
 got_none (y ∷ xs) (suc k) is = (let outside : length xs ≤ k = got_none xs k is in omega arith)
 
--- what a list has from a number on
+-- The members of a list from an index on.
 dropped : {X : Type 0} (xs : List X) (k : ℕ) (x : X) → slice_get xs k ≡ Some x → drop k xs ≡ x ∷ drop (k + 1) xs
 dropped xs k x is = drop_more xs k x (got_inside xs k x is) ∙ ap (λ y. y ∷ drop (k + 1) xs) (taken xs k x x is)
 
@@ -66,7 +66,7 @@ inside_more all row k die above says is said = record {
       (cases_lt j k);
 }
 
--- the stretches of an entry, and those of the entries after
+-- The stretches of an entry, followed by those of the entries after it.
 no_sets : (all : List DieFields) (k : ℕ) (dies : List DieFields) → child_stretches all k dies [] ≡ []
 no_sets all k [] = refl
 no_sets all k (die ∷ dies) = refl
@@ -97,7 +97,7 @@ sets_left all k sets die is canonical left = subst (λ l. HaveSets l (drop k set
     go (Some spans) there are = subst (λ l. HaveSets (die ∷ drop (k + 1) all) l) (sym (dropped sets k spans there)) (are, left)
     go None there are = subst (λ l. HaveSets (die ∷ drop (k + 1) all) l) (sym (dropped_none sets k there)) tt
 
--- what two lists tell of a class
+-- The first stretch of a class in two lists, one after the other.
 class_joined : (x : ℕ) (xs ys : List Stretch) (a : ℕ) → index_at (of_class x (xs ++ ys)) a ≡ option_or (index_at (of_class x xs) a) (index_at (of_class x ys) a)
 class_joined x xs ys a = ap (λ l. index_at l a) (filter-append (λ (s : Stretch). s.class == x) xs ys) ∙ found_joined (of_class x xs) (of_class x ys) a
 
@@ -128,7 +128,7 @@ found_copy x n die above spans items a canonical is =
         ∙ copy_first x n die above spans [] a canonical
         ∙ cond-true _ _ _ is
 
--- a copy whose addresses others before it tell of may be left out
+-- A copy may be left out if each of its addresses has an earlier stretch of the same class.
 left_out : (x n : ℕ) (die : DieFields) (above : Option ℕ) (spans : List Range) (items rest : List Stretch) (a : ℕ) → (is_inlined die ≡ true → IsCanonical spans)
     → (is_copy_in die above spans x a ≡ true → IsFound (index_at (of_class x items) a)) → index_at (of_class x (items ++ rest)) a ≡ index_at (of_class x (items ++ (copy_by die above n spans ++ rest))) a
 left_out x n die above spans items rest a canonical held =
@@ -152,7 +152,7 @@ second_is : (b c : Bool) → (b && c) ≡ true → c ≡ true
 second_is true c is = is
 second_is false c is = absurd (let wrong : false ≡ true = is in grind (arith, wrong))
 
--- the earlier copy has the addresses, in the same entry
+-- The earlier copy has the addresses, directly in the same entry.
 earlier_has : (all : List DieFields) (sets : List (List Range)) (k : ℕ) (row : List (Option ℕ)) (items : List Stretch) (die : DieFields) (above : Option ℕ) → Collects all sets k row items → HasEarlier all sets row k above
     → (x a : ℕ) → is_copy_in die above (set_in sets k) x a ≡ true → IsFound (index_at (of_class x items) a)
 earlier_has all sets k row items die above c e x a is =
@@ -174,7 +174,7 @@ collects_begin all sets = record {
   sets_are = λ left. left;
 }
 
--- one more entry was passed
+-- One entry more.
 collects_next : (all : List DieFields) (sets : List (List Range)) (k : ℕ) (row : List (Option ℕ)) (items made : List Stretch) (die : DieFields) (above : Option ℕ)
     → Some die ≡ slice_get all k → above ≡ inside_of all (length row) die.parent → (is_inlined die ≡ true → IsCanonical (set_in sets k)) → AreFit made
     → ((x a : ℕ) → index_at (of_class x (made ++ child_stretches all (k + 1) (drop (k + 1) all) (drop (k + 1) sets))) a ≡ index_at (of_class x (items ++ (copy_by die above k (set_in sets k) ++ child_stretches all (k + 1) (drop (k + 1) all) (drop (k + 1) sets)))) a)
@@ -222,7 +222,7 @@ collects_more all sets k row items made die above is said canonical fit (inr (sa
     (λ x a has. subst (λ l. IsFound (index_at (of_class x l) a)) (sym same) (earlier_has all sets k row items die above c e x a has))
     c
 
--- what an entry adds
+-- The stretches that an entry adds.
 pub adds_other : (all : List DieFields) (sets : List (List Range)) (row : List (Option ℕ)) (number : ℕ) (die : DieFields) (above : Option ℕ) (items : List Stretch) → is_inlined die ≡ false → AddsCopy all sets row number die above items items
 adds_other all sets row number die above items other = inl (sym (append-nil items) ∙ ap (λ l. items ++ l) (sym (cond-false _ _ _ other)))
 
@@ -243,7 +243,7 @@ pub adds_spans : (all : List DieFields) (sets : List (List Range)) (row : List (
 adds_spans all sets row number class die above spans items made inlined stands set grown =
     inl (grown ∙ ap (λ l. items ++ span_stretches number class l) set ∙ ap (λ l. items ++ l) (sym (cond-true _ _ _ inlined ∙ ap (λ o. stretches_in number o (set_in sets number)) stands)))
 
--- where there is no entry of a number, all is collected
+-- If there is no entry with a number, all entries were collected.
 pub collects_end : (all : List DieFields) (sets : List (List Range)) (k : ℕ) (row : List (Option ℕ)) (items : List Stretch) → None ≡ slice_get all k → Collects all sets k row items
     → TellChildren all sets items × HaveSets all sets
 collects_end all sets k row items none c =

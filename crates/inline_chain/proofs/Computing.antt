@@ -1,4 +1,4 @@
--- What a proof unfolds to compute the definitions of inline_chain where the input is written out.
+-- The definitions of inline_chain that a proof unfolds to compute a worked example.
 use Rattle.std.specs.Prelude.{⊤}
 use Rattle.debug_units.specs.Owners.{inside_of, entry_chain}
 use Rattle.func_flatten.proofs.Computing.{func_flatten_computes}

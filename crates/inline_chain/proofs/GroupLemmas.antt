@@ -46,7 +46,7 @@ runs_level : (level x : ℕ) (parts : List (List Range)) → AreOfLevel level (e
 runs_level level x [] = tt
 runs_level level x (p ∷ parts) = (refl, runs_level level x parts)
 
--- by those of its class, what a list has of a class
+-- What a list has of a class is what the stretches of the class have.
 class_any : (x : ℕ) (items : List Stretch) → list_any (λ (s : Stretch). s.class == x) (of_class x items) ≡ has_class x items
 class_any x [] = refl
 class_any x (s ∷ items) = go (s.class == x) refl (class_any x items)
@@ -107,7 +107,7 @@ drop_shorter items later s rest is back =
     let some : length items ≡ length (s ∷ later) = ap length is in
     let left : length rest ≡ length items - front_count s.class items = ap length back ∙ length-drop (front_count s.class items) items in omega (arith, one, some, left))
 
--- the class of the first
+-- The class of the first stretch is the lowest.
 pub sorted_own : (low : ℕ) (items later : List Stretch) (s : Stretch) → items ≡ s ∷ later → SortedFrom low items → SortedFrom s.class items
 sorted_own low items later s is sorted = subst (SortedFrom s.class) (sym is) (let both : SortedFrom low (s ∷ later) = subst (SortedFrom low) is sorted in (omega arith, both.1))
 

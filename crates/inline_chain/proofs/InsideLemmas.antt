@@ -1,4 +1,4 @@
--- What an entry stands in.
+-- The subprogram or inlined copy around an entry.
 use Rattle.std.proofs.Common.{◌≡◌, ℕ, zero, suc, ◌<◌, ◌≤◌, ◌==◌, ◌||◌, Bool, true, false, if◌then◌else◌, List, [], ◌∷◌, Option, None, Some, arith, refl, sym, ap, subst, ◌∙◌, ⊎_elim}
 use Rattle.std.proofs.lemmas.Bool.{cond-true, cond-false, eq-eqb, ne_eqb, cases_lt}
 use Rattle.std.specs.List.{slice_get, slice_index_or}
@@ -40,7 +40,7 @@ lost dies (suc limit) number below is =
 pub inside_lost : (dies : List DieFields) (limit number : ℕ) (parent : Option ℕ) → parent ≡ Some number → number < limit → slice_get dies number ≡ None → None ≡ inside_of dies limit parent
 inside_lost dies limit number parent is below none = sym (ap (inside_of dies limit) is ∙ lost dies limit number below none)
 
--- by the entry around
+-- The answer, given the parent of the entry.
 around_by : List DieFields → ℕ → DieFields → Option ℕ
 around_by dies number d = if d.tag == 0x2e || is_inlined d then Some number else inside_of dies number d.parent
 
@@ -77,7 +77,7 @@ pub inside_row : (dies : List DieFields) (row : List (Option ℕ)) (limit number
 inside_row dies row limit number d parent says is below found own =
     taken row number None _ (says.each number d below found) ∙ inside_outer dies limit number d parent is below found own
 
--- it stands before the entry
+-- The entry that is found comes before the entry.
 abbrev pub IsBelow : ℕ → Option ℕ → Type 0
 IsBelow n None = Prim.Unit {0}
 IsBelow n (Some e) = e < n

@@ -1,4 +1,4 @@
--- A piece has one list of inlined copies.
+-- A piece has only one list of inlined copies.
 use Rattle.std.proofs.Common.{◌≡◌, ℕ, ◌+◌, ◌<◌, ◌≤◌, ◌==◌, ◌&&◌, ◌||◌, ◌++◌, Bool, true, false, if◌then◌else◌, nat_le, nat_lt, List, [], ◌∷◌, length, map, Option, None, Some, arith, refl, sym, ap, subst, ◌∙◌}
 use Rattle.std.specs.List.{filter, list_all, slice_get}
 use Rattle.std.specs.Option.{option_map_or}
@@ -23,7 +23,7 @@ heads_same x y xs ys is = cc
 tails_same : {X : Type 0} (x y : X) (xs ys : List X) → x ∷ xs ≡ y ∷ ys → xs ≡ ys
 tails_same x y xs ys is = cc
 
--- two fronts of one length
+-- Two prefixes of the same length are equal if the whole lists are.
 fronts_same : {X : Type 0} (xs ys us vs : List X) → length xs ≡ length ys → xs ++ us ≡ ys ++ vs → (xs ≡ ys) × (us ≡ vs)
 fronts_same [] [] us vs long same = (refl, same)
 fronts_same [] (y ∷ ys) us vs long same = absurd (omega arith)
@@ -36,7 +36,7 @@ some_parts : (p : List Range) (parts : List (List Range)) → AreParts (p ∷ pa
 some_parts p [] are = are.0
 some_parts p (q ∷ parts) are = omega (arith, are.0)
 
--- ranges are parted in one way
+-- There is only one way to cut ranges into such lists.
 one_parts : (ps qs : List (List Range)) → AreParts ps → AreParts qs → joined ps ≡ joined qs → ps ≡ qs
 unfolding joined
 one_parts [] [] a b same = refl
@@ -53,7 +53,7 @@ one_parts (p ∷ r ∷ ps) (q ∷ s ∷ qs) a b same =
     (let parts : (p ≡ q) × (joined (r ∷ ps) ≡ joined (s ∷ qs)) = fronts_same p q (joined (r ∷ ps)) (joined (s ∷ qs)) (a.0 ∙ sym b.0) same in
     (λ i. parts.0 i ∷ (one_parts (r ∷ ps) (s ∷ qs) a.1 b.1 parts.1) i))
 
--- records of one entry at one level are known by their ranges
+-- The records of one entry at one level differ only in their ranges.
 abbrev AreOf : ℕ → ℕ → List InlineParts → Type 0
 AreOf level entry [] = Prim.Unit {0}
 AreOf level entry (r ∷ runs) = (r.level ≡ level) × (r.entry ≡ entry) × AreOf level entry runs
@@ -89,7 +89,7 @@ same_entry units piece level entry xs ys p q =
     of_same level entry _ _ (filter_of level entry xs) (filter_of level entry ys)
     (one_parts _ _ p.parts q.parts (one_list _ _ p.canonical q.canonical (λ a. p.members a ∙ sym (q.members a))))
 
--- the records at a level with a first address are of one entry: the one that stands there
+-- All records at a level with a first address are of the same entry.
 abbrev IsThere : ℕ → ℕ → ℕ → InlineParts → Type 0
 IsThere level v e r = (r.level ≡ level) → (first_address r.spans ≡ v) → r.entry ≡ e
 
@@ -142,7 +142,7 @@ parts_behind (p ∷ r ∷ ps) q qs are = parts_behind (r ∷ ps) q qs are.1
 own_first : (level entry : ℕ) (r : InlineParts) (runs : List InlineParts) → r.level ≡ level → r.entry ≡ entry → spans_of level entry (r ∷ runs) ≡ r.spans ∷ spans_of level entry runs
 own_first level entry r runs l e = ap (map (λ (s : InlineParts). s.spans)) (cond-true _ (r ∷ filter (is_of level entry) runs) (filter (is_of level entry) runs) (grind (arith, nat_tests, l, e)))
 
--- a record's first address is one at which its entry stands
+-- The entry of a record is on the chain at the first address of the record.
 is_there : (units : List UnitRead) (piece : Piece) (level v : ℕ) (front rest : List InlineParts) (r : InlineParts) → AreInlineRuns units piece (front ++ r ∷ rest) → IsThere level v (chain_entry units piece level v) r
 unfolding joined
 is_there units piece level v front rest r are l f =
@@ -160,7 +160,7 @@ are_there units piece level v front [] all is are = tt
 are_there units piece level v front (r ∷ rest) all is are =
     (is_there units piece level v front rest r (subst (AreInlineRuns units piece) is are), are_there units piece level v (front ++ r ∷ []) rest all (is ∙ sym (append_assoc front (r ∷ []) rest)) are)
 
--- so those of a level and a first address are those of the entry that stands there
+-- The records at a level with a first address are those of the entry that is on the chain there.
 there_same : (level v e : ℕ) (runs : List InlineParts) → AreThere level v e runs → of_number (λ r. first_address r.spans) v (of_number (λ r. r.level) level runs) ≡ of_number (λ r. first_address r.spans) v (filter (is_of level e) runs)
 there_same level v e [] are = refl
 there_same level v e (r ∷ runs) are = go (r.level == level) (r.entry == e) (first_address r.spans == v) refl refl refl (there_same level v e runs are.1)
@@ -176,7 +176,7 @@ there_same level v e (r ∷ runs) are = go (r.level == level) (r.entry == e) (fi
         (let same : r.entry ≡ e = are.0 (eqb-true r.level level bl) (eqb-true (first_address r.spans) v dv) in
         let test : (r.entry == e) ≡ true = eq-eqb r.entry e same in absurd (cc))
 
--- the order of the list, by level and within a level
+-- The order of the list: by level, and then in one level.
 abbrev AreFromLevel : ℕ → List InlineParts → Type 0
 AreFromLevel low [] = Prim.Unit {0}
 AreFromLevel low (r ∷ runs) = (low ≤ r.level) × AreFromLevel low runs

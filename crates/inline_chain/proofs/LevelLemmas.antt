@@ -1,4 +1,4 @@
--- What stands in the entries of a level.
+-- The inlined copies directly in the entries of a level.
 use Rattle.std.proofs.Common.{◌≡◌, ℕ, zero, suc, ◌+◌, ◌<◌, ◌≤◌, ◌==◌, ◌^◌, ◌&&◌, ◌||◌, ◌++◌, Bool, true, false, if◌then◌else◌, nat_le, nat_lt, List, [], ◌∷◌, length, drop, get_or, map, Option, None, Some, arith, refl, sym, ap, subst, ◌∙◌, inl, inr}
 use Rattle.std.specs.List.{list_any}
 use Rattle.std.specs.List.Sorted.{IsNonDecreasingBy, IsPartitionedBy, IsPartitionPoint}
@@ -17,7 +17,7 @@ use Rattle.inline_chain.specs.Trees.{is_number, list_of, child_at, IsTree}
 use Rattle.step_maps.proofs.SpanLemmas.{fit_joined}
 use Rattle.inline_chain.specs.internal.Levels.{has_at, covers_at, reaches_under, cut, child_under, depth_at, IsLevel, ReachTo, StartsCovers}
 
--- the covers end one after the other
+-- The ends of the covers ascend.
 last_above : (c : Cover) (covers : List Cover) (k : ℕ) (d : Cover) → AreRuns (map cover_run (c ∷ covers)) → k < length covers → c.last ≤ (get_or covers k d).last
 last_above c [] k d runs inside = absurd (omega arith)
 last_above c (e ∷ covers) zero d runs inside = omega (arith, runs.1.0, runs.2.0)
@@ -59,7 +59,7 @@ starts covers first k runs inside point = record {
   reach = reach_drop covers k first (λ i d from end. (let is : nat_lt (get_or covers i d).last first ≡ false = point.1 i d (omega arith) end in grind (arith, nat_tests)));
 }
 
--- the covers after a start serve as well as all
+-- The covers from an index on give the same as all covers.
 pub under_begins : (next : List Stretch) (covers front : List Cover) (around : Stretch) (k : ℕ) → StartsCovers covers around.first k → front ≡ drop k covers
     → (y a : ℕ) → (has_at next y a || (reaches around a && covers_at front y a)) ≡ (has_at next y a || (reaches around a && covers_at covers y a))
 under_begins next covers front around k starts is y a =
@@ -72,7 +72,7 @@ under_begins next covers front around k starts is y a =
 cut_reaches : (c : Cover) (around : Stretch) (a : ℕ) → reaches (cut c around) a ≡ (has (cover_run c) a && reaches around a)
 cut_reaches c around a = grind (arith, nat_tests)
 
--- one more cover was cut
+-- One more cover was cut.
 mixed : (h i c r v : Bool) (o : Option ℕ) (y m : ℕ) → (m == y) ≡ i → is_number y o ≡ v → (c ≡ true → o ≡ None) → ((h || ((i && (c && r)) || false)) || (r && v)) ≡ (h || (r && is_number y (if c then Some m else o)))
 mixed true i c r v o y m mi ov none = refl
 mixed false i true r v o y m mi ov none =
@@ -150,7 +150,7 @@ pub or_assoc : (x y z : Bool) → ((x || y) || z) ≡ (x || (y || z))
 or_assoc true y z = refl
 or_assoc false y z = refl
 
--- one more stretch of the level was gone under
+-- One more stretch of the level is done.
 pub level_more : (lists : List (List Cover)) (next made rest later : List Stretch) (s : Stretch) (y a : ℕ) → rest ≡ s ∷ later → has_at made y a ≡ (has_at next y a || (reaches s a && covers_at (list_of lists s.class) y a))
     → (has_at made y a || list_any (reaches_under lists y a) later) ≡ (has_at next y a || list_any (reaches_under lists y a) rest)
 level_more lists next made rest later s y a is grown =
@@ -169,7 +169,7 @@ level_ends lists next (s ∷ rest) y a none = absurd (omega arith)
 pub first_fit : (rest later : List Stretch) (s : Stretch) → rest ≡ s ∷ later → AreFit rest → AreFit (s ∷ []) × AreFit later
 first_fit rest later s is fit = (let both : AreFit (s ∷ later) = subst AreFit is fit in ((both.0, both.1, tt), both.2))
 
--- no stretch is there
+-- No stretch has the address.
 any_none : (items : List Stretch) (P : ℕ → Bool) (a : ℕ) → ((x : ℕ) → has_at items x a ≡ false) → list_any (λ (s : Stretch). reaches s a && P s.class) items ≡ false
 any_none [] P a none = refl
 any_none (s ∷ items) P a none =
@@ -185,7 +185,7 @@ any_none (s ∷ items) P a none =
     later true h is = absurd (cc)
     later false h is = is
 
--- all that are there are of one class
+-- All stretches at an address are of one class.
 any_one : (items : List Stretch) (P : ℕ → Bool) (a m : ℕ) → ((x : ℕ) → has_at items x a ≡ true → x ≡ m) → list_any (λ (s : Stretch). reaches s a && P s.class) items ≡ (has_at items m a && P m)
 any_one [] P a m one = refl
 any_one (s ∷ items) P a m one = go (reaches s a) refl (any_one items P a m (λ x is. one x (in_later ((s.class == x) && reaches s a) (has_at items x a) is)))
@@ -218,7 +218,7 @@ pub depth_next : (part : UnitRead) (owner depth a : ℕ) → depth_at part owner
 unfolding depth_at
 depth_next part owner depth a = ap (λ n. depth_at part owner n a) (let next : depth + 1 ≡ suc depth = omega arith in next)
 
--- the covers of an entry tell what is directly in it
+-- The covers of an entry give the inlined copy directly in it.
 child_covers : (part : UnitRead) (lists : List (List Cover)) (owner : Stretch) (m y a : ℕ) → IsTree part lists → owner.last + 1 < 2 ^ 64 → (reaches owner a && covers_at (list_of lists m) y a) ≡ (reaches owner a && is_number y (child_at part m a))
 child_covers part lists owner m y a tree last = elim (leb_tells a owner.last) [
   | inl low ↦

@@ -26,7 +26,7 @@ no_first x (s ∷ items) none = elim (eqb_tells s.class x) [
   | inr is ↦ cond-false _ _ _ is.0 ∙ no_first x items (none ∙ cond-false _ (suc (length items)) (first_place x items) is.0)
 ]
 
--- the first one of a class
+-- The first stretch of a class.
 record Found (x : ℕ) (items : List Stretch) (place : ℕ) : Type 0 where
   before : List Stretch
   one : Stretch
@@ -64,7 +64,7 @@ pub many_nexts : (items : List Stretch) → length (nexts_of items) ≡ length i
 many_nexts [] = refl
 many_nexts (s ∷ items) = omega (arith, length-append (nexts_of items) (first_place s.class items ∷ []), many_nexts items)
 
--- the link of a stretch
+-- The link of a stretch.
 next_at : (before : List Stretch) (s : Stretch) (later : List Stretch) (d : ℕ) → get_or (nexts_of (before ++ s ∷ later)) (length later) d ≡ first_place s.class later
 next_at [] s later d = ap (λ n. get_or (nexts_of (s ∷ later)) n d) (sym (many_nexts later)) ∙ get_or-append_seam (nexts_of later) (first_place s.class later) [] d
 next_at (b ∷ before) s later d =
@@ -72,7 +72,7 @@ next_at (b ∷ before) s later d =
     (omega (arith, many_nexts (before ++ s ∷ later), length-append before (s ∷ later)))
     ∙ next_at before s later d
 
--- a walk through the stretches of a class
+-- A walk through the stretches of a class.
 pub walk_begins : (x : ℕ) (items : List Stretch) (place : ℕ) → place ≡ first_place x items → Walks x items [] place
 walk_begins x items place is = record { before = []; rest = items; all = refl; place_is = is; group_is = refl }
 
@@ -108,14 +108,14 @@ walk_more x items group more nexts place next d e some are pushed said w =
 pub walk_ends : (x : ℕ) (items group : List Stretch) (place : ℕ) → place ≡ 0 → Walks x items group place → group ≡ of_class x items
 walk_ends x items group place none w = sym (append-nil group) ∙ ap (λ l. group ++ l) (sym (no_first x w.rest (sym none ∙ w.place_is))) ∙ w.group_is
 
--- a list that was emptied and filled with zeros
+-- A list that was emptied and filled with zeros.
 pub zeros_are : (n had : ℕ) (before firsts : List ℕ) → before ≡ [] → had ≡ 0 → firsts ≡ take n before ++ replicate (n - had) 0 → firsts ≡ replicate n 0
 zeros_are n had before firsts none empty made =
     let front : take n before ≡ [] = ap (take n) none ∙ take_all n [] (omega arith) in
     let count : n - had ≡ n = omega (arith, empty) in
     made ∙ (λ i. front i ++ replicate (count i) 0)
 
--- the links are made from the last stretch to the first
+-- The links are made from the last stretch to the first.
 pub links_begin : (items : List Stretch) (firsts nexts : List ℕ) (n : ℕ) → firsts ≡ replicate n 0 → nexts ≡ [] → HaveClasses n items → Linking items items firsts nexts
 unfolding first_place
 links_begin items firsts nexts n zeros none below =

@@ -17,12 +17,12 @@ use Rattle.inline_chain.specs.internal.Levels.{AreOfLevel, Rising}
 abbrev key : InlineParts → ℕ
 key r = first_address r.spans
 
--- numbers of the records rise, from a lowest one on
+-- The numbers of the records ascend, from `low` on.
 abbrev pub RiseBy : (InlineParts → ℕ) → ℕ → List InlineParts → Type 0
 RiseBy n low [] = Prim.Unit {0}
 RiseBy n low (r ∷ runs) = (low ≤ n r) × RiseBy n (n r) runs
 
--- those of a number
+-- The records with a number.
 abbrev pub of_number : (InlineParts → ℕ) → ℕ → List InlineParts → List InlineParts
 of_number n v runs = filter (λ r. n r == v) runs
 
@@ -42,7 +42,7 @@ cons_first x y xs ys is = cc
 cons_rest : (x y : InlineParts) (xs ys : List InlineParts) → x ∷ xs ≡ y ∷ ys → xs ≡ ys
 cons_rest x y xs ys is = cc
 
--- a list in this order is known by those of each number
+-- A list in this order is determined by its members with each number.
 pub one_order : (n : InlineParts → ℕ) (low high : ℕ) (xs ys : List InlineParts) → RiseBy n low xs → RiseBy n high ys → ((v : ℕ) → of_number n v xs ≡ of_number n v ys) → xs ≡ ys
 one_order n low high [] [] p q same = refl
 one_order n low high [] (y ∷ ys) p q same = absurd (some_left n y ys [] (sym (same (n y))) refl)
@@ -82,7 +82,7 @@ keys_by low (r ∷ runs) rises first =
 keys_of : (runs : List InlineParts) → IsNonDecreasingBy key runs → RiseBy key 0 runs
 keys_of runs rises = keys_by 0 runs rises (λ some d. omega arith)
 
--- a stable sort keeps those of each first address in their order
+-- A stable sort keeps the order of the records with one first address.
 same_keys : (xs ys : List InlineParts) → IsStableByKey key nat_cmp xs ys → (v : ℕ) → of_number key v ys ≡ of_number key v xs
 same_keys xs ys stable v =
     let tied : InlineParts = record { level = 0; entry = 0; spans = record { start = v; end = v } ∷ [] } in
@@ -125,7 +125,7 @@ ordered_by low level (r ∷ runs) keys are = (all_before (key r) level r runs ke
 pub sorted_ordered : (level : ℕ) (xs ys : List InlineParts) → IsPermutation xs ys → IsNonDecreasingBy key ys → AreOfLevel level xs → IsOrdered ys
 sorted_ordered level xs ys moved sorted are = ordered_by 0 level ys (keys_of ys sorted) (sorted_level level xs ys moved are)
 
--- parts of a set begin one after the other
+-- The parts of a set begin one after the other.
 abbrev BeginsFrom : ℕ → List Range → Type 0
 BeginsFrom low [] = Prim.Unit {0}
 BeginsFrom low (r ∷ spans) = low ≤ r.start

@@ -1,4 +1,4 @@
--- The ranges of an entry, in parts.
+-- The ranges of an entry, cut into parts.
 use Rattle.std.proofs.Common.{◌≡◌, ℕ, zero, suc, ◌+◌, ◌<◌, ◌≤◌, ◌&&◌, ◌||◌, ◌++◌, Bool, true, false, nat_le, List, [], ◌∷◌, length, take, drop, arith, refl, sym, ap, subst, ◌∙◌}
 use Rattle.std.specs.List.{list_any}
 use Rattle.std.proofs.lemmas.Bool.Decides.{nat_tests}
@@ -12,7 +12,7 @@ use Rattle.inline_chain.specs.InlineRuns.{InlineParts, joined, AreParts}
 use Rattle.inline_chain.proofs.LevelLemmas.{or_assoc}
 use Rattle.inline_chain.specs.internal.Levels.{entry_runs, AddsParts, AddsGroup}
 
--- a stretch as a range
+-- A stretch as a range.
 pub stretch_holds : (first last a : ℕ) → holds (record { start = first; end = last + 1 }) a ≡ (nat_le first a && nat_le a last)
 stretch_holds first last a = grind (arith, nat_tests)
 
@@ -40,12 +40,12 @@ group_ends spans [] a none = away (holds_any spans a)
     away false = refl
 group_ends spans (s ∷ rest) a none = absurd (omega arith)
 
--- parts of as many ranges as may be
+-- Parts that have as many ranges as they may have.
 abbrev pub AreFull : List (List Range) → Type 0
 AreFull [] = Prim.Unit {0}
 AreFull (spans ∷ parts) = (length spans ≡ 16384) × AreFull parts
 
--- full parts were added, and these ranges are left
+-- Full parts were added, and these ranges are left.
 pub record PartsTo (level entry : ℕ) (spans rest : List Range) (old new : List InlineParts) : Type 0 where
   pub parts : List (List Range)
   pub whole : new ≡ old ++ entry_runs level entry parts
@@ -81,7 +81,7 @@ canonical_drop zero spans canonical = canonical
 canonical_drop (suc k) [] canonical = tt
 canonical_drop (suc k) (r ∷ spans) canonical = canonical_drop k spans canonical.2
 
--- one more full part
+-- One more full part.
 pub parts_more : (level entry : ℕ) (spans rest part later set : List Range) (old made new : List InlineParts) → part ≡ take 16384 rest → later ≡ drop 16384 rest → 16384 < length rest
     → set ≡ part → new ≡ made ++ record { level = level; entry = entry; spans = set } ∷ [] → PartsTo level entry spans rest old made → PartsTo level entry spans later old new
 parts_more level entry spans rest part later set old made new front back more is grown to = record {
@@ -120,7 +120,7 @@ parts_last level entry spans rest set old made new some few is grown to = record
   ranges = joined_more to.parts rest ∙ to.ranges;
 }
 
--- the parts of a group's ranges
+-- The parts of a group's ranges.
 pub group_added : (level entry : ℕ) (spans set : List Range) (group : List Stretch) (old new : List InlineParts) → ((a : ℕ) → holds_any spans a ≡ list_any (λ (s : Stretch). reaches s a) group) → ((a : ℕ) → holds_any set a ≡ holds_any spans a) → IsCanonical set
     → AddsParts level entry set old new → AddsGroup level entry group old new
 group_added level entry spans set group old new held same canonical adds = record {
@@ -131,7 +131,7 @@ group_added level entry spans set group old new held same canonical adds = recor
   members = λ a. ap (λ l. holds_any l a) adds.ranges ∙ same a ∙ held a;
 }
 
--- an entry with few ranges, and one with one
+-- An entry with few ranges, and an entry with one range.
 pub parts_one : (level entry : ℕ) (spans : List Range) (old new : List InlineParts) → (length spans ≡ 0 → ⊥) → length spans ≤ 16384 → new ≡ old ++ record { level = level; entry = entry; spans = spans } ∷ [] → AddsParts level entry spans old new
 parts_one level entry spans old new some few grown = parts_last level entry spans spans spans old old new (above spans some) few refl grown (parts_begin level entry spans old)
   where

@@ -23,7 +23,7 @@ use Rattle.inline_chain.proofs.ChainLemmas.{on_chain, no_unit}
 use Rattle.inline_chain.proofs.LevelLemmas.{depth_next}
 use Rattle.inline_chain.proofs.GroupLemmas.{spans_joined, same_at}
 
--- the records of sorted stretches are those of the stretches
+-- The records of sorted stretches are those of the stretches.
 pub made_of : (level : ℕ) (items sorted : List Stretch) (made after : List InlineParts) → ((x : ℕ) → of_class x sorted ≡ of_class x items) → ((x : ℕ) → spans_of level x after ≡ spans_of level x made) → AreOfLevel level after → IsMade level sorted made → IsMade level items after
 made_of level items sorted made after same spans level_is is = record {
   level_is = level_is;
@@ -72,7 +72,7 @@ ordered_more level (r ∷ runs) made p above q are = (all_joined r runs made p.0
 pub runs_begin : (part : UnitRead) (owner : Stretch) (runs : List InlineParts) → runs ≡ [] → RunsTo part owner 0 runs
 runs_begin part owner runs none = subst (RunsTo part owner 0) (sym none) (record { ordered = tt; above = tt; entries = λ k x below. absurd (omega arith) })
 
--- by the ranges of the records
+-- The parts of an entry at a level have the addresses at which the entry is at that depth.
 pub record Says (part : UnitRead) (owner : Stretch) (level entry : ℕ) (parts : List (List Range)) : Type 0 where
   pub parts_are : AreParts parts
   pub canonical : IsCanonical (joined parts)
@@ -136,7 +136,7 @@ runs_end part owner level items runs none is to = record {
 inside_same : (piece : Piece) (a : ℕ) → piece.start < piece.end → (nat_le piece.start a && nat_le a (piece.end - 1)) ≡ is_inside a piece
 inside_same piece a some = grind (arith, nat_tests)
 
--- the records of a piece's owner are the piece's
+-- The records in the owner's stretch are those of the piece.
 pub piece_runs : (units : List UnitRead) (piece : Piece) (part : UnitRead) (runs : List InlineParts) → slice_get units piece.unit ≡ Some part → piece.start < piece.end
     → AllRuns part (record { first = piece.start; last = piece.end - 1; index = piece.entry; class = piece.entry }) runs → AreInlineRuns units piece runs
 piece_runs units piece part runs is some all = record {

@@ -68,7 +68,7 @@ pub lists_more : (items group : List Stretch) (lists new : List (List Cover)) (c
 lists_more items group lists new count is made to =
     subst (λ (ls : List (List Cover)). ListsTo items ls (count + 1)) (sym made.added) (lists_grown items group lists count made.covers is made.runs to)
 
--- a class without stretches
+-- A class without stretches.
 pub lists_none : (items : List Stretch) (lists new : List (List Cover)) (firsts nexts : List ℕ) (count d : ℕ) → AreLinked items firsts nexts → count < length firsts → get_or firsts count d ≡ 0 → new ≡ lists ++ [] ∷ [] → ListsTo items lists count → ListsTo items new (count + 1)
 lists_none items lists new firsts nexts count d linked inside none added to =
     let empty : of_class count items ≡ [] = no_first count items (sym none ∙ linked.firsts_are count d inside) in
@@ -87,7 +87,7 @@ empty_list items lists x past none =
 pub lists_all : (items : List Stretch) (lists : List (List Cover)) (n count : ℕ) → n ≤ count → HaveClasses n items → ListsTo items lists count → AreLists items lists
 lists_all items lists n count less below to x = ⊎_elim (λ less. to.each x less) (λ from. empty_list items lists x (omega (arith, to.many)) (none_of x n items below (omega arith))) (cases_lt x count)
 
--- the lists of a unit's copies are its tree
+-- The lists of a unit's copies are its tree.
 pub tree_is : (part : UnitRead) (items : List Stretch) (lists : List (List Cover)) → TellChildren part.die.dies part.spans items → HaveSets part.die.dies part.spans → AreLists items lists → IsTree part lists
 unfolding child_at
 tree_is part items lists told sets are x =
@@ -96,8 +96,7 @@ tree_is part items lists told sets are x =
     (λ a. told x a ∙ index_children part.die.dies x 0 part.die.dies part.spans a sets))
     (are x)
 
--- the trees of the first units
--- the trees by the numbers of their units
+-- The trees of the units, in the order of the units.
 pub trees_in_order : (units : List UnitRead) (trees : List (List (List Cover))) → length trees ≡ length units → ((k : ℕ) (d : List (List Cover)) → k < length trees → TreeFor (slice_get units k) (Some (get_or trees k d))) → AreTrees units trees
 trees_in_order [] [] same each = tt
 trees_in_order [] (t ∷ trees) same each = absurd (omega (arith, same))
@@ -116,7 +115,7 @@ ats : (dies : List DieFields) → length (map (λ die. die.at) dies) ≡ length 
 ats [] = refl
 ats (d ∷ dies) = omega (arith, ats dies)
 
--- a unit has no more entries than all units have
+-- A unit has no more entries than all units together.
 pub unit_few : (units : List UnitRead) (k : ℕ) (part : UnitRead) → Some part ≡ slice_get units k → length part.die.dies ≤ length (places units)
 unit_few [] k part is = absurd (cc)
 unit_few (u ∷ units) zero part is =

@@ -1,4 +1,5 @@
--- Worked rows: which inlined copies stand at an address. A sign for each address, in order: the number of the entry on a level, or a point.
+-- Worked examples: the inlined copies at addresses. There is a character for each address, in
+-- order: the number of the entry at a level, or a point.
 use Rattle.std.proofs.Common.{◌≡◌, ℕ, ◌+◌, map, List, [], ◌∷◌, Option, Some, None, refl}
 use Rattle.std.specs.List.{range_with_len, slice_get}
 use Prim.Native.String.{String}
@@ -14,7 +15,7 @@ record Made : Type 0 where
   die : DieFields
   spans : List Range
 
--- an entry by its tag, the entry around it and its addresses
+-- An entry, given its tag, the entry around it and its addresses.
 unfoldable entry : ℕ → Option ℕ → List Range → Made
 entry tag parent spans = record {
   die = record (bare_entry tag) { parent = parent };
@@ -27,11 +28,11 @@ on start end = record { start = start; end = end } ∷ []
 abbrev root : Made
 root = entry 0x11 None []
 
--- an inlined copy in an entry
+-- An inlined copy in an entry.
 abbrev copy : ℕ → List Range → Made
 copy parent spans = entry 0x1d (Some parent) spans
 
--- a function in an entry
+-- A function in an entry.
 abbrev function : ℕ → List Range → Made
 function parent spans = entry 0x2e (Some parent) spans
 
@@ -42,11 +43,11 @@ abbrev digit : Option Covering → ℕ
 digit None = 46
 digit (Some c) = 48 + c.entry
 
--- a level of the chain under an entry, at the addresses 0 to 7
+-- A level of the chain in an entry, at the addresses 0 to 7.
 unfoldable level : List Made → ℕ → ℕ → String
 level entries owner k = shown (map (λ a. digit (slice_get (entry_chain (unit entries ∷ []) 0 owner a) k)) (range_with_len 0 8))
 
--- a copy has no address outside of the copy that it stands in
+-- A copy has no address outside the copy that it is in.
 clipped_outer : level (root ∷ function 0 (on 0 8) ∷ copy 1 (on 2 6) ∷ copy 2 (on 4 8) ∷ []) 1 0 ≡ "..2222.."
 unfolding inline_chain_computes level entry unit
 clipped_outer = refl
@@ -55,22 +56,22 @@ clipped_inner : level (root ∷ function 0 (on 0 8) ∷ copy 1 (on 2 6) ∷ copy
 unfolding inline_chain_computes level entry unit
 clipped_inner = refl
 
--- of two siblings the first counts
+-- Of two siblings the first counts.
 first_sibling : level (root ∷ function 0 (on 0 8) ∷ copy 1 (on 1 5) ∷ copy 1 (on 3 7) ∷ []) 1 0 ≡ ".222233."
 unfolding inline_chain_computes level entry unit
 first_sibling = refl
 
--- and what stands in the second, only where the second does
+-- A copy in the second sibling counts only where the second sibling does.
 in_second_sibling : level (root ∷ function 0 (on 0 8) ∷ copy 1 (on 1 5) ∷ copy 1 (on 3 7) ∷ copy 3 (on 3 7) ∷ []) 1 1 ≡ ".....44."
 unfolding inline_chain_computes level entry unit
 in_second_sibling = refl
 
--- a structure in between does not count
+-- A structure between two entries does not count.
 through_structure : level (root ∷ function 0 (on 0 8) ∷ entry 0x13 (Some 1) [] ∷ copy 2 (on 2 6) ∷ []) 1 0 ≡ "..3333.."
 unfolding inline_chain_computes level entry unit
 through_structure = refl
 
--- a function in between does: its copies are its own
+-- The copies in an inner function are not copies of the outer function.
 in_inner_function : level (root ∷ function 0 (on 0 8) ∷ function 1 (on 2 6) ∷ copy 2 (on 2 6) ∷ []) 1 0 ≡ "........"
 unfolding inline_chain_computes level entry unit
 in_inner_function = refl
@@ -79,7 +80,7 @@ of_inner_function : level (root ∷ function 0 (on 0 8) ∷ function 1 (on 2 6) 
 unfolding inline_chain_computes level entry unit
 of_inner_function = refl
 
--- a copy with the addresses of the copy that it stands in
+-- A copy with the same addresses as the copy that it is in.
 same_addresses : level (root ∷ function 0 (on 0 8) ∷ copy 1 (on 2 6) ∷ copy 2 (on 2 6) ∷ []) 1 1 ≡ "..3333.."
 unfolding inline_chain_computes level entry unit
 same_addresses = refl

@@ -16,12 +16,12 @@ pub record InlineParts : Type 0 where
   pub entry : ℕ
   pub spans : List Range
 
--- at this address of the piece, the entry is on the chain at that level
+-- whether the address is in the piece, and the entry is on the chain of the address at the level
 unfoldable pub is_on_chain : List UnitRead → Piece → ℕ → ℕ → ℕ → Bool
 is_on_chain units piece level entry a =
     is_inside a piece && option_map_or (λ c. c.entry == entry) (slice_get (entry_chain units piece.unit piece.entry a) level) false
 
--- whether a copy is of that entry, at that level
+-- whether a copy is of the entry, at the level
 abbrev pub is_of : ℕ → ℕ → InlineParts → Bool
 is_of level entry r = (r.level == level) && (r.entry == entry)
 
@@ -33,13 +33,14 @@ unfoldable pub joined : List (List Range) → List Range
 joined [] = []
 joined (spans ∷ parts) = spans ++ joined parts
 
--- parts of 16,384 ranges; the last part may have fewer
+-- lists of 16,384 ranges each; the last list may have fewer, but at least one
 abbrev pub AreParts : List (List Range) → Type 0
 AreParts [] = Unit {0}
 AreParts (spans ∷ []) = (0 < length spans) × (length spans ≤ 16384)
 AreParts (spans ∷ more ∷ parts) = (length spans ≡ 16384) × AreParts (more ∷ parts)
 
--- the copies of one entry at one level have all addresses at which the entry is on the chain there, in maximal ranges and in as few parts as possible
+-- the copies of one entry at one level have all addresses of the piece at which the entry is on the
+-- chain at that level. Their ranges are maximal, and there are as few copies as possible
 pub record IsCopy (units : List UnitRead) (piece : Piece) (runs : List InlineParts) (level entry : ℕ) : Type 0 where
   pub parts : AreParts (spans_of level entry runs)
   pub canonical : IsCanonical (joined (spans_of level entry runs))
@@ -49,7 +50,7 @@ abbrev pub first_address : List Range → ℕ
 first_address [] = 0
 first_address (range ∷ ranges) = range.start
 
--- the order: by level, and in one level by the first address
+-- the order of copies: by level, and in one level by the first address
 abbrev pub is_before : InlineParts → InlineParts → Bool
 is_before r s = nat_lt r.level s.level || ((r.level == s.level) && nat_le (first_address r.spans) (first_address s.spans))
 

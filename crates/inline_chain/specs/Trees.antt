@@ -11,12 +11,13 @@ use Rattle.debug_units.specs.declared.unit_read.UnitRead.{UnitRead}
 use Rattle.die_walk.specs.EntryKinds.{is_inlined}
 use Rattle.debug_units.specs.Owners.{inside_of}
 
--- the option is this number
+-- whether the option has the number `n`
 abbrev pub is_number : ℕ → Option ℕ → Bool
 is_number n None = false
 is_number n (Some m) = m == n
 
--- the first inlined copy directly in an entry that has the address, among entries numbered from `number`
+-- the first inlined copy directly in the entry `entry` that has the address, among entries numbered
+-- from `number`
 abbrev pub first_child : List DieFields → ℕ → ℕ → ℕ → List DieFields → List (List Range) → Option ℕ
 first_child all a entry number (die ∷ dies) (spans ∷ sets) =
     if is_inlined die && (holds_any spans a && is_number entry (inside_of all number die.parent))
@@ -24,11 +25,11 @@ first_child all a entry number (die ∷ dies) (spans ∷ sets) =
     else first_child all a entry (number + 1) dies sets
 first_child all a entry number _ _ = None
 
--- the first such copy among all entries of the unit
+-- the first inlined copy directly in an entry that has the address, among all entries of the unit
 unfoldable pub child_at : UnitRead → ℕ → ℕ → Option ℕ
 child_at part entry a = first_child part.die.dies a entry 0 part.die.dies part.spans
 
--- the covers of an entry
+-- the covers of the inlined copies directly in an entry
 unfoldable pub list_of : List (List Cover) → ℕ → List Cover
 list_of lists x = unwrap_or (slice_get lists x) []
 

@@ -1,4 +1,4 @@
-//! The addresses of inlined copies, each with the entry that the copy is in.
+//! The stretches of inlined copies, each with the entry that the copy is directly in.
 ghost use Rattle.std.specs.Prelude.{◌≡◌, ◌<◌, ◌^◌, true, length, OnOk};
 ghost use Rattle.range_set.specs.Canonical.{IsCanonical};
 ghost use Rattle.die_walk.specs.EntryKinds.{is_inlined};
@@ -24,7 +24,8 @@ fn spans_in<'u>(part: &'u UnitRead<'_>, entry: usize) -> &'u [Span]
     }
 }
 
-/// Adds the stretches of an entry if it is an inlined copy in another entry, unless an earlier copy in the same entry has the same set of addresses.
+/// Adds the stretches of an entry if it is an inlined copy in another entry. It is left out if an
+/// earlier copy directly in the same entry has the same set of addresses.
 #[tactic(auto, using(crate::proofs::CollectLemmas::adds_other, crate::proofs::CollectLemmas::adds_nowhere, crate::proofs::CollectLemmas::adds_earlier, crate::proofs::CollectLemmas::adds_spans))]
 fn push_copy(
     met: &mut MetCopies,
@@ -54,9 +55,11 @@ fn push_copy(
     Ok(())
 }
 
-/// Sets `stretches` to the stretches of a unit's inlined copies, in the order of their entries. The class of a stretch is the number of the entry
-/// that the copy is in. If copies directly in one entry have the same set of addresses, only the first is collected: the others are nowhere the first
-/// copy. The memory of `row` and `met` is reused. The function is never inlined, so that its loop has the registers for itself.
+/// Sets `stretches` to the stretches of a unit's inlined copies, in the order of their entries. The
+/// class of a stretch is the number of the entry that the copy is directly in. If copies directly
+/// in one entry have the same set of addresses, only the first is collected: the others are at no
+/// address the first copy. The memory of `row` and `met` is reused. The function is never inlined,
+/// so that its loop has the registers for itself.
 #[inline(never)]
 pub fn collect_copies(
     part: &UnitRead<'_>,

@@ -7,8 +7,9 @@ use std::alloc::Global;
 use step_maps::Stretch;
 use sym_edges::OutOfMemory;
 
-/// The place of the first stretch of each class, and for each stretch the place of the next one of its class. Places are counted from the end of the
-/// stretches, from 1 on; 0 means none. `nexts` goes from the last stretch to the first.
+/// The number of the first stretch of each class, and for each stretch the number of the next one
+/// of its class. Stretches are numbered from the last one, from 1 on; the number 0 means none.
+/// `nexts` goes from the last stretch to the first.
 #[derive(Drop)]
 pub struct ClassLinks {
     pub firsts: Vec<u32>,

@@ -1,4 +1,4 @@
-//! The covers of the inlined copies in one entry.
+//! The covers of the inlined copies directly in one entry.
 ghost use Rattle.std.specs.Prelude.{◌≡◌, map, OnOk};
 ghost use Rattle.std.specs.List.Sorted.{IsPermutation};
 ghost use Rattle.step_maps.specs.Runs.{IsRuns, between};
@@ -65,8 +65,9 @@ fn fill_sorted(items: &[Stretch], sorted: &mut Vec<Stretch>) -> Result<(), Alloc
     Ok(())
 }
 
-/// Sets `own` to the covers of stretches. Stretches that follow one another are their own covers; nearly all do once they are sorted. The memory of
-/// `sorted` is reused.
+/// Sets `own` to the covers of stretches. If each stretch follows the one before it, the stretches
+/// are their own covers; nearly always this is so once they are sorted. The memory of `sorted` is
+/// reused.
 #[tactic(auto, using(crate::proofs::ApartLemmas::apart_runs, crate::proofs::ApartLemmas::sorted_runs, crate::proofs::ApartLemmas::covers_run, crate::proofs::ClassLemmas::fit_some))]
 pub fn fill_covers(
     alloc: Global,

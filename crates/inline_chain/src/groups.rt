@@ -43,7 +43,8 @@ fn set_of(alloc: Global, spans: &[Span]) -> Result<RangeSet, OutOfMemory>
     Ok(set)
 }
 
-/// Adds the records of an entry with many ranges. Each record has as many as it may have, and the last has the rest.
+/// Adds the records of an entry with many ranges. Each record has 16,384 ranges, and the last one
+/// has the rest.
 fn push_parts(
     alloc: Global,
     made: &mut Vec<InlineRun>,
@@ -75,7 +76,7 @@ fn push_parts(
     Ok(())
 }
 
-/// Adds the records of an entry's ranges, mostly a single record.
+/// Adds the records of an entry's ranges; nearly always this is a single record.
 #[tactic(auto, using(crate::proofs::PartLemmas::parts_one))]
 fn push_set(
     alloc: Global,
@@ -133,7 +134,7 @@ fn push_group(
     }
     fill_spans(group, spans)?;
     let set = of_ranges(alloc, spans.as_slice())?;
-    // The contract of this call says that the set is the one list of its addresses.
+    // By the contract of this call, the ranges of the set are canonical.
     let _held = set.spans();
     push_set(alloc, made, level, entry, set)
 }

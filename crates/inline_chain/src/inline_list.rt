@@ -39,8 +39,9 @@ impl LevelLists {
     }
 }
 
-/// The inlined copies on the chains of a piece's addresses, by level and first address. For each entry on a chain, at its level, they have the
-/// maximal ranges of its addresses in the piece, in records of at most 16,384 ranges.
+/// The inlined copies on the chains of a piece's addresses, by level and first address. For each
+/// entry that is on a chain at a level, they have the maximal ranges of the addresses at which it
+/// is there, in records of at most 16,384 ranges.
 pub fn inlines(
     alloc: Global,
     trees: &InlineTrees<'_, '_>,
@@ -74,7 +75,7 @@ fn in_exact_room(alloc: Global, runs: &mut Vec<InlineRun>) -> Result<Vec<InlineR
     Ok(exact)
 }
 
-/// The records of the copies in an owner, level by level.
+/// The records of the inlined copies in an owner, level by level.
 fn runs_under(
     alloc: Global,
     lists: &FlatLists<Cover>,

@@ -1,4 +1,4 @@
-//! What holds of inlined copies by address. Each function does nothing: its contract is the law.
+//! Laws of the inlined copies of a piece. Each function does nothing: its contract is the law.
 ghost use Rattle.std.specs.Prelude.{◌≡◌, List};
 ghost use Rattle.debug_units.specs.declared.unit_read.UnitRead.{UnitRead};
 ghost use Rattle.func_flatten.specs.declared.piece.Piece.{Piece};

@@ -1,4 +1,4 @@
-//! The levels of a piece, one below the other.
+//! The levels of a piece, each made from the one before.
 ghost use Rattle.std.specs.Prelude.{◌≡◌, ℕ, ◌&&◌, ◌||◌, ◌≤◌, length, map, [], ◌∷◌, OnOk};
 ghost use Rattle.std.specs.List.{list_any};
 ghost use Rattle.step_maps.specs.Runs.{AreRuns};
@@ -19,7 +19,7 @@ fn count_below(covers: &[Cover], first: u64) -> usize
     covers.partition_point(|cover| cover.last < first)
 }
 
-/// The part of a cover inside a stretch. Both have an address in common.
+/// The part of a cover inside a stretch that has an address in common with it.
 fn cut(cover: &Cover, around: Stretch) -> Stretch
     ensures { result ≡ cut cover.now around }
 {

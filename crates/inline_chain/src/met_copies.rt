@@ -1,4 +1,5 @@
-//! Inlined copies with the same set of addresses as an earlier copy in the same entry. They own no address.
+//! Inlined copies with the same set of addresses as an earlier copy directly in the same entry.
+//! They are at no address the first copy.
 ghost use Rattle.std.specs.Prelude.{◌≡◌, true, Some, IfOk};
 ghost use Rattle.std.specs.List.{slice_get};
 ghost use Rattle.inline_chain.specs.internal.Copies.{HasEarlier};
@@ -7,15 +8,16 @@ use debug_units::UnitRead;
 use std::alloc::{AllocError, Global};
 use std::collections::BTreeMap;
 
-/// The copies that were met. `firsts` has, by the number of a set, the first copy with the set. `others` has, by a set and an entry, the first copy
-/// in that entry, if that is not the one in `firsts`. What is found here is checked before it is used.
+/// The copies that were met. `firsts` has, by the number of a set, the first copy with the set.
+/// `others` has, by a set and an entry, the first copy directly in that entry, if that is not the
+/// one in `firsts`. What is found in these lists is checked before it is used.
 #[derive(Drop)]
 pub struct MetCopies {
     firsts: Vec<u32>,
     others: BTreeMap<(usize, u32), u32>,
 }
 
-/// Whether `entry`, which was passed, is in the entry `class`.
+/// Whether `entry`, an earlier entry, is directly in the entry `class`.
 fn stands_in(row: &[Option<u32>], entry: usize, class: u32) -> bool
     ensures { result ≡ true → slice_get row.now entry ≡ Some (Some class) }
 {
@@ -28,7 +30,8 @@ fn stands_in(row: &[Option<u32>], entry: usize, class: u32) -> bool
     }
 }
 
-/// Whether `entry`, which was passed, is an inlined copy in the entry `class` with the same set as `number`.
+/// Whether `entry`, an earlier entry, is an inlined copy directly in the entry `class`, with the
+/// same set of addresses as `number`.
 #[tactic(auto, using(crate::proofs::CollectLemmas::earlier_is))]
 fn is_earlier(part: &UnitRead<'_>, row: &[Option<u32>], entry: u32, number: u32, class: u32) -> bool
     ensures { result ≡ true → HasEarlier part.now.die.dies part.now.spans row.now number (Some class) }
@@ -79,7 +82,8 @@ impl MetCopies {
         Ok(())
     }
 
-    /// Whether the entry `class` has an earlier copy with this set, whose first copy is in another entry. If there is none, the copy is noted.
+    /// Whether an earlier copy directly in the entry `class` has this set, if the first copy with
+    /// the set is in another entry. If there is none, the copy is noted.
     fn meet_other(
         &mut self,
         part: &UnitRead<'_>,
@@ -99,7 +103,8 @@ impl MetCopies {
         Ok(false)
     }
 
-    /// Whether an earlier copy in the entry `class` has the same set as the copy `number`. If there is none, the copy is noted.
+    /// Whether an earlier copy directly in the entry `class` has the same set as the copy `number`.
+    /// If there is none, the copy is noted.
     pub fn meet(
         &mut self,
         part: &UnitRead<'_>,
@@ -117,7 +122,7 @@ impl MetCopies {
             self.note_first(set, number)?;
             return Ok(false);
         };
-        // The list may be filled up here with the copy of a later set.
+        // The list may have been filled up at this index with the copy of a later set.
         if !part.spans.are_same(first as usize, number as usize) {
             self.note_first(set, number)?;
             return Ok(false);

@@ -1,4 +1,4 @@
-//! What a worker reuses from one unit's tree to the next one's.
+//! Memory that a worker reuses from one unit's tree to the next one's.
 use crate::class_links::ClassLinks;
 use crate::met_copies::MetCopies;
 use flat_lists::FlatLists;

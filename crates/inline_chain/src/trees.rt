@@ -52,7 +52,7 @@ impl<'u, 'a> InlineTrees<'u, 'a> {
         Ok(InlineTrees { units, trees })
     }
 
-    /// The covers of the entries of a unit.
+    /// The covers of the inlined copies directly in each entry of a unit.
     pub(crate) fn tree(&self, unit: u32) -> Option<&FlatLists<Cover>>
         ensures { TreeFor (slice_get self.now unit) (option_copied result) }
     {
@@ -66,7 +66,7 @@ fn tree_in(trees: &[FlatLists<Cover>], unit: usize) -> Option<&FlatLists<Cover>>
     trees.get(unit)
 }
 
-/// The units, for which workers make the trees by number.
+/// The units whose trees are made by workers, by number.
 #[derive(Drop)]
 struct TreeMaker<'u, 'a> {
     units: &'u Units<'a>,
@@ -161,7 +161,7 @@ fn tree_of(
     Ok(lists)
 }
 
-/// Adds the covers of stretches. The memory of `sorted` and `own` is reused.
+/// Adds the list of the covers of stretches. The memory of `sorted` and `own` is reused.
 fn push_covers(
     alloc: Global,
     lists: &mut FlatLists<Cover>,

@@ -1,4 +1,4 @@
--- The CFA of a written entry is a number of 64 bits, or fails.
+-- The CFA of a written entry is a number of 64 bits, or a failure.
 use Rattle.std.proofs.Common.{◌≡◌, ◌<◌, ◌+◌, ◌*◌, ◌^◌, ◌%◌, ℕ, zero, suc, Bool, true, false, nat_lt, cond, List, [], ◌∷◌, Option, None, Some, Result, Ok, Err, option_and_then, refl, sym, ap, ◌∙◌, subst, arith, int_lt, true≢false, is_some}
 use Rattle.std.specs.Option.{option_map}
 use Rattle.std.specs.List.{AllByRecursion, slice_index_or}
@@ -35,7 +35,7 @@ use Rattle.rule_postfix.specs.KnownCfa.{HasKnownCfa}
 use Rattle.rule_postfix.proofs.MeaningLemmas.{low_held, high_held}
 use Rattle.rule_postfix.proofs.WrittenLemmas.{AreWritten, written_are}
 
--- words of memory
+-- Words of memory.
 number_step : (runs : List MemRun) (n a v : ℕ) (below : Bool) (low high : Option ℕ) → ((b : ℕ) → low ≡ Some b → b < 256) → ((h : ℕ) → high ≡ Some h → h < 256 ^ n)
     → cond below (option_and_then (λ b. option_map (λ h. b + 256 * h) high) low) None ≡ Some v → v < 256 ^ suc n
 number_step runs n a v false low high small less is = absurd (cc)
@@ -56,7 +56,7 @@ word_low : (runs : List MemRun) (a v : ℕ) → AreBytes runs → word_at runs a
 unfolding word_at
 word_low runs a v bytes is = number_low runs 8 a v bytes is
 
--- numbers of 64 bits on a stack
+-- Numbers of 64 bits on a stack.
 abbrev AllWords : List ℕ → Type 0
 AllWords [] = Unit {0}
 AllWords (v ∷ stack) = (v < 2 ^ 64) × AllWords stack
@@ -115,7 +115,7 @@ operation_keeps regs memory Ge [] bytes words = tt
 operation_keeps regs memory Ge (b ∷ []) bytes words = tt
 operation_keeps regs memory Ge (b ∷ a ∷ stack) bytes words = (compared (int_lt (cast_signed w64 a) (cast_signed w64 b)), words.1.1)
 
--- the value of an expression that begins without a CFA
+-- The value of an expression that begins without the CFA.
 onward : (regs : Regs) (memory : List MemRun) (later : List Operation) (next : Result (List ℕ) Cause) → HasWords next
     → ((stack : List ℕ) → AllWords stack → IsKnown (value_over regs memory later stack)) → IsKnown (go_on next (value_over regs memory later))
 onward regs memory later (Ok stack) all known = known stack all
@@ -138,7 +138,7 @@ expr_known : (regs : Regs) (memory : List MemRun) (bytes : List ℕ) → AreByte
 unfolding expr_value
 expr_known regs memory bytes are = begun_known regs memory (standing false bytes) (operations bytes) are
 
--- the CFA by its rule
+-- The CFA, given its rule.
 base_known : (register : ℕ) (offset : _) (v : Option ℕ) → IsKnown (at_cfa (known_value register v) offset Value)
 base_known register offset None = tt
 base_known register offset (Some v) = reduced _
@@ -160,6 +160,6 @@ all_known : (entries : List FdeFields) → AreWritten entries → AllByRecursion
 all_known [] are = tt
 all_known (e ∷ entries) are = (entry_known e are.0.rows, all_known entries are.1)
 
--- the CFA of each written entry is known
+-- The CFA of each written entry is known.
 pub written_known : (code : List Range) (first second : List Entry) → AllByRecursion HasKnownCfa (written code first second)
 written_known code first second = all_known (written code first second) (written_are code first second)

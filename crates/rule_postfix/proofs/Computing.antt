@@ -1,4 +1,5 @@
--- What a proof unfolds to compute the definitions of rule_postfix, and those under them, where the input is written out.
+-- The definitions of rule_postfix, and of the crates below it, that a proof unfolds to compute a
+-- worked example.
 use Rattle.std.specs.Prelude.{⊤}
 use Rattle.sym_meaning.specs.Inits.{inits_at}
 use Rattle.rule_postfix.specs.Covering.{entries_at}

@@ -1,4 +1,5 @@
--- What a proof unfolds to compute the definitions of the crates below rule_postfix where the input is written out.
+-- The definitions of the crates below rule_postfix that a proof unfolds to compute a worked
+-- example.
 use Rattle.std.specs.Prelude.{⊤}
 use Rattle.range_set.specs.Enclosing.{encloses}
 use Rattle.sym_edges.specs.Abi.{is_kept, default_of}

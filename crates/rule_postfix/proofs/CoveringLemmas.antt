@@ -1,4 +1,5 @@
--- The INITs of an entry cover its range, each address once; for the lemmas of KeptLemmas, NestingLemmas.
+-- The INITs of an entry cover each address of its range once; for the lemmas of KeptLemmas and
+-- NestingLemmas.
 use Rattle.std.proofs.Common.{◌≡◌, ℕ, zero, suc, ◌+◌, ◌-◌, ◌≤◌, ◌&&◌, ◌||◌, nat_le, nat_lt, Bool, true, false, cond, List, [], ◌∷◌, ◌++◌, map, refl, ap, sym, ◌∙◌, arith, eq-eqb}
 use Rattle.std.specs.List.{list_any, flat_map, range_with_len}
 use Rattle.std.proofs.Math.Bool.{and_comm}
@@ -22,11 +23,11 @@ use Rattle.rule_postfix.specs.Covering.{holds_address, entries_at, AreDisjoint}
 use Rattle.rule_postfix.proofs.LinesLemmas.{line_of}
 use Rattle.rule_postfix.proofs.ValidLemmas.{cut_within}
 
--- one, where an address lies from one up to another
+-- 1 if an address is from `low` on and below `high`, otherwise 0.
 from_to : ℕ → ℕ → ℕ → ℕ
 from_to low high a = cond (nat_le low a && nat_lt a high) 1 0
 
--- two ranges side by side
+-- Two ranges side by side.
 joined : (a low mid high : ℕ) → low ≤ mid → mid ≤ high → from_to low mid a + from_to mid high a ≡ from_to low high a
 unfolding from_to
 joined a low mid high le more = grind (arith, nat_tests)
@@ -96,12 +97,12 @@ unfolding first_cut is_cut
 first_is_start row start zero = refl
 first_is_start row start (suc n) = ap (λ t. cond (t || some_becomes_unspecified (row (start - 1)) (row start)) start (first_cut row start (start + 1) n)) (eq-eqb start start refl)
 
--- the INITs of a range cover its addresses once
+-- The INITs of a range cover each of its addresses once.
 range_inits : (fde : FdeFields) (row : ℕ → Row) (start size base x : ℕ) → base ≤ start → inits_at (frame_lines fde row start size base) x ≡ from_to start (start + size) (x + base)
 unfolding frame_lines
 range_inits fde row start size base x le = inits_from fde row start base (start + size) x start size refl le ∙ ap (λ k. from_to k (start + size) (x + base)) (first_is_start row start size)
 
--- entries that start at or above a base
+-- All entries start at or above a base.
 unfoldable pub AreAbove : ℕ → List FdeFields → Type 0
 AreAbove base [] = Unit {0}
 AreAbove base (e ∷ entries) = (base ≤ e.start) × AreAbove base entries

@@ -1,4 +1,5 @@
--- What the pass over the entries holds, entry after entry; for `new`, `put_behind`, `put_entry`, `put_free`, `put_range`, `translate_all`, `write`.
+-- What the pass over the entries has decided, entry after entry; for `new`, `put_behind`,
+-- `put_entry`, `put_free`, `put_range`, `translate_all`, `write`.
 use Rattle.std.proofs.Common.{◌≡◌, ℕ, ◌+◌, ◌-◌, ◌<◌, ◌≤◌, ◌&&◌, ◌^◌, not, nat_lt, nat_le, Bool, true, false, List, [], ◌∷◌, ◌++◌, map, take, drop, length, get_or, Option, None, Some, Err, refl, ap, sym, ◌∙◌, inl, inr, arith, subst}
 use Rattle.std.specs.List.{flat_map, list_any}
 use Rattle.std.proofs.lemmas.Bool.{and_parts, not-true, or_cases, leb-true, ltb-true}
@@ -31,7 +32,7 @@ use Rattle.frame_rows.specs.Rows.{rows_fault}
 use Rattle.rule_postfix.proofs.SpellingLemmas.{canon_append}
 use Rattle.rule_postfix.proofs.ReasonLemmas.{no_rows}
 
--- one entry more, and others
+-- One entry more, and others.
 pub lines_append : (base : ℕ) (ws others : List FdeFields) → written_lines base (ws ++ others) ≡ written_lines base ws ++ written_lines base others
 unfolding written_lines
 lines_append base ws others = flat_map-append (entry_lines base) ws others
@@ -48,12 +49,12 @@ shows_more base p q e d full last new lines these was more now same taken so = r
   taken = taken ∙ ap (λ rs. rs ++ range_of e ∷ []) so.taken ∙ sym (map-append range_of d.written (e ∷ []));
 }
 
--- nothing yet
+-- Nothing is decided yet.
 pub shows_none : (base : ℕ) (p : Progress) → text_bytes p.text ≡ [] → p.omitted.items ≡ [] → p.taken ≡ [] → Shows base p none_decided
 unfolding written_lines canon_text
 shows_none base p text omitted taken = record { text = text; omitted = omitted; taken = taken }
 
--- what is enclosed by code above a base lies above it
+-- A range that code above a base encloses is above the base.
 pub enclosed_above : (base start end : ℕ) (code : List Range) → AllFrom base code → encloses code start end ≡ true → base ≤ start
 unfolding encloses
 enclosed_above base start end [] above is = cc
@@ -66,7 +67,7 @@ enclosed_above base start end (r ∷ code) above is =
 pub lies_above : (base : ℕ) (code kept : List Range) → AllFrom base code → ((start end : ℕ) → encloses kept start end ≡ encloses code start end) → LiesAbove base kept
 lies_above base code kept above same = record { at = λ start end is. enclosed_above base start end code above (sym (same start end) ∙ is) }
 
--- of an entry with no reason to leave it out
+-- For an entry without a reason to leave it out.
 pub or_left : (a b : Option Reason) → option_or a b ≡ None → a ≡ None
 or_left None b is = refl
 or_left (Some why) b is = is
@@ -79,7 +80,8 @@ unless_true : (t : Bool) (why : Reason) → unless t why ≡ None → t ≡ true
 unless_true true why is = refl
 unless_true false why is = cc
 
--- its range is one of addresses, lies in one range of code, and meets none of those that are taken
+-- The range of an entry is a range of addresses, is in one range of code, and overlaps no taken
+-- range.
 pub record IsFree (code taken : List Range) (e : FdeFields) : Type 0 where
   pub some : 0 < e.size
   pub fits : e.start + e.size < 2 ^ 64
@@ -100,7 +102,7 @@ is_free code taken e none =
       apart = not-true (any_overlap (range_of e) taken) (unless_true (not (any_overlap (range_of e) taken)) reason.Overlap (or_right (unless (is_code code e) reason.Outside) (unless (not (any_overlap (range_of e) taken)) reason.Overlap) later));
     }
 
--- what is decided of an entry
+-- What is decided about an entry.
 same_reason : (base : ℕ) (code : List Range) (p : Progress) (e : FdeFields) (d : Decided) → Shows base p d → reason_behind code d.written e ≡ reason_among code p.taken e
 unfolding reason_behind reason_among
 same_reason base code p e d so = ap (λ t. option_or (rows_reason e) (option_or (unless (is_code code e) reason.Outside) (unless (not t) reason.Overlap))) (sym (ap (any_overlap (range_of e)) so.taken))
@@ -134,14 +136,14 @@ left_too base code p q entry e why body is more d so =
     let P : Decided → Type 0 = λ x. Shows base q x in
     subst P (sym (good_by base code p entry e (Some why) d body is so)) (more base d so)
 
--- an entry that is refused after some of its text
+-- An entry that is refused after some of its text was written.
 pub refused_too : (A B : Type 0) (base : ℕ) (code : List Range) (p q r : Progress) (entry : Entry) (e : FdeFields) (end : ℕ) (stop : Stop Reason) (P : A → Type 0) (Q : B → Type 0) → entry.body ≡ Good e → EndsAt e end →
     MatchStop {A = A} {F = Reason} (Err stop) P (λ _. (b : ℕ) (d : Decided) → Shows b p d → Shows b q d) (Unit {0}) → MatchStop {A = B} {F = Reason} (Err stop) Q (λ why. rows_fault e ≡ Some why) (Unit {0}) →
     IfRefused stop (λ why. (base : ℕ) (d : Decided) → Shows base q d → Shows base r (left_out entry why d)) → (d : Decided) → Shows base p d → Shows base r (with_entry code entry d)
 refused_too A B base code p q r entry e end (Fault why) P Q body ends still bad more = left_too base code p r entry e why body (no_rows code p.taken e why ends.ranged bad) (λ b d so. more b d (still b d so))
 refused_too A B base code p q r entry e end NoMemory P Q body ends still bad more = absurd more
 
--- the text stays
+-- The text does not change.
 pub shows_same : (p q : Progress) → text_bytes q.text ≡ text_bytes p.text → q.omitted.items ≡ p.omitted.items → q.taken ≡ p.taken → (base : ℕ) (d : Decided) → Shows base p d → Shows base q d
 shows_same p q text omitted taken base d so = record {
   text = text ∙ so.text;
@@ -155,7 +157,7 @@ bad_too base code p q entry why body more d so =
     let P : Decided → Type 0 = λ x. Shows base q x in
     subst P (sym (entry_bad code entry why d body)) (more base d so)
 
--- entries in order
+-- Entries in order.
 pub entries_append : (code : List Range) (xs ys : List Entry) (d : Decided) → with_entries code (xs ++ ys) d ≡ with_entries code ys (with_entries code xs d)
 unfolding with_entries
 entries_append code [] ys d = refl
@@ -178,7 +180,7 @@ on_more base code entries i entry p q r inside is so more d first =
     let P : Decided → Type 0 = λ x. Shows base r x in
     subst P (sym (entries_more code entries i entry d inside is)) (more (with_entries code (take i entries) d) (so d first))
 
--- from one number on
+-- The entries from an index on.
 pub none_between : (base : ℕ) (code : List Range) (entries : List Entry) (from : ℕ) (p : Progress) (d : Decided) → Shows base p d → Shows base p (with_entries code (take (from - from) (drop from entries)) d)
 unfolding with_entries
 none_between base code entries from p d so =
@@ -195,7 +197,7 @@ on_next base code entries from i entry p q r up inside is so more d first =
     (on_more base code (drop from entries) (i - from) entry p q r (omega (arith, up, inside, length-drop from entries))
     (is ∙ ap (λ n. get_or entries n entry) (sym back) ∙ sym (get_or-drop from entries (i - from) entry)) so more d first)
 
--- code by its outermost ranges decides as code by all of them
+-- The outermost ranges of code decide as all ranges of code do.
 pub record SameCode (kept code : List Range) : Type 0 where
   pub at : (start end : ℕ) → encloses kept start end ≡ encloses code start end
 

@@ -20,14 +20,14 @@ use Rattle.rule_postfix.specs.internal.Writing.{lines_of}
 use Rattle.rule_postfix.proofs.LinesLemmas.{lines_are}
 use Rattle.rule_postfix.proofs.ValidLemmas.{lines_valid}
 
--- the pass over the rows of an entry gives its records
+-- The pass over the rows of an entry gives its records.
 rows_lines : (base : ℕ) (e : FdeFields) (rows : List RowAt) → AreRows e rows → 0 < e.size → lines_of e base (e.start + e.size) rows ≡ frame_lines e (row_at e) e.start e.size base
 rows_lines base e rows are some = lines_are e (row_at e) e.start e.size base rows some are.in_order are.each
 
 pub entry_text : (base end : ℕ) (e : FdeFields) (rows : List RowAt) (old text : List ℕ) → AreRows e rows → 0 < e.size → end ≡ e.start + e.size → text ≡ old ++ canon_text (lines_of e base end rows) → text ≡ old ++ canon_text (frame_lines e (row_at e) e.start e.size base)
 entry_text base end e rows old text are some sum made = made ∙ ap (λ k. old ++ canon_text (lines_of e base k rows)) sum ∙ ap (λ lines. old ++ canon_text lines) (rows_lines base e rows are some)
 
--- what the pass over the rows of an entry that begins tells of it
+-- The rows of an entry that the pass goes over.
 pass_walked : (e : FdeFields) (s : Standing) → Begins e s → s.fault ≡ None → Walked e (s.here ∷ s.later)
 pass_walked e s begun good = walked_by e (s.here ∷ s.later) (sym begun.fault ∙ good) (begun.rows good)
 
@@ -41,6 +41,6 @@ pub pass_bad : (A B : Type 0) (stop : Stop Reason) (e : FdeFields) (s : Standing
 pass_bad A B (Fault why) e s P Q begun bad = bad_instruction e why (sym begun.fault ∙ bad)
 pass_bad A B NoMemory e s P Q begun bad = tt
 
--- the records of an entry are valid after any record
+-- The records of an entry are valid after any record.
 pub entry_valid : (base : ℕ) (e : FdeFields) → rows_fault e ≡ None → 0 < e.size → e.start + e.size < 2 ^ 64 → first_bad_from 0 Inside (frame_lines e (row_at e) e.start e.size base) ≡ None
 entry_valid base e none some inside = lines_valid e (row_at e) e.start e.size base (record { sound = λ a. rows_sound e a none; cfa = (rows_have e none).everywhere; inside = inside }) some

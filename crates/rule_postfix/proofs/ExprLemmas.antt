@@ -1,4 +1,5 @@
--- The words of expressions that can be said: there are some, and they have the value; for the lemmas of ShownLemmas, ValueLemmas, WideLemmas.
+-- The words of expressions that rule text can express: there are some, and they have the value of
+-- the expression; for the lemmas of ShownLemmas, ValueLemmas, WideLemmas.
 use Rattle.std.proofs.Common.{◌≡◌, ℕ, Bool, true, List, [], ◌∷◌, Option, Some, None, is_some, Result, Ok, Err, refl}
 use Rattle.std.specs.Option.{option_and_then}
 use Rattle.sym_rules.specs.declared.rules.Token.{Token}
@@ -17,7 +18,7 @@ use Rattle.cfi_eval.specs.declared.outcome.Cause.{Cause}
 use Rattle.cfi_eval.specs.declared.outcome.Outcome.{Outcome}
 use Rattle.cfi_eval.specs.declared.outcome.Outcome.TheVariants.{Value, Undefined, Failed}
 
--- there are words
+-- There are words.
 said_by : (given : List Step) (s : Option Standing) → is_some s ≡ true → is_some (tokens_by given s) ≡ true
 said_by given None said = cc
 said_by given (Some Free) said = refl
@@ -39,13 +40,13 @@ pub rule_there : (start fetch : Bool) (bytes : List ℕ) → is_some (standing s
 unfolding rule_tokens
 rule_there start fetch bytes said = fetch_there fetch (expr_tokens start bytes) (words_there start bytes said)
 
--- an outcome that is a value or a failure
+-- An outcome that is a value or a failure.
 abbrev pub IsTold : Outcome → Type 0
 IsTold (Value v) = Unit {0}
 IsTold Undefined = ⊥
 IsTold (Failed why) = Unit {0}
 
--- that of an expression is one
+-- The outcome of an expression is a value or a failure.
 top_told : (stack : List ℕ) → IsTold (top_value stack)
 top_told [] = tt
 top_told (v ∷ stack) = tt

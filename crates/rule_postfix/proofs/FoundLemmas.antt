@@ -1,4 +1,5 @@
--- The rules that the records of written entries have at an address show the row there; for the lemmas of MeaningLemmas.
+-- The rules that the records of written entries have at an address show the row there; for the
+-- lemmas of MeaningLemmas.
 use Rattle.std.proofs.Common.{◌≡◌, ℕ, zero, suc, ◌+◌, ◌-◌, ◌<◌, ◌≤◌, ◌==◌, Bool, true, false, cond, List, [], ◌∷◌, ◌++◌, Some, None, refl, ap, sym, ◌∙◌, subst, inl, inr, arith, append_assoc, append-nil}
 use Rattle.std.specs.List.{flat_map, range_with_len}
 use Rattle.std.proofs.lemmas.Bool.{cases_lt, or_parts, le-leb, lt-leb}
@@ -23,17 +24,17 @@ use Rattle.rule_postfix.proofs.CoveringLemmas.{AreAbove, cut_above, inits_append
 use Rattle.rule_postfix.proofs.NestingLemmas.{starts_cut}
 use Rattle.rule_postfix.proofs.ShownLemmas.{IsTarget, Shows, row_shows, next_shows}
 
--- no record of changes is next
+-- The next record is no record of changes.
 pub record IsQuiet (lines : List SymLine) : Type 0 where
   pub at : (x : ℕ) → changes_until x lines ≡ []
 
--- the rules at an address show a row
+-- The rules at an address show a row.
 pub record HasRules (fde : FdeFields) (lines : List SymLine) (x : ℕ) (row : Row) : Type 0 where
   pub rules : List RuleText
   pub found : text_rules lines x ≡ Some rules
   pub shows : (t : Target) → IsTarget t → Shows fde rules row t
 
--- a record of changes above the address, and one at or below it
+-- A record of changes above the address, and one at or below it.
 quiet_change : (address x : ℕ) (rules : List RuleText) (rest : List SymLine) → x < address → changes_until x rest ≡ [] → changes_until x (change address rules ++ rest) ≡ []
 unfolding changes_until
 quiet_change address x [] rest above none = none
@@ -44,7 +45,7 @@ unfolding changes_until
 heard_change address x [] rest low = refl
 heard_change address x (r ∷ rules) rest low = ap (λ t. cond t (r ∷ rules) [] ++ changes_until x rest) (le-leb address x low)
 
--- the records of a range from an address on, and those after it
+-- The records of a range from an address on, followed by later records.
 RestOf : FdeFields → (ℕ → Row) → ℕ → ℕ → ℕ → ℕ → ℕ → List SymLine → List SymLine
 RestOf fde row start end base b n later = flat_map (records_at fde row start end base) (range_with_len b n) ++ later
 
@@ -55,7 +56,7 @@ rest_more fde row start end base b n later cut size is =
     append_assoc (records_at fde row start end base b) (flat_map (records_at fde row start end base) (range_with_len (b + 1) n)) later
     ∙ ap (λ xs. xs ++ (flat_map (records_at fde row start end base) (range_with_len (b + 1) n) ++ later)) (line_of fde row start end base b n (row (b - 1)) (row b) cut size refl refl is)
 
--- above the address no change is heard
+-- Records of changes above the address do not count.
 quiet_by : (cut : Bool) (b c base x : ℕ) (row rules : List RuleText) (rest : List SymLine) → base ≤ b → x + base < b → changes_until x rest ≡ [] → changes_until x (cond cut (Init (b - base) (c - b) row ∷ []) (change (b - base) rules) ++ rest) ≡ []
 unfolding changes_until
 quiet_by true b c base x row rules rest le above none = refl
@@ -69,7 +70,7 @@ quiet fde row start end base b (suc n) x later size le above after =
     ∙ quiet_by (is_cut row start b) b (first_cut row start (b + 1) n) base x (row_rules fde (row b)) (changed_rules fde (row (b - 1)) (row b)) (RestOf fde row start end base (b + 1) n later) le above
     (quiet fde row start end base (b + 1) n x later (omega (arith, size)) (omega (arith, le)) (omega (arith, above)) after)
 
--- rows whose rules can be said
+-- Rows whose rules can be written.
 pub record AreSaid (fde : FdeFields) (row : ℕ → Row) (start end : ℕ) : Type 0 where
   pub sound : (a : ℕ) → IsSound fde (row a)
   pub cfa : (a : ℕ) → start ≤ a → a < end → has_cfa (row a) ≡ true
@@ -90,7 +91,8 @@ stays row start b none = (or_parts (b == start) (some_becomes_unspecified (row (
 shows_at : (fde : FdeFields) (rules : List RuleText) (row : ℕ → Row) (a b : ℕ) (t : Target) → a ≡ b → Shows fde rules (row a) t → Shows fde rules (row b) t
 shows_at fde rules row a b t same shows = let P : ℕ → Type 0 = λ k. Shows fde rules (row k) t in subst P same shows
 
--- from rules that show the row before an address, the changes up to another lead to rules that show the row there
+-- If rules show the row before an address, the changes up to another address lead to rules that
+-- show the row there.
 follows : (fde : FdeFields) (row : ℕ → Row) (start end base b n x : ℕ) (rules : List RuleText) (later : List SymLine) (t : Target) → end ≡ b + n → base ≤ b → start < b → b ≤ x + base + 1 → x + base < first_cut row start b n →
     AreSaid fde row start end → IsQuiet later → IsTarget t → Shows fde rules (row (b - 1)) t → Shows fde (rules ++ changes_until x (RestOf fde row start end base b n later)) (row (x + base)) t
 unfolding first_cut RestOf
@@ -115,7 +117,7 @@ follows fde row start end base b (suc n) x rules later t size le above near belo
           (shows_at fde (rules ++ more) row b (b + 1 - 1) t (omega arith) (next_shows fde rules (row (b - 1)) (row b) t (said.sound b) (said.cfa b (omega (arith, above)) inside) (stays row start b none) is shows)))
     ]
 
--- records of changes are passed over where an INIT is sought
+-- Records of changes are passed when an INIT is looked for.
 pass_change : (address x : ℕ) (rules : List RuleText) (rest : List SymLine) → text_rules (change address rules ++ rest) x ≡ text_rules rest x
 unfolding text_rules
 pass_change address x [] rest = refl
@@ -136,7 +138,7 @@ init_past b c base x rules rest le up past =
 found_as : (fde : FdeFields) (lines more : List SymLine) (x : ℕ) (row : Row) → text_rules lines x ≡ text_rules more x → HasRules fde more x row → HasRules fde lines x row
 found_as fde lines more x row same has = record { rules = has.rules; found = same ∙ has.found; shows = has.shows }
 
--- an address at or above the first cut: the INIT there has it, or a later one
+-- For an address at or above the first cut, the INIT there covers it, or a later one does.
 FoundFrom : (fde : FdeFields) → (ℕ → Row) → ℕ → ℕ → ℕ → ℕ → ℕ → ℕ → List SymLine → Type 0
 FoundFrom fde row start end base b n x later = HasRules fde (RestOf fde row start end base b n later) x (row (x + base))
 
@@ -171,13 +173,13 @@ found_from fde row start end base b (suc n) x later size le from low high said a
     found_more fde row start end base b n x later (is_cut row start b) refl (omega (arith, size)) le from low said after
     (λ past. found_from fde row start end base (b + 1) n x later (omega (arith, size)) (omega (arith, le)) (omega (arith, from)) past high said after)
 
--- the records of an entry
+-- The records of an entry.
 entry_found : (fde : FdeFields) (row : ℕ → Row) (start size base x : ℕ) (later : List SymLine) → base ≤ start → start ≤ x + base → x + base < start + size → AreSaid fde row start (start + size) → IsQuiet later → HasRules fde (frame_lines fde row start size base ++ later) x (row (x + base))
 unfolding frame_lines RestOf FoundFrom
 entry_found fde row start size base x later le low high said after =
     found_from fde row start (start + size) base start size x later refl le (omega arith) (let at : first_cut row start start size ≡ start = first_is_start row start size in omega (arith, at, low)) high said after
 
--- records whose INITs do not cover the address are passed over
+-- Records whose INITs do not cover the address are passed.
 skip_one : (s : SymLine) (rest : List SymLine) (x : ℕ) → init_covers x s ≡ false → text_rules (s ∷ rest) x ≡ text_rules rest x
 unfolding text_rules
 skip_one (Init address size rules) rest x none = ap (λ t. cond t (Some (rules ++ changes_until x rest)) (text_rules rest x)) none
@@ -201,7 +203,7 @@ pub nothing_found : (lines : List SymLine) (x : ℕ) → inits_at lines x ≡ 0 
 unfolding text_rules
 nothing_found lines x none = ap (λ ls. text_rules ls x) (sym (append-nil lines)) ∙ skipped lines [] x none
 
--- the records of written entries begin with an INIT, or there are none
+-- The records of written entries begin with an INIT, or there are none.
 quiet_entry : (fde : FdeFields) (row : ℕ → Row) (start n base : ℕ) (later : List SymLine) → IsQuiet later → IsQuiet (frame_lines fde row start n base ++ later)
 unfolding frame_lines changes_until records_at RestOf
 quiet_entry fde row start zero base later after = after
@@ -214,7 +216,7 @@ unfolding written_lines entry_lines changes_until
 written_quiet base [] = record { at = λ x. refl }
 written_quiet base (e ∷ entries) = quiet_entry e (row_at e) e.start e.size base (written_lines base entries) (written_quiet base entries)
 
--- among all of them, where no entry before it has the address
+-- Among the records of all entries, if no earlier entry has the address.
 pub written_found : (base x : ℕ) (xs : List FdeFields) (e : FdeFields) (ys : List FdeFields) → AreAbove base xs → base ≤ e.start → entries_at xs (x + base) ≡ 0 → e.start ≤ x + base → x + base < e.start + e.size → AreSaid e (row_at e) e.start (e.start + e.size) →
     HasRules e (written_lines base (xs ++ e ∷ ys)) x (row_at e (x + base))
 unfolding written_lines entry_lines

@@ -1,4 +1,5 @@
--- The entries that are written lie above the base, and no two have an address in common; for `translate_all`.
+-- The written entries are above the base, and no two have an address in common; for
+-- `translate_all`.
 use Rattle.std.proofs.Common.{◌≡◌, ℕ, ◌+◌, List, [], ◌∷◌, ◌++◌, map, Option, None, Some, refl, ap, sym, ◌∙◌, subst}
 use Rattle.sym_edges.specs.declared.reason.Reason.{Reason}
 use Rattle.sym_edges.specs.Addresses.{Range}
@@ -44,22 +45,22 @@ all_kept : (base : ℕ) (code : List Range) (first second : List Entry) → AllF
 unfolding decided decided_of decided_behind
 all_kept base code first second from = entries_keep base code (first ++ second) none_decided from (record { above = above_none base; apart = tt })
 
--- the entries that are written start at or above the base
+-- The written entries start at or above the base.
 pub written_above : (base : ℕ) (code : List Range) (first second : List Entry) → AllFrom base code → AreAbove base (written code first second)
 unfolding written
 written_above base code first second from = (all_kept base code first second from).above
 
--- no two entries that are written have an address in common
+-- No two written entries have an address in common.
 pub written_apart : (base : ℕ) (code : List Range) (first second : List Entry) → AllFrom base code → AreDisjoint (written code first second)
 unfolding written
 written_apart base code first second from = (all_kept base code first second from).apart
 
--- as many INITs cover an address as entries that are written hold it
+-- An address is covered by as many INITs as there are written entries with it.
 pub written_cover : (base : ℕ) (code : List Range) (first second : List Entry) (lines : List SymLine) → AllFrom base code → lines ≡ written_lines base (written code first second) → (x : ℕ) → inits_at lines x ≡ entries_at (written code first second) (x + base)
 unfolding written
 written_cover base code first second lines from these x = ap (λ ls. inits_at ls x) these ∙ written_inits base x (decided code first second).written (all_kept base code first second from).above
 
--- changes stand inside the INIT of their range
+-- Changes are inside the INIT of their range.
 pub written_changes : (base : ℕ) (code : List Range) (first second : List Entry) (lines : List SymLine) → AllFrom base code → lines ≡ written_lines base (written code first second) → AreNested 0 0 lines
 unfolding written
 written_changes base code first second lines from these =

@@ -1,4 +1,5 @@
--- The pass over the rows gives the records that the rows at each address have; for the lemmas of CoveringLemmas, EntryLemmas, NestingLemmas.
+-- The pass over the rows gives the records that the rows at each address define; for the lemmas of
+-- CoveringLemmas, EntryLemmas, NestingLemmas.
 use Rattle.std.proofs.Common.{◌≡◌, ℕ, zero, suc, ◌+◌, ◌-◌, ◌<◌, ◌≤◌, ◌&&◌, ◌||◌, not, nat_le, Bool, true, false, cond, List, [], ◌∷◌, ◌++◌, Option, Some, None, refl, ap, sym, subst, ◌∙◌, inl, inr, arith, append_assoc, eq-eqb}
 use Rattle.std.specs.List.{flat_map, range_with_len, list_any, cons_option}
 use Rattle.std.proofs.lemmas.Bool.{cases_lt, ne_eqb, le-leb, lt-leb, and_right, or_from}
@@ -19,7 +20,7 @@ use Rattle.rule_postfix.specs.internal.Writing.{Open, opened, closed, with_chang
 use Rattle.rule_postfix.proofs.OptionLemmas.{some_same, none_some}
 use Rattle.rule_postfix.proofs.PartLemmas.{no_other}
 
--- a row beside itself: nothing rests anew, and nothing changes
+-- Between equal rows no column becomes unspecified, and nothing changes.
 not_both : (t : Bool) → (t && not t) ≡ false
 not_both true = refl
 not_both false = refl
@@ -49,7 +50,7 @@ never_changes : (fde : FdeFields) (x : Row) → changed_rules fde x x ≡ []
 unfolding changed_rules rules_by
 never_changes fde x = no_rules fde x targets
 
--- rows from an address on say nothing below it
+-- Rows from an address on say nothing below it.
 past_all : (low end a : ℕ) (rows : List RowAt) → Ascending low end rows → a < low → last_at rows a ≡ None
 unfolding last_at
 past_all low end a [] rising below = refl
@@ -57,7 +58,7 @@ past_all low end a (r ∷ rows) rising below =
     ap (λ o. option_or o (cond (nat_le r.address a) (Some r.row) None)) (past_all (r.address + 1) end a rows rising.2 (omega (arith, rising.0)))
     ∙ ap (λ t. cond t (Some r.row) None) (lt-leb r.address a (omega (arith, rising.0)))
 
--- after a row and those that follow it stand the rows of the range from an address on, so many
+-- A row and the rows that follow it are those of the range, from an address on.
 Follows : (ℕ → Row) → ℕ → ℕ → Row → List RowAt → Type 0
 Follows row b end before rows = (a : ℕ) → b ≤ a → a < end → option_or (last_at rows a) (Some before) ≡ Some (row a)
 
@@ -69,7 +70,7 @@ last_on : (r : RowAt) (rows : List RowAt) (a : ℕ) → r.address ≤ a → last
 unfolding last_at
 last_on r rows a le = ap (λ t. option_or (last_at rows a) (cond t (Some r.row) None)) (le-leb r.address a le)
 
--- the row at the next address is the one before, where none begins there
+-- If no row begins at the next address, the row there is the row before.
 stands : (row : ℕ → Row) (b end : ℕ) (before : Row) (rows : List RowAt) → Follows row b end before rows → b < end → Ascending (b + 1) end rows → before ≡ row b
 unfolding Follows
 stands row b end before rows follows inside rising =
@@ -91,7 +92,7 @@ follows_same : (row : ℕ → Row) (b end : ℕ) (before : Row) (rows : List Row
 unfolding Follows
 follows_same row b end before rows follows a le below = follows a (omega arith) below
 
--- an address at which the row stays
+-- An address at which the row does not change.
 cut_at : (row : ℕ → Row) (start b : ℕ) (before after : Row) → start < b → before ≡ row (b - 1) → after ≡ row b → is_cut row start b ≡ some_becomes_unspecified before after
 unfolding is_cut
 cut_at row start b before after above e f =
@@ -111,7 +112,7 @@ line_of fde row start end base b n before after cut size e f is =
     ∙ ap (λ x. cond cut (Init (b - base) (first_cut row start (b + 1) n - b) (row_rules fde (row b)) ∷ []) (change (b - base) (changed_rules fde x (row b)))) (sym e)
     ∙ ap (λ x. cond cut (Init (b - base) (first_cut row start (b + 1) n - b) (row_rules fde x) ∷ []) (change (b - base) (changed_rules fde before x))) (sym f)
 
--- what is written with a row more, and what is written then
+-- One row more is written, and then the INIT ends.
 ended_by : (fde : FdeFields) (cut : Bool) (b c : ℕ) (after : Row) (rules : List RuleText) (o : Open) (rest : List SymLine) →
     closed (cond cut (opened fde o.base (closed o b) b after) (with_changes b rules o)) c ++ rest
     ≡ closed o (cond cut b c) ++ (cond cut (Init (b - o.base) (c - b) (row_rules fde after) ∷ []) (change (b - o.base) rules) ++ rest)
@@ -124,7 +125,7 @@ base_by : (fde : FdeFields) (cut : Bool) (b : ℕ) (after : Row) (rules : List R
 base_by fde true b after rules o = refl
 base_by fde false b after rules o = refl
 
--- the records from an address on, after those that are written
+-- The records from an address on, after those that are written.
 Rests : (fde : FdeFields) → (ℕ → Row) → ℕ → ℕ → ℕ → ℕ → Row → List RowAt → Open → Type 0
 Rests fde row start end b n before rows o =
     closed (with_rows fde before rows o) end ≡ closed o (first_cut row start b n) ++ flat_map (records_at fde row start end o.base) (range_with_len b n)
@@ -183,7 +184,7 @@ rests fde row start end b (suc n) before (r ∷ rows) o size above e rising foll
       | inr past ↦ moves_more fde row start end b n before r rows o size above e rising follows (omega (arith, past, rising.0)) (λ back up on. rests fde row start end (b + 1) n r.row rows (with_row fde b before r.row o) size (omega arith) back up on)
     ]
 
--- the first row stands at the start
+-- The first row is at the start.
 first_at : (row : ℕ → Row) (start end : ℕ) (r : RowAt) (rows : List RowAt) → Ascending start end (r ∷ rows) → last_at (r ∷ rows) start ≡ Some (row start) → r.address ≡ start
 first_at row start end r rows rising at =
     elim (cases_lt start r.address) [
@@ -218,7 +219,7 @@ from_first fde row start base n end r rows size rising at e follows =
     ∙ ap (λ x. (Init (start - base) (first_cut row start (start + 1) n - start) (row_rules fde x) ∷ []) ++ tail) e
     ∙ ap (λ xs. xs ++ tail) (sym (first_line fde row start base n end size))
 
--- the pass over the rows of a range gives the records of the range
+-- The pass over the rows of a range gives the records of the range.
 pub lines_are : (fde : FdeFields) (row : ℕ → Row) (start size base : ℕ) (rows : List RowAt) → 0 < size → Ascending start (start + size) rows → ((a : ℕ) → start ≤ a → a < start + size → last_at rows a ≡ Some (row a)) → lines_of fde base (start + size) rows ≡ frame_lines fde row start size base
 unfolding last_at frame_lines
 lines_are fde row start zero base rows some rising each = absurd (omega (arith, some))

@@ -1,4 +1,5 @@
--- Rules that are added to a text, one after another; for `add_expression`, `add_column`, `add_changes`, `add_row_rules` and others.
+-- Rules that are added to a text, one after the other; for `add_expression`, `add_column`,
+-- `add_changes`, `add_row_rules` and others.
 use Rattle.std.proofs.Common.{◌≡◌, ℕ, ◌+◌, ◌==◌, false, List, [], ◌∷◌, ◌++◌, map, length, Option, None, Some, refl, ap, sym, ◌∙◌, arith, append_assoc, append-nil, length-append}
 use Rattle.std.specs.List.{flat_map, range_with_len}
 use Rattle.std.proofs.lemmas.Bool.{eqb-false}
@@ -22,7 +23,7 @@ use Rattle.rule_postfix.specs.internal.Backward.{rule_text}
 use Rattle.rule_postfix.proofs.RulesLemmas.{one_rule, rules_append, range_more, rules_from_empty}
 use Rattle.rule_postfix.proofs.SpellingLemmas.{canon_one}
 
--- the rule of a target that was written into a line, or is an expression
+-- The rule of a target, which was written into a line or is an expression.
 pub line_added : (t : Target) (words : Option (List Token)) (old none line new : List ℕ) → none ≡ [] → line ≡ rule_text t words ++ none → new ≡ old ++ line → new ≡ old ++ rule_text t words
 line_added t words old none line new empty written is = is ∙ ap (λ l. old ++ l) (written ∙ ap (λ l. rule_text t words ++ l) empty ∙ append-nil (rule_text t words))
 
@@ -37,7 +38,7 @@ pub no_words_added : (t : Target) (words : Option (List Token)) (old : List ℕ)
 unfolding rule_text spelled_rules
 no_words_added t words old none = sym (append-nil old) ∙ ap (λ o. old ++ rule_text t o) (sym none)
 
--- the targets in their order, one more
+-- One target more, in order.
 next : (tokens : Target → Option (List Token)) (ts : List Target) (t : Target) (old text new : List ℕ) → text ≡ old ++ spelled_rules (rules_of tokens ts) → new ≡ text ++ rule_text t (tokens t) → new ≡ old ++ spelled_rules (rules_of tokens (ts ++ t ∷ []))
 unfolding rule_text spelled_rules
 next tokens ts t old text new was is =
@@ -67,13 +68,13 @@ pub all_added : (fde : FdeFields) (before after : Row) (n : ℕ) (old text : Lis
 unfolding changed_rules rules_by
 all_added fde before after n old text all is = is ∙ ap (λ k. old ++ spelled_rules (rules_of (if_changed fde before after) (Cfa ∷ Ra ∷ registers k))) all
 
--- beside a row that says nothing, those of a row
+-- The rules of a row are the changes from a row without rules.
 pub row_added : (fde : FdeFields) (empty row : Row) (old text new : List ℕ) → empty ≡ empty_row → text ≡ old ++ spelled_rules (changed_rules fde empty row) → new ≡ text ++ 10 ∷ [] → new ≡ old ++ (spelled_rules (row_rules fde row) ++ 10 ∷ [])
 row_added fde empty row old text new e was is =
     is ∙ ap (λ l. l ++ 10 ∷ []) (was ∙ ap (λ l. old ++ spelled_rules l) (ap (λ r. changed_rules fde r row) e ∙ rules_from_empty fde row))
     ∙ append_assoc old (spelled_rules (row_rules fde row)) (10 ∷ [])
 
--- a record of changes, where there are any
+-- A record of changes, if there are any.
 pub no_record : (address : ℕ) (rules : List RuleText) (none changes old : List ℕ) → none ≡ [] → changes ≡ none ++ spelled_rules rules → length changes ≡ 0 → old ≡ old ++ canon_text (change address rules)
 unfolding canon_text spelled_rules spelled_rule
 no_record address [] none changes old empty made nothing = sym (append-nil old)
@@ -92,7 +93,7 @@ record_added address (r ∷ rules) none changes nothing line old front text new 
     ∙ append_assoc old (change_front address ++ body) (10 ∷ [])
     ∙ ap (λ l. old ++ l) (append_assoc (change_front address) body (10 ∷ []) ∙ change_line address (r ∷ rules) ∙ sym (canon_one (Change address (r ∷ rules))))
 
--- no column becomes unspecified yet
+-- No column has become unspecified yet.
 pub none_lost_yet : (before after : Row) → some_unspecified_below before after 0 ≡ false
 unfolding some_unspecified_below
 none_lost_yet before after = refl

@@ -1,4 +1,5 @@
--- The records of written entries mean what DWARF's rows mean; for the law on the meaning of frames.
+-- The records of written entries mean what DWARF's rows mean; for the law about the meaning of
+-- frames.
 use Rattle.std.proofs.Common.{◌≡◌, ℕ, ◌+◌, ◌-◌, ◌<◌, ◌≤◌, nat_le, nat_lt, true, cond, List, [], ◌∷◌, ◌++◌, Option, None, refl, ap, sym, ◌∙◌, subst, arith, append_assoc, append-nil}
 use Rattle.std.specs.List.{list_all, AllByRecursion}
 use Rattle.std.specs.Option.{option_map}
@@ -38,7 +39,7 @@ use Rattle.rule_postfix.proofs.ShownLemmas.{IsTarget, Shows}
 use Rattle.rule_postfix.proofs.FoundLemmas.{AreSaid, HasRules, written_found, after_found, nothing_found}
 use Rattle.rule_postfix.proofs.ValueLemmas.{cfa_shown, ra_shown, register_shown}
 
--- rules that show a row give its frame
+-- Rules that show a row give its frame.
 frame_shown : (e : FdeFields) (row : Row) (regs : Regs) (memory : List MemRun) (rules : List RuleText) → IsSound e row → has_cfa row ≡ true → ((t : Target) → IsTarget t → Shows e rules row t) → IsFrameOf row (row_frame e row regs memory) (frame_of regs memory rules)
 unfolding frame_of row_frame
 frame_shown e row regs memory rules sound has shows = record {
@@ -56,11 +57,11 @@ says_by e row regs memory lines x sound has rules =
     let P : Option Frame → Type 0 = λ o. SaysFrame row (row_frame e row regs memory) o in
     subst P (sym (ap (option_map (frame_of regs memory)) rules.found)) (frame_shown e row regs memory rules.rules sound has rules.shows)
 
--- an entry without a reason of its rows has rows that can be said
+-- If the rows of an entry give no reason, their rules can be written.
 rows_said : (e : FdeFields) → rows_fault e ≡ None → AreSaid e (row_at e) e.start (e.start + e.size)
 rows_said e none = record { sound = λ a. rows_sound e a none; cfa = (rows_have e none).everywhere }
 
--- no entry before another has an address of it
+-- How many entries of two lists have an address.
 entries_append : (xs ys : List FdeFields) (a : ℕ) → entries_at (xs ++ ys) a ≡ entries_at xs a + entries_at ys a
 unfolding entries_at
 entries_append xs ys a = sum_by-append (λ w. cond (holds_address a w) 1 0) xs ys
@@ -83,7 +84,7 @@ low_held a e held = leb-true e.start a (and_parts (nat_le e.start a) (nat_lt a (
 pub high_held : (a : ℕ) (e : FdeFields) → holds_address a e ≡ true → a < e.start + e.size
 high_held a e held = ltb-true a (e.start + e.size) (and_parts (nat_le e.start a) (nat_lt a (e.start + e.size)) held).1
 
--- what is known of the entries that are written
+-- What is known of the written entries.
 pub record AreKept (base : ℕ) (entries : List FdeFields) : Type 0 where
   pub above : AreAbove base entries
   pub apart : AreDisjoint entries
@@ -120,7 +121,8 @@ none_else : (base x : ℕ) (entries : List FdeFields) (lines : List SymLine) (re
 unfolding text_frame
 none_else base x entries lines regs memory cover none = ap (option_map (frame_of regs memory)) (nothing_found lines x (cover ∙ none))
 
--- after records that say nothing of frames, those of the written entries mean what the rows of the entries mean
+-- After records that are not about frames, the records of the written entries mean what the rows of
+-- the entries mean.
 pub frames_kept : (base : ℕ) (code : List Range) (first second : List Entry) (front : List SymLine) → AllFrom base code → list_all is_frameless front ≡ true → KeepsFrames base (written code first second) (front ++ written_lines base (written code first second))
 frames_kept base code first second front from plain =
     let entries : List FdeFields = written code first second in
@@ -133,7 +135,7 @@ frames_kept base code first second front from plain =
 pub entries_kept : (base : ℕ) (code : List Range) (first second : List Entry) → AllFrom base code → KeepsFrames base (written code first second) (written_lines base (written code first second))
 entries_kept base code first second from = frames_kept base code first second [] from refl
 
--- the records of one entry
+-- The records of one entry.
 pub entry_kept : (base : ℕ) (e : FdeFields) → base ≤ e.start → rows_fault e ≡ None → KeepsRows base (lines_of_rows e (row_at e) e.start e.size base) e
 unfolding written_lines entry_lines any_overlap AreAbove
 entry_kept base e le none =

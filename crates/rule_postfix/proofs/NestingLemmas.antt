@@ -1,4 +1,5 @@
--- The records of changes stand inside the INIT of their range, and their addresses rise; for the lemmas of KeptLemmas.
+-- The records of changes are inside the INIT of their range, and their addresses rise; for the
+-- lemmas of KeptLemmas.
 use Rattle.std.proofs.Common.{◌≡◌, ℕ, zero, suc, ◌+◌, ◌-◌, ◌<◌, ◌≤◌, ◌||◌, Bool, true, false, cond, List, [], ◌∷◌, ◌++◌, refl, ap, sym, ◌∙◌, arith, append_assoc, eq-eqb, subst}
 use Rattle.std.specs.List.{flat_map, range_with_len}
 use Rattle.frame_rows.specs.declared.row.Row.{Row}
@@ -14,18 +15,18 @@ use Rattle.sym_meaning.specs.Inits.{AreNested}
 use Rattle.rule_postfix.proofs.LinesLemmas.{line_of}
 use Rattle.rule_postfix.proofs.CoveringLemmas.{AreAbove, cut_above, first_by}
 
--- records that are nested after any record
+-- Records that are nested after any record.
 pub record NestedAlways (lines : List SymLine) : Type 0 where
   pub at : (last end : ℕ) → AreNested last end lines
 
--- the record of one address, before records that are nested after it
+-- The record of one address, before records that are nested after it.
 nested_line : (cut : Bool) (b c base last end : ℕ) (row rules : List RuleText) (lines : List SymLine) → base ≤ b → last + base < b → b < c → end + base ≡ cond cut b c →
     ((l e : ℕ) → l + base < b + 1 → e + base ≡ c → AreNested l e lines) → AreNested last end (cond cut (Init (b - base) (c - b) row ∷ []) (change (b - base) rules) ++ lines)
 nested_line true b c base last end row rules lines le above below is more = (omega (arith, below), more (b - base) (b - base + (c - b)) (omega (arith, le)) (omega (arith, le, below)))
 nested_line false b c base last end row [] lines le above below is more = more last end (omega (arith, above)) is
 nested_line false b c base last end row (r ∷ rules) lines le above below is more = (omega (arith, above), (omega (arith, is, below, le), more (b - base) end (omega (arith, le)) is))
 
--- the records from an address on
+-- The records from an address on.
 nested_from : (fde : FdeFields) (row : ℕ → Row) (start base end b n last stop : ℕ) (lines : List SymLine) → end ≡ b + n → base ≤ b → last + base < b → stop + base ≡ first_cut row start b n → NestedAlways lines → AreNested last stop (flat_map (records_at fde row start end base) (range_with_len b n) ++ lines)
 nested_from fde row start base end b zero last stop lines size le above is always = always.at last stop
 nested_from fde row start base end b (suc n) last stop lines size le above is always =
@@ -42,7 +43,7 @@ pub starts_cut : (row : ℕ → Row) (start : ℕ) → is_cut row start start �
 unfolding is_cut
 starts_cut row start = ap (λ t. t || some_becomes_unspecified (row (start - 1)) (row start)) (eq-eqb start start refl)
 
--- the records of a range begin with an INIT
+-- The records of a range begin with an INIT.
 nested_range : (fde : FdeFields) (row : ℕ → Row) (start base n : ℕ) (lines : List SymLine) → base ≤ start → NestedAlways lines → NestedAlways (frame_lines fde row start n base ++ lines)
 unfolding frame_lines
 nested_range fde row start base zero lines le always = always
@@ -62,7 +63,7 @@ nested_range fde row start base (suc n) lines le always = record {
 nested_none : NestedAlways []
 nested_none = record { at = λ last end. tt }
 
--- the records of entries above the base
+-- The records of entries above the base.
 pub written_nested : (base : ℕ) (entries : List FdeFields) → AreAbove base entries → NestedAlways (written_lines base entries)
 unfolding written_lines entry_lines AreAbove
 written_nested base [] above = nested_none

@@ -1,4 +1,5 @@
--- What is decided of an entry, whatever stands after it; for `entries_are_decided_by_their_reasons`.
+-- What is decided about an entry, whatever comes after it; for
+-- `entries_are_decided_by_their_reasons`.
 use Rattle.std.proofs.Common.{◌≡◌, List, [], ◌∷◌, ◌++◌, Option, None, Some, refl, ap, sym, ◌∙◌}
 use Rattle.std.proofs.lemmas.List.{append-nil, append_assoc}
 use Rattle.sym_edges.specs.declared.reason.Reason.{Reason}
@@ -12,7 +13,7 @@ use Rattle.rule_postfix.specs.Written.{Decided, body_reason, reason_of, with_fie
 use Rattle.rule_postfix.specs.Decision.{omission_for, fields_for, fields_of}
 use Rattle.rule_postfix.proofs.DecidedLemmas.{entries_append}
 
--- a decision adds to what is written and to what is left out
+-- A decision adds to the written entries and to the omissions.
 fields_written : (b : Body) (d : Decided) → (with_fields b d).written ≡ d.written ++ fields_of b
 fields_written (Good e) d = refl
 fields_written (Bad why) d = sym (append-nil d.written)
@@ -29,7 +30,7 @@ decision_omitted : (entry : Entry) (o : Option Reason) (d : Decided) → (with_d
 decision_omitted entry None d = fields_omitted entry.body d
 decision_omitted entry (Some why) d = refl
 
--- what is left out before is carried along
+-- Earlier omissions come before the later ones.
 behind : (code : List Range) (entries : List Entry) (ws : List FdeFields) (os : List Omission) → (with_entries code entries (record { written = ws; omitted = os })).omitted ≡ os ++ (decided_behind code ws entries).omitted
 unfolding with_entries with_entry decided_behind reason_of
 behind code [] ws os = sym (append-nil os)
@@ -46,7 +47,7 @@ behind code (x ∷ entries) ws os =
     ∙ ap (λ vs. (with_decision x o none).omitted ++ (decided_behind code vs entries).omitted) (sym same)
     ∙ sym (behind code entries (with_decision x o none).written (with_decision x o none).omitted))
 
--- the entry's decision, between what was left out before it and what is left out after it
+-- The decision about an entry comes between the omissions before it and those after it.
 pub omitted_there : (code : List Range) (xs ys : List Entry) (entry : Entry) → (decided_of code (xs ++ entry ∷ ys)).omitted
     ≡ (decided_of code xs).omitted ++ (omission_for entry (reason_of code (decided_of code xs).written entry) ++ (decided_behind code (decided_of code (xs ++ entry ∷ [])).written ys).omitted)
 unfolding with_entries with_entry decided_behind decided_of

@@ -1,4 +1,4 @@
--- Values that may be missing; for the lemmas of LinesLemmas, OverlapLemmas.
+-- Values that may be missing; for the lemmas of LinesLemmas and OverlapLemmas.
 use Rattle.std.proofs.Common.{◌≡◌, Some, None}
 
 pub some_same : {A : Type 0} (x y : A) → Some x ≡ Some y → x ≡ y

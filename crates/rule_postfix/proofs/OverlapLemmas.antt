@@ -1,5 +1,5 @@
--- Ranges of which no two meet, in their union or in a list that rises: which of them a range meets, and one more; for `union_of`, `union_with`,
--- `meets`, `meets_rising`, `new`, `put`.
+-- Which of some ranges without overlap a range overlaps, in their union or in an ascending list;
+-- for `union_of`, `union_with`, `meets`, `meets_rising`, `new`, `put`.
 use Rattle.std.proofs.Common.{◌≡◌, ℕ, zero, suc, ◌+◌, ◌<◌, ◌≤◌, ◌&&◌, ◌||◌, nat_lt, nat_le, max, true, false, List, [], ◌∷◌, ◌++◌, length, take, get_or, Option, None, Some, refl, ap, sym, ◌∙◌, inl, inr, subst, arith}
 use Rattle.std.specs.List.{list_any}
 use Rattle.std.specs.List.Sorted.{IsNonDecreasingBy, IsPartitionedBy, IsPartitionPoint}
@@ -12,19 +12,19 @@ use Rattle.sym_edges.specs.Addresses.{Range}
 use Rattle.range_union.specs.Ranges.{overlap, any_overlap}
 use Rattle.rule_postfix.specs.internal.Taken.{AreRising, EndBy, AreAlike, AreFound, AreTaken}
 
--- where all end at or below an address, none meets a range from it on
+-- If all ranges end at or below an address, none overlaps a range that starts at it or later.
 pub none_reaches : (q : Range) (top : ℕ) (ranges : List Range) → top ≤ q.start → EndBy top ranges → false ≡ any_overlap q ranges
 unfolding any_overlap
 none_reaches q top [] le by = refl
 none_reaches q top (r ∷ ranges) le by =
     sym (or_from (overlap q r) (list_any (overlap q) ranges) (ap (λ t. t && nat_lt r.start q.end) (le-ltb q.start r.end (omega (arith, le, by.0)))) (sym (none_reaches q top ranges le by.1)))
 
--- one range more in a list
+-- One range more in a list.
 meets_push : (q : Range) (ranges : List Range) (r : Range) → any_overlap q (ranges ++ r ∷ []) ≡ (any_overlap q ranges || overlap q r)
 unfolding any_overlap
 meets_push q ranges r = list_any-append (overlap q) ranges (r ∷ []) ∙ ap (λ t. list_any (overlap q) ranges || t) (or_comm (overlap q r) false)
 
--- the union grows by one more
+-- One range more in the union.
 abbrev pub GrowsBy : List Range → List Range → Range → Type 0
 GrowsBy united more r = (q : Range) → any_overlap q more ≡ (any_overlap q united || overlap q r)
 
@@ -80,7 +80,7 @@ pub found_push : (ranges : List Range) (ends : Option (List Range)) (top : ℕ) 
 found_push ranges None top r none taken le some = rising_push 0 top ranges r taken.found taken.by le (omega arith) some
 found_push ranges (Some ends) top r none taken le some = cc
 
--- ranges that rise: the first that ends above a start decides
+-- In ascending ranges, the first that ends above the start decides.
 rising_none : (q : Range) (low : ℕ) (ranges : List Range) → q.end ≤ low → AreRising low ranges → list_any (overlap q) ranges ≡ false
 rising_none q low [] le up = refl
 rising_none q low (r ∷ ranges) le up =

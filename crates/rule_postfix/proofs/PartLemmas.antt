@@ -1,4 +1,4 @@
--- Parts that are the same; for the lemmas of LinesLemmas, RulesLemmas.
+-- Parts that are the same; for the lemmas of LinesLemmas and RulesLemmas.
 use Rattle.std.proofs.Common.{◌≡◌, ℕ, ℤ, ◌==◌, ◌&&◌, Bool, true, false, cond, None, refl, ap, sym, ◌∙◌, eq-eqb}
 use Rattle.std.specs.Ordering.{int_eq}
 use Rattle.std.proofs.lemmas.Bool.{and_from}
@@ -40,21 +40,21 @@ rule_same (rule.ValOffset n) = int_same n
 rule_same (rule.Register r) = eq-eqb r r refl
 rule_same (rule.Expr fetch place) = and_from (same_bool fetch fetch) (same_place place place) (bool_same fetch) (place_same place)
 
--- a part is the same as itself
+-- A part is the same as itself.
 pub part_same : (p : RowPart) → same_part p p ≡ true
 part_same Unruled = refl
 part_same (Base cfa) = cfa_same cfa
 part_same (Column r) = rule_same r
 
--- what stays is not another
+-- The same part is no change.
 pub no_other : (fde : FdeFields) (t : Target) (p : RowPart) → if_other fde t p p ≡ None
 no_other fde t p = ap (λ b. cond b None (spelled fde t p)) (part_same p)
 
--- equal rules give no change
+-- Equal rules are no change.
 pub same_rules : (fde : FdeFields) (t : Target) (column : ℕ) (before after : Rule) → before ≡ after → None ≡ if_other fde t (column_part column before) (column_part column after)
 same_rules fde t column before after e = sym (ap (λ r. if_other fde t (column_part column before) (column_part column r)) (sym e) ∙ no_other fde t (column_part column before))
 
--- a column has no part of the CFA
+-- No column has a part that is the rule of the CFA.
 no_base_by : (kept : Bool) (r : Rule) → is_base (by_group kept r) ≡ false
 no_base_by kept rule.Rest = refl
 no_base_by kept rule.Undefined = refl

@@ -28,13 +28,14 @@ use Rattle.sym_edges.specs.Abi.{Default, KeepsValue, IsCfa, Unspecified, default
 use Rattle.rule_postfix.specs.RowParts.{own_as_same, by_group, column_part, cfa_part, rule_at, part_of, is_unruled, same_part}
 use Rattle.rule_postfix.specs.RowRules.{default_tokens, unruled_tokens, own_name, rule_spelled, cfa_tokens, spelled, registers, targets, rule_of, rules_of, rules_by, if_ruled, if_changed, row_rules, changed_rules}
 
--- a part whose registers are the sixteen, whose offsets are those of an i64, and whose expression can be said
+-- A part whose registers are the sixteen, whose offsets fit into an i64, and whose expression rule
+-- text can express.
 sound_part : (fde : FdeFields) → RowPart → Bool
 sound_part fde Unruled = true
 sound_part fde (Base cfa) = is_sound_cfa fde (Some cfa)
 sound_part fde (Column r) = is_sound_rule fde 0 r
 
--- one to 1,025 words of expressions, or none at all
+-- One to 1,025 words of expressions, or none at all.
 are_plain : List Token → Bool
 are_plain words = nat_lt 0 (length words) && (nat_le (length words) 1025 && list_all is_expr_word words)
 
@@ -62,7 +63,7 @@ own_plain Ra plain = refl
 own_plain (Reg k) plain = ap (λ t. t && true) plain
 own_plain (Other name) plain = refl
 
--- the words of an expression, and those with `^` behind them
+-- The words of an expression, and the same followed by `^`.
 words_by : (start : Bool) (bytes : List ℕ) (words : List Token) (more : List Token) → expr_tokens start bytes ≡ Some words → length more ≤ 1 → list_all is_expr_word more ≡ true → are_plain (words ++ more) ≡ true
 unfolding are_plain
 words_by start bytes words more are few plain =
@@ -113,7 +114,7 @@ spelled_plain fde t Unruled plain sound = unruled_plain t plain
 spelled_plain fde t (Base cfa) plain sound = base_plain fde cfa sound
 spelled_plain fde t (Column r) plain sound = rule_plain fde t r plain sound
 
--- the parts of a sound row are sound
+-- The parts of a sound row are sound.
 register_sound : (fde : FdeFields) (own kept : Bool) (s : ℕ) → nat_lt s 16 ≡ true → sound_part fde (by_group kept (cond own rule.Same (rule.Register s))) ≡ true
 unfolding sound_part
 register_sound fde true true s below = refl
@@ -147,7 +148,7 @@ part_sound fde row Ra sound = column_sound fde row 16 sound
 part_sound fde row (Reg k) sound = column_sound fde row k sound
 part_sound fde row (Other name) sound = refl
 
--- so what is said of each target can be spelled
+-- The words of each target can be spelled.
 unless_plain : (t : Bool) (words : Option (List Token)) → plain_or_none words ≡ true → plain_or_none (cond t None words) ≡ true
 unfolding plain_or_none
 unless_plain true words plain = refl
@@ -186,7 +187,7 @@ pub changes_plain : (fde : FdeFields) (before after : Row) → IsSound fde after
 unfolding changed_rules rules_by
 changes_plain fde before after sound = rules_plain (if_changed fde before after) targets (λ t plain. changed_plain fde before after t sound plain) targets_plain
 
--- at most one rule a target
+-- There is at most one rule for a target.
 one_at_most : (t : Target) (words : Option (List Token)) (rules : List RuleText) → length (cons_option (rule_of t words) rules) ≤ length rules + 1
 one_at_most t None rules = omega arith
 one_at_most t (Some words) rules = omega arith
@@ -208,7 +209,7 @@ pub changes_most : (fde : FdeFields) (before after : Row) → length (changed_ru
 unfolding changed_rules rules_by
 changes_most fde before after = omega (arith, rules_most (if_changed fde before after) targets, eighteen)
 
--- a row with a CFA rule has a rule
+-- A row with a rule for the CFA has a rule.
 some_first : (o : Option (List Token)) (rules : List RuleText) → is_some o ≡ true → 0 < length (cons_option (rule_of Cfa o) rules)
 some_first None rules some = cc
 some_first (Some words) rules some = omega arith

@@ -1,4 +1,5 @@
--- The first reason to leave an entry out; for `end_of`, `put_behind`, `put_free`, `reason_or`, `reason_without_range`.
+-- The first reason to leave an entry out; for `end_of`, `put_behind`, `put_free`, `reason_or`,
+-- `reason_without_range`.
 use Rattle.std.proofs.Common.{◌≡◌, ℕ, ◌+◌, ◌<◌, ◌≤◌, ◌&&◌, ◌^◌, not, nat_lt, Bool, true, false, cond, List, Option, None, Some, refl, ap, sym, ◌∙◌, arith}
 use Rattle.std.proofs.lemmas.Bool.{and_right, and_from, le-ltb, lt-ltb}
 use Rattle.rule_postfix.specs.internal.Deciding.{EndsAt}
@@ -13,7 +14,7 @@ use Rattle.frame_rows.specs.Rows.{rows_fault, instruction_fault}
 use Rattle.range_union.specs.Ranges.{any_overlap}
 use Rattle.rule_postfix.specs.Written.{range_of, has_range, rows_reason, is_code, reason_among}
 
--- without a range the instructions decide, and then it is not code
+-- Without a range of addresses the instructions decide, and then the range is not code.
 unranged : (code taken : List Range) (e : FdeFields) (why : Option Reason) → has_range e ≡ false → why ≡ instruction_fault e → reason_among code taken e ≡ option_or why (Some reason.Outside)
 unfolding reason_among rows_reason is_code
 unranged code taken e why none is =
@@ -26,7 +27,7 @@ unranged_bad code taken e why none is = unranged code taken e (Some why) none is
 pub unranged_good : (code taken : List Range) (e : FdeFields) → has_range e ≡ false → None ≡ instruction_fault e → reason_among code taken e ≡ Some reason.Outside
 unranged_good code taken e none is = unranged code taken e None none is
 
--- with a range its rows decide, then its place, then the ranges that are taken
+-- With a range of addresses the rows decide, then whether the range is code, then the taken ranges.
 ranged : (code taken : List Range) (e : FdeFields) (why : Option Reason) (inside meets : Bool) → has_range e ≡ true → rows_fault e ≡ why → encloses code e.start (e.start + e.size) ≡ inside → any_overlap (range_of e) taken ≡ meets → reason_among code taken e ≡ option_or why (option_or (unless inside reason.Outside) (unless (not meets) reason.Overlap))
 unfolding reason_among rows_reason is_code
 ranged code taken e why inside meets has rows place met =
@@ -35,7 +36,7 @@ ranged code taken e why inside meets has rows place met =
     ∙ ap (λ t. option_or why (option_or (unless t reason.Outside) (unless (not (any_overlap (range_of e) taken)) reason.Overlap))) place
     ∙ ap (λ t. option_or why (option_or (unless inside reason.Outside) (unless (not t) reason.Overlap))) met
 
--- the reason that its rows give, or else a later one
+-- The reason that the rows give, or else a later one.
 pub later_reason : (rows : Option Reason) (later : Reason) → rows ≡ None → option_or rows (Some later) ≡ Some later
 later_reason rows later none = ap (λ o. option_or o (Some later)) none
 
@@ -57,7 +58,7 @@ overlaps code taken e end why ends place met is = ranged code taken e (rows_faul
 pub no_reason : (code taken : List Range) (e : FdeFields) (end : ℕ) → EndsAt e end → rows_fault e ≡ None → encloses code e.start end ≡ true → any_overlap (record { start = e.start; end = end }) taken ≡ false → reason_among code taken e ≡ None
 no_reason code taken e end ends rows place met = ranged code taken e None true false ends.ranged rows (ap (encloses code e.start) (sym ends.sum) ∙ place) (at_end taken e end false ends met)
 
--- the range of an entry as its start and size say
+-- Whether an entry has a range of addresses, given its start and size.
 pub is_empty : (e : FdeFields) → e.size ≡ 0 → has_range e ≡ false
 unfolding has_range
 is_empty e none = ap (λ n. nat_lt 0 n && nat_lt (e.start + n) (2 ^ 64)) none

@@ -1,4 +1,5 @@
--- Rules of records, one target after another; for `write_changes`, `write_registers`, `write_row_rules`.
+-- The rules of records, one target after the other; for `write_changes`, `write_registers`,
+-- `write_row_rules`.
 use Rattle.std.proofs.Common.{◌≡◌, ℕ, zero, suc, min, ◌+◌, ◌-◌, ◌<◌, ◌≤◌, ◌||◌, ◌&&◌, not, Bool, true, false, List, [], ◌∷◌, ◌++◌, map, cond, Option, None, Some, refl, ap, sym, ◌∙◌, arith, append_assoc, get_or, replicate, inl, inr}
 use Rattle.std.specs.List.{flat_map, cons_option, list_any, range_with_len, filter_map}
 use Rattle.std.specs.Option.{option_to_list}
@@ -27,7 +28,7 @@ use Rattle.rule_postfix.proofs.PartLemmas.{same_rules}
 use Rattle.rule_postfix.specs.internal.Backward.{rule_text, registers_from, some_unspecified_from}
 use Rattle.rule_postfix.specs.RowRules.{rule_of, rule_by, rules_of, rules_by, registers, targets, if_other, spelled, if_ruled, row_rules, if_changed, changed_rules, some_unspecified_below, some_becomes_unspecified}
 
--- the rules of a list of targets
+-- The rules of a list of targets.
 pub one_rule : (tokens : Target → Option (List Token)) (t : Target) → rules_of tokens (t ∷ []) ≡ option_to_list (rule_of t (tokens t))
 unfolding rules_of
 one_rule tokens t = elim (tokens t) as (λ o. filter_map (λ (u : Target). rule_of t o) (t ∷ []) ≡ option_to_list (rule_of t o)) [ None ↦ refl | Some words ↦ refl ]
@@ -43,12 +44,12 @@ pub rules_front : (tokens : Target → Option (List Token)) (t : Target) (ts : L
 unfolding rule_text spelled_rules
 rules_front tokens t ts = ap (λ rules. flat_map spelled_rule rules) (rules_cons tokens t ts) ∙ flat_map-append spelled_rule (option_to_list (rule_of t (tokens t))) (rules_of tokens ts)
 
--- a column that stays has no rule
+-- A column that does not change has no rule.
 no_text : (fde : FdeFields) (t : Target) (column : ℕ) (before after : Rule) → before ≡ after → rule_text t (if_other fde t (column_part column before) (column_part column after)) ≡ []
 unfolding rule_text spelled_rules
 no_text fde t column before after e = ap (λ o. rule_text t o) (sym (same_rules fde t column before after e))
 
--- the registers from one on, where it is followed by others
+-- The registers from a number on, if there are more.
 registers_more : (n : ℕ) → n < 16 → registers_from n ≡ Reg n ∷ registers_from (n + 1)
 unfolding registers_from
 registers_more n below =
@@ -65,7 +66,7 @@ text_stays : (fde : FdeFields) (before after : Row) (n : ℕ) → n < 16 → rul
 text_stays fde before after n below stays =
     text_more fde before after n below ∙ ap (λ l. l ++ spelled_rules (rules_of (if_changed fde before after) (registers_from (n + 1)))) (no_text fde (Reg n) n (rule_at before n) (rule_at after n) stays)
 
--- from a column on all stay
+-- No column from a number on changes.
 text_none : (fde : FdeFields) (before after : Row) (m n : ℕ) → n + m ≡ 16 → ((k : ℕ) → n ≤ k → k < 16 → rule_at before k ≡ rule_at after k) → spelled_rules (rules_of (if_changed fde before after) (registers_from n)) ≡ []
 unfolding rules_of registers_from spelled_rules
 text_none fde before after zero n is stays =
@@ -75,7 +76,7 @@ text_none fde before after (suc m) n is stays =
     let below : n < 16 = omega arith in
     text_stays fde before after n below (stays n (omega arith) below) ∙ text_none fde before after m (n + 1) (omega arith) (λ k past low. stays k (omega arith) low)
 
--- up to a column all stay
+-- No column below a number changes.
 text_all : (fde : FdeFields) (before after : Row) (n : ℕ) → n ≤ 16 → ((k : ℕ) → k < n → rule_at before k ≡ rule_at after k) → spelled_rules (rules_of (if_changed fde before after) (registers_from n)) ≡ spelled_rules (rules_of (if_changed fde before after) (registers_from 0))
 text_all fde before after zero small stays = refl
 text_all fde before after (suc n) small stays =
@@ -84,16 +85,16 @@ text_all fde before after (suc n) small stays =
     ap (λ k. spelled_rules (rules_of (if_changed fde before after) (registers_from k))) next ∙ sym (text_stays fde before after n below (stays n (omega arith)))
     ∙ text_all fde before after n (omega arith) (λ k low. stays k (omega arith))
 
--- outside of some columns all stay
+-- No column outside of some columns changes.
 rest_stays : (columns : Columns) (before after : Row) (n k : ℕ) → StayOutside columns before after → n ≡ min columns.end 16 → n ≤ k → k < 16 → rule_at before k ≡ rule_at after k
 rest_stays columns before after n k alike is past low = alike.above k (omega arith) (omega arith)
 
--- no register yet
+-- No register is written yet.
 pub no_register : (fde : FdeFields) (columns : Columns) (before after : Row) (n : ℕ) (old : List ℕ) → StayOutside columns before after → n ≡ min columns.end 16 → old ≡ spelled_rules (rules_of (if_changed fde before after) (registers_from n)) ++ old
 no_register fde columns before after n old alike is =
     sym (ap (λ l. l ++ old) (text_none fde before after (16 - n) n (omega arith) (λ k past low. rest_stays columns before after n k alike is past low)))
 
--- one more in front
+-- One register more, before the others.
 pub one_register_more : (fde : FdeFields) (before after : Row) (n less : ℕ) (old behind now : List ℕ) → less + 1 ≡ n → n ≤ 16 → behind ≡ spelled_rules (rules_of (if_changed fde before after) (registers_from n)) ++ old → now ≡ rule_text (Reg less) (if_other fde (Reg less) (column_part less (rule_at before less)) (column_part less (rule_at after less))) ++ behind → now ≡ spelled_rules (rules_of (if_changed fde before after) (registers_from less)) ++ old
 one_register_more fde before after n less old behind now at small was is =
     let text : List ℕ = rule_text (Reg less) (if_other fde (Reg less) (column_part less (rule_at before less)) (column_part less (rule_at after less))) in
@@ -105,13 +106,13 @@ pub register_stays : (fde : FdeFields) (before after : Row) (n less : ℕ) (old 
 register_stays fde before after n less old behind at small was stays =
     was ∙ ap (λ k. spelled_rules (rules_of (if_changed fde before after) (registers_from k)) ++ old) (sym at) ∙ ap (λ l. l ++ old) (sym (text_stays fde before after less (omega arith) stays))
 
--- all registers
+-- All registers.
 pub all_registers : (fde : FdeFields) (columns : Columns) (before after : Row) (n : ℕ) (old now : List ℕ) → StayOutside columns before after → n ≤ columns.first → n ≤ 16 → now ≡ spelled_rules (rules_of (if_changed fde before after) (registers_from n)) ++ old → now ≡ spelled_rules (rules_of (if_changed fde before after) (registers 16)) ++ old
 unfolding registers registers_from
 all_registers fde columns before after n old now alike past small is =
     is ∙ ap (λ l. l ++ old) (text_all fde before after n small (λ k low. alike.below k (omega arith)))
 
--- the three parts of a record's rules
+-- The three parts of a record's rules.
 pub all_rules : (fde : FdeFields) (before after : Row) (old first second third : List ℕ) → first ≡ spelled_rules (rules_of (if_changed fde before after) (registers 16)) ++ old → second ≡ rule_text Ra (if_other fde Ra (column_part 16 (rule_at before 16)) (column_part 16 (rule_at after 16))) ++ first → third ≡ rule_text Cfa (if_other fde Cfa (cfa_part before.cfa) (cfa_part after.cfa)) ++ second → third ≡ spelled_rules (changed_rules fde before after) ++ old
 unfolding changed_rules rules_by if_changed part_of
 all_rules fde before after old first second third a b c =
@@ -121,7 +122,7 @@ all_rules fde before after old first second third a b c =
     ∙ sym (append_assoc (rule_text Cfa (tokens Cfa)) (rule_text Ra (tokens Ra) ++ last) old)
     ∙ ap (λ l. l ++ old) (sym (rules_front tokens Cfa (Ra ∷ registers 16) ∙ ap (λ l. rule_text Cfa (tokens Cfa) ++ l) (rules_front tokens Ra (registers 16))))
 
--- a return address that stays has no rule
+-- A return address that does not change has no rule.
 pub no_ra_text : (fde : FdeFields) (before after : Row) (old : List ℕ) → rule_at before 16 ≡ rule_at after 16 → old ≡ rule_text Ra (if_other fde Ra (column_part 16 (rule_at before 16)) (column_part 16 (rule_at after 16))) ++ old
 no_ra_text fde before after old stays = sym (ap (λ l. l ++ old) (no_text fde Ra 16 (rule_at before 16) (rule_at after 16) stays))
 
@@ -135,7 +136,7 @@ range_from_more a n = sym (map_same (range_with_len a (n + 1))) ∙ map-range_wi
 pub range_more : (n : ℕ) → range_with_len 0 (n + 1) ≡ range_with_len 0 n ++ n ∷ []
 range_more n = let from : 0 + n ≡ n = omega arith in range_from_more 0 n ∙ ap (λ k. range_with_len 0 n ++ k ∷ []) from
 
--- columns that become unspecified
+-- Columns that become unspecified.
 pub no_more_rests : (before after : Row) (n : ℕ) → some_unspecified_below before after n ≡ false → becomes_unspecified before after n ≡ false → some_unspecified_below before after (n + 1) ≡ false
 unfolding some_unspecified_below
 no_more_rests before after n none stays =
@@ -153,7 +154,7 @@ either_way true true = refl
 either_way true false = refl
 either_way false unruled = refl
 
--- a column that stays does not
+-- A column that does not change does not become unspecified.
 rule_stays : (before after : Row) (column : ℕ) → rule_at before column ≡ rule_at after column → becomes_unspecified before after column ≡ false
 unfolding becomes_unspecified
 rule_stays before after column stays =
@@ -208,14 +209,14 @@ ra_kept before after stays none = no_more_rests before after 16 none stays
 pub ra_stays : (before after : Row) → rule_at before 16 ≡ rule_at after 16 → some_unspecified_below before after 16 ≡ false → some_becomes_unspecified before after ≡ false
 ra_stays before after stays none = ra_kept before after (rule_stays before after 16 stays) none
 
--- outside of all columns there is none
+-- Outside of all columns there is no column.
 pub alike_outside : (columns : Columns) (before after : Row) → columns ≡ all_columns → StayOutside columns before after
 alike_outside columns before after all =
     let first : columns.first ≡ 0 = ap (λ (c : Columns). c.first) all in
     let end : columns.end ≡ 17 = ap (λ (c : Columns). c.end) all in
     record { below = λ k low. absurd (omega arith); above = λ k past low. absurd (omega arith) }
 
--- beside a row that says nothing, what differs is what is not at rest
+-- The changes from a row without rules are the rules of the columns that are not unruled.
 if_from_rest : (fde : FdeFields) (t : Target) (p : RowPart) → if_other fde t Unruled p ≡ cond (is_unruled p) None (spelled fde t p)
 if_from_rest fde t Unruled = refl
 if_from_rest fde t (Base cfa) = refl
@@ -255,7 +256,7 @@ rules_from_empty fde row = rules_same (if_changed fde empty_row row) (if_ruled f
 pub from_empty : (fde : FdeFields) (empty row : Row) (old now : List ℕ) → empty ≡ empty_row → now ≡ spelled_rules (changed_rules fde empty row) ++ old → now ≡ spelled_rules (row_rules fde row) ++ old
 from_empty fde empty row old now e made = made ∙ ap (λ r. spelled_rules (changed_rules fde r row) ++ old) e ∙ ap (λ rules. spelled_rules rules ++ old) (rules_from_empty fde row)
 
--- and no column becomes unspecified after it
+-- After a row without rules no column becomes unspecified.
 never : (is_so unruled : Bool) → (is_so && (unruled && false)) ≡ false
 never true true = refl
 never true false = refl

@@ -1,4 +1,5 @@
--- What the records of all entries say of frames, and that a checker finds nothing in them: for the laws of this crate.
+-- What the records of all entries say about frames, and that a checker finds nothing in them; for
+-- the laws of this crate.
 use Rattle.std.proofs.Common.{◌≡◌, ℕ, ◌+◌, ◌-◌, ◌<◌, ◌≤◌, ◌^◌, Bool, true, false, ◌&&◌, ◌||◌, nat_le, nat_lt, cond, map, List, [], ◌∷◌, ◌++◌, arith, refl, sym, ap, subst, ◌∙◌, append_assoc, append-nil}
 use Rattle.std.proofs.lemmas.Bool.Decides.{nat_tests}
 use Rattle.std.proofs.lemmas.List.Sums.{sum_by-append}
@@ -24,7 +25,7 @@ use Rattle.rule_postfix.specs.Covering.{holds_address, entries_at, AreDisjoint, 
 use Rattle.rule_postfix.proofs.WrittenLemmas.{AreWritten, written_are}
 use Rattle.rule_postfix.proofs.KeptLemmas.{written_apart, written_cover, written_changes}
 
--- after records that say nothing of frames, those of the written entries say what they are
+-- The records of the written entries, after records that are not about frames.
 pub frames_said : (base : ℕ) (code : List Range) (first second : List Entry) (front : List SymLine) → AllFrom base code → list_all is_frameless front ≡ true → SaysFrames base (written code first second) (front ++ written_lines base (written code first second))
 frames_said base code first second front above plain = record {
   front = front;
@@ -35,12 +36,12 @@ frames_said base code first second front above plain = record {
   nested = nested_after front (written_lines base (written code first second)) plain (written_changes base code first second (written_lines base (written code first second)) above refl);
 }
 
--- entries together, and one of them
+-- All entries, and one of them.
 pub entries_more : (e : FdeFields) (entries : List FdeFields) (a : ℕ) → entries_at (e ∷ entries) a ≡ cond (holds_address a e) 1 0 + entries_at entries a
 unfolding entries_at
 entries_more e entries a = sum_by-append (λ w. cond (holds_address a w) 1 0) (e ∷ []) entries ∙ ap (λ k. k + entries_at entries a) (counted (holds_address a e))
 
--- at most one entry has an address
+-- At most one entry has an address.
 both_meet : (a : ℕ) (e f : FdeFields) → holds_address a e ≡ true → holds_address a f ≡ true → overlap (range_of e) (range_of f) ≡ true
 both_meet a e f first second = go (nat_le e.start a) refl (nat_lt a (e.start + e.size)) refl first (nat_le f.start a) refl (nat_lt a (f.start + f.size)) refl second
   where
@@ -72,7 +73,7 @@ one_entry a (e ∷ entries) apart =
     go true held few = let none : entries_at entries a ≡ 0 = no_other a e entries held apart.0 in omega (arith, none)
     go false held few = omega (arith, few)
 
--- an address of an entry is below its end
+-- An address of an entry is below its end.
 entry_below : (a : ℕ) (entries : List FdeFields) → AreWritten entries → 0 < entries_at entries a → a + 1 < 2 ^ 64
 unfolding entries_at
 entry_below a [] are some = absurd (omega arith)
@@ -84,12 +85,12 @@ entry_below a (e ∷ entries) are some =
     go true false high many later = later (omega (arith, many))
     go false c high many later = later (omega (arith, many))
 
--- what holds of a list, and of one record of frames more in front of it, holds of the records of entries
+-- What still holds after one frame record was put in front holds for the records of entries.
 flat_over : {X : Type 0} (P : List SymLine → Type 0) (f : X → List SymLine) (xs : List X) (rest : List SymLine) → ((x : X) (later : List SymLine) → P later → P (f x ++ later)) → P rest → P (flat_map f xs ++ rest)
 flat_over P f [] rest more is = is
 flat_over P f (x ∷ xs) rest more is = subst P (sym (append_assoc (f x) (flat_map f xs) rest)) (more x (flat_map f xs ++ rest) (flat_over P f xs rest more is))
 
--- it holds of records of frames more
+-- It still holds after frame records were put in front.
 pub record GrowsByFrames (P : List SymLine → Type 0) : Type 0 where
   pub init : (address size : ℕ) (rules : List RuleText) (later : List SymLine) → P later → P (Init address size rules ∷ later)
   pub change : (address : ℕ) (rules : List RuleText) (later : List SymLine) → P later → P (Change address rules ∷ later)
@@ -115,7 +116,7 @@ pub written_over : (P : List SymLine → Type 0) → GrowsByFrames P → P [] �
 unfolding written_lines
 written_over P grows none base entries = subst P (append-nil (written_lines base entries)) (flat_over P (entry_lines base) entries [] (entry_over P grows base) none)
 
--- they are plain, no FILE and no INLINE_ORIGIN
+-- The records are plain, and none is a FILE or an INLINE_ORIGIN.
 pub written_plain : (base : ℕ) (entries : List FdeFields) → ArePlain (written_lines base entries)
 written_plain base entries = written_over (λ (l : List SymLine). ArePlain l) (record { init = λ address size rules later is. (tt, is); change = λ address rules later is. (tt, is) }) tt base entries
 
@@ -125,7 +126,7 @@ written_no_file base entries = written_over (λ (l : List SymLine). HaveNoFile l
 pub written_no_origin : (base : ℕ) (entries : List FdeFields) → HaveNoOrigin (written_lines base entries)
 written_no_origin base entries = written_over (λ (l : List SymLine). HaveNoOrigin l) (record { init = λ address size rules later is. (tt, is); change = λ address rules later is. (tt, is) }) tt base entries
 
--- the INITs of written entries are not empty and end below 2^64
+-- The INITs of written entries are not empty and end below 2^64.
 frames_sized : (base : ℕ) (entries : List FdeFields) (framed : List SymLine) → ArePlain framed → AreNested 0 0 framed → ((x : ℕ) → inits_at framed x ≡ entries_at entries (x + base)) → AreWritten entries → list_all are_sized framed ≡ true
 frames_sized base entries framed plain nested cover are =
     lines_sized 0 0 framed plain nested (λ x some. less x base (2 ^ 64) (entry_below (x + base) entries are (subst (λ (n : ℕ). 0 < n) (cover x) some)))
@@ -140,6 +141,6 @@ written_sized base code first second above =
     (written_cover base code first second (written_lines base (written code first second)) above refl)
     (written_are code first second)
 
--- one INIT at most covers an address
+-- At most one INIT covers an address.
 pub written_once : (base : ℕ) (entries : List FdeFields) (lines : List SymLine) → SaysFrames base entries lines → (x : ℕ) → inits_at lines x ≤ 1
 written_once base entries lines says x = subst (λ (n : ℕ). n ≤ 1) (sym (says.covered x)) (one_entry (x + base) entries says.disjoint)

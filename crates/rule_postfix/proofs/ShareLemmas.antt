@@ -1,4 +1,5 @@
--- The entries of a section in shares; for `join_share`, `join_shares`, `meets_any`, `put_entries`, `put_share`, `take_all`.
+-- The entries of a section in shares; for `join_share`, `join_shares`, `meets_any`, `put_entries`,
+-- `put_share`, `take_all`.
 use Rattle.std.proofs.Common.{◌≡◌, ℕ, zero, suc, ◌+◌, ◌*◌, ◌<◌, ◌≤◌, ◌||◌, not, Bool, true, false, map, length, take, get_or, List, [], ◌∷◌, ◌++◌, Option, Some, None, refl, ap, sym, subst, ◌∙◌, arith, append_assoc, append-nil}
 use Rattle.std.specs.List.{list_any}
 use Rattle.std.specs.Option.{option_or}
@@ -43,7 +44,7 @@ on_all base code entries size k p q over so d first =
     let P : List Entry → Type 0 = λ es. Shows base q (with_entries code es d) in
     subst P (take_all (size * k) entries over) (so d first)
 
--- ranges of which one meets one that is taken
+-- One of the ranges overlaps a taken range.
 pub met_here : (taken ranges : List Range) (k : ℕ) (r : Range) → k < length ranges → r ≡ get_or ranges k r → true ≡ any_overlap r taken → true ≡ list_any (λ range. any_overlap range taken) ranges
 met_here taken [] k r inside is met = absurd (omega (arith, inside))
 met_here taken (x ∷ ranges) zero r inside is met = ap (λ t. t || list_any (λ range. any_overlap range taken) ranges) (met ∙ ap (λ y. any_overlap y taken) is)
@@ -64,21 +65,21 @@ met_next taken ranges k r none inside is free =
 pub met_never : (taken ranges : List Range) (k : ℕ) → list_any (λ range. any_overlap range taken) (take k ranges) ≡ false → length ranges ≤ k → false ≡ list_any (λ range. any_overlap range taken) ranges
 met_never taken ranges k none over = sym none ∙ ap (list_any (λ range. any_overlap range taken)) (take_all k ranges over)
 
--- ranges that are taken where none is
+-- Ranges that are taken when none is taken yet.
 pub all_taken : (taken more : List Range) → length taken ≡ 0 → more ≡ taken ++ more
 all_taken [] more none = refl
 all_taken (x ∷ taken) more none = absurd (omega (arith, none))
 
--- ranges that are taken one after another
+-- Ranges that are taken one after the other.
 pub taken_next : (old new ranges taken : List Range) (k : ℕ) (r : Range) → taken ≡ old ++ take k ranges → k < length ranges → r ≡ get_or ranges k r → new ≡ taken ++ r ∷ [] → new ≡ old ++ take (k + 1) ranges
 taken_next old new ranges taken k r so inside is more =
     more ∙ ap (λ rs. rs ++ r ∷ []) so ∙ append_assoc old (take k ranges) (r ∷ []) ∙ ap (λ rs. old ++ rs) (sym (take_more ranges k r inside ∙ ap (λ x. take k ranges ++ x ∷ []) (sym is)))
 
--- what is decided after other entries
+-- What is decided after other entries.
 abbrev pub joined : Decided → Decided → Decided
 joined d l = record { written = d.written ++ l.written; omitted = d.omitted ++ l.omitted }
 
--- none of the ranges that one decision takes meets one that another took
+-- No range that one decision takes overlaps a range that the other took.
 abbrev pub IsFreeOf : Decided → Decided → Type 0
 IsFreeOf d l = list_any (λ range. any_overlap range (map range_of d.written)) (map range_of l.written) ≡ false
 
@@ -89,7 +90,7 @@ free_push d l e free =
     (sym (ap (list_any test) (map-append range_of l.written (e ∷ [])) ∙ list_any-append test (map range_of l.written) (range_of e ∷ [])) ∙ free) in
     (parts.0, (or_parts (test (range_of e)) false parts.1).0)
 
--- one entry more
+-- One entry more.
 free_body : (d l : Decided) (entry : Entry) (b : Body) → IsFreeOf d (with_fields b l) → IsFreeOf d l
 free_body d l entry (Good e) free = (free_push d l e free).0
 free_body d l entry (Bad why) free = free
@@ -103,7 +104,7 @@ unfolding with_entries with_entry
 free_entries code [] d l free = free
 free_entries code (x ∷ entries) d l free = free_decision d l x (reason_of code l.written x) (free_entries code entries d (with_entry code x l) free)
 
--- the reason of an entry is the same after the other entries too, where its range is free of theirs if it is written
+-- The reason of an entry is the same after the other entries, if its range overlaps none of theirs.
 reason_by : (rows code : Option Reason) (s t : Bool) (o : Option Reason) → option_or rows (option_or code (unless (not t) reason.Overlap)) ≡ o → (o ≡ None → s ≡ false) → option_or rows (option_or code (unless (not (s || t)) reason.Overlap)) ≡ o
 reason_by (Some why) code s t o is free = is
 reason_by None (Some why) s t o is free = is
@@ -151,7 +152,7 @@ joined_entries code (x ∷ entries) d l free =
 none_joined : (d : Decided) → joined d none_decided ≡ d
 none_joined d = ap (λ es. record { written = es; omitted = d.omitted ++ [] }) (append-nil d.written) ∙ ap (λ os. record { written = d.written; omitted = os }) (append-nil d.omitted)
 
--- what was decided as if nothing were taken is decided after the others too
+-- What was decided as if no range were taken is also decided after the other entries.
 pub part_joined : (base : ℕ) (code : List Range) (entries : List Entry) (p part r : Progress) → list_any (λ range. any_overlap range p.taken) part.taken ≡ false → Shows base part (with_entries code entries none_decided) →
     text_bytes r.text ≡ text_bytes p.text ++ text_bytes part.text → r.omitted.items ≡ p.omitted.items ++ part.omitted.items → r.taken ≡ p.taken ++ part.taken → (d : Decided) → Shows base p d → Shows base r (with_entries code entries d)
 part_joined base code entries p part r free made text omitted taken d so =
@@ -166,7 +167,7 @@ part_joined base code entries p part r free made text omitted taken d so =
       taken = taken ∙ ap (λ rs. rs ++ part.taken) so.taken ∙ ap (λ rs. map range_of d.written ++ rs) made.taken ∙ sym (map-append range_of d.written m.written);
     })
 
--- a range of the other is free of those that are taken, and of those before it
+-- A range of the share overlaps neither taken ranges nor the ranges before it.
 pub part_apart : (taken ranges : List Range) → list_any (λ range. any_overlap range taken) ranges ≡ false → ((k : ℕ) (d : Range) → k < length ranges → any_overlap (get_or ranges k d) (take k ranges) ≡ false) → (k : ℕ) (d : Range) → k < length ranges → any_overlap (get_or ranges k d) (taken ++ take k ranges) ≡ false
 unfolding any_overlap
 part_apart taken ranges free apart k d below =

@@ -1,4 +1,5 @@
--- The rules of a text, the last of a target counting, say what a row says of each target; for the lemmas of FoundLemmas.
+-- The rules of a text, of which the last for each target counts, show what a row says about each
+-- target; for the lemmas of FoundLemmas.
 use Rattle.std.proofs.Common.{◌≡◌, ℕ, zero, suc, ◌+◌, ◌<◌, ◌≤◌, ◌==◌, ◌&&◌, not, nat_lt, Bool, true, false, cond, List, [], ◌∷◌, ◌++◌, map, Option, None, Some, is_some, refl, ap, sym, ◌∙◌, arith, inl, inr, eq-eqb}
 use Rattle.std.specs.List.{range_with_len, cons_option}
 use Rattle.std.specs.Option.{option_or}
@@ -27,14 +28,14 @@ use Rattle.rule_postfix.specs.RowRules.{default_tokens, unruled_tokens, spelled,
 use Rattle.rule_postfix.proofs.RulesLemmas.{one_lost}
 use Rattle.rule_postfix.proofs.ExprLemmas.{words_there, rule_there}
 
--- a target of the rules that are written
+-- A target of the rules that are written.
 abbrev pub IsTarget : Target → Type 0
 IsTarget Cfa = Unit {0}
 IsTarget Ra = Unit {0}
 IsTarget (Reg k) = k < 16
 IsTarget (Other name) = ⊥
 
--- what rules say of a target is what a row says of it
+-- The rules say about a target what the row says about it.
 abbrev pub Shows : FdeFields → List RuleText → Row → Target → Type 0
 Shows fde rules row t = option_or (rule_for t rules) (unruled_tokens t) ≡ spelled fde t (part_of row t)
 
@@ -54,7 +55,7 @@ or_some : {A : Type 0} (o old rest : Option A) → is_some o ≡ true → option
 or_some None old rest some = cc
 or_some (Some x) old rest some = refl
 
--- the last rule of a target in two lists
+-- The last rule for a target in two lists.
 for_append : (t : Target) (xs ys : List RuleText) → rule_for t (xs ++ ys) ≡ option_or (rule_for t ys) (rule_for t xs)
 unfolding rule_for
 for_append t [] ys = sym (or_none (rule_for t ys))
@@ -62,7 +63,7 @@ for_append t (x ∷ xs) ys =
     let here : Option (List Token) = cond (same_target x.target t) (Some x.tokens) None in
     ap (λ o. option_or o here) (for_append t xs ys) ∙ or_third (rule_for t ys) (rule_for t xs) here
 
--- one target more
+-- One target more.
 none_either : (b : Bool) → ◌≡◌ {A = Option (List Token)} (cond b None None) None
 none_either true = refl
 none_either false = refl
@@ -72,7 +73,7 @@ unfolding rule_for
 for_more t u None rest = sym (ap (option_or (rule_for t rest)) (none_either (same_target u t)) ∙ or_none (rule_for t rest))
 for_more t u (Some words) rest = refl
 
--- registers from one on have no rule of another target
+-- The registers from a number on have no rule for another target.
 no_cfa : (g : Target → Option (List Token)) (b n : ℕ) → rule_for Cfa (rules_of g (map Reg (range_with_len b n))) ≡ None
 unfolding rules_of rule_for
 no_cfa g b zero = refl
@@ -107,7 +108,7 @@ register_for g k b (suc n) low high =
           ∙ ap (λ t. cond t (g (Reg b)) None) (eq-eqb b k same) ∙ ap (λ i. g (Reg i)) same
     ]
 
--- of the rules that are written each target has its own
+-- Among the rules that are written, each target has its own.
 rule_is : (g : Target → Option (List Token)) (t : Target) → IsTarget t → rule_for t (rules_by g) ≡ g t
 unfolding rules_by rules_of registers
 rule_is g Cfa is =
@@ -126,7 +127,7 @@ rule_is g (Reg k) is =
     ∙ for_more (Reg k) Ra (g Ra) regs ∙ or_none (rule_for (Reg k) regs) ∙ register_for g k 0 16 (omega arith) (omega arith)
 rule_is g (Other name) is = absurd is
 
--- what is not at rest, if it is spelled, counts before what says that it is unruled
+-- A part that is not unruled counts, if it is spelled.
 unruled_is : (p : RowPart) → is_unruled p ≡ true → p ≡ Unruled
 unruled_is Unruled is = refl
 unruled_is (Base cfa) is = cc
@@ -141,7 +142,7 @@ unfolding spelled
 ruled_or fde t p true is there = sym (ap (spelled fde t) (unruled_is p is))
 ruled_or fde t p false is there = or_here (spelled fde t p) (unruled_tokens t) (there refl)
 
--- parts that are the same are one
+-- Parts that are the same are equal.
 bool_one : (a b : Bool) → same_bool a b ≡ true → a ≡ b
 bool_one true true same = refl
 bool_one true false same = cc
@@ -181,7 +182,7 @@ part_one (Base a) (Base b) same = ap Base (cfa_one a b same)
 part_one (Column a) (Column b) same = ap Column (rule_one a b same)
 part_one _ _ same = cc
 
--- a ruled part of a sound row is spelled
+-- A part of a sound row that is not unruled can be spelled.
 own_ra : (fde : FdeFields) (own kept : Bool) (s : ℕ) → (s == 16) ≡ own → nat_lt s 16 ≡ true → is_some (spelled fde Ra (by_group kept (cond own rule.Same (rule.Register s)))) ≡ true
 unfolding spelled
 own_ra fde true kept s is below = let same : s ≡ 16 = eqb-true s 16 is in absurd (grind (arith, nat_tests))
@@ -227,14 +228,14 @@ ruled_spelled fde row Ra sound is ruled = ra_spelled fde (is_kept 16) (rule_at r
 ruled_spelled fde row (Reg k) sound is ruled = register_spelled fde k (is_kept k) (rule_at row k) (sound.columns k) ruled
 ruled_spelled fde row (Other name) sound is ruled = absurd is
 
--- the rules of a row show it
+-- The rules of a row show the row.
 pub row_shows : (fde : FdeFields) (row : Row) (t : Target) → IsSound fde row → IsTarget t → Shows fde (row_rules fde row) row t
 unfolding row_rules if_ruled
 row_shows fde row t sound is =
     ap (λ o. option_or o (unruled_tokens t)) (rule_is (if_ruled fde row) t is)
     ∙ ruled_or fde t (part_of row t) (is_unruled (part_of row t)) refl (λ ruled. ruled_spelled fde row t sound is ruled)
 
--- one that comes to be unruled is too, unless it becomes unspecified
+-- A target that becomes unruled is shown, unless it becomes unspecified.
 both_unruled : (a b : RowPart) → is_unruled a ≡ true → is_unruled b ≡ true → same_part a b ≡ true
 both_unruled a b first second = ap (λ p. same_part p b) (unruled_is a first) ∙ ap (same_part Unruled) (unruled_is b second)
 
@@ -284,7 +285,7 @@ unruled_spelled fde before after (Reg k) has none is unruled other =
     unruled_some fde (Reg k) (column_part k (rule_at after k)) unruled (default_spelled before after k (default_of k) refl (stays_of before after k none (omega arith)) unruled other)
 unruled_spelled fde before after (Other name) has none is unruled other = absurd is
 
--- a record of changes takes rules that show a row to rules that show the next
+-- A record of changes leads from rules that show a row to rules that show the next row.
 pub next_shows : (fde : FdeFields) (rules : List RuleText) (before after : Row) (t : Target) → IsSound fde after → has_cfa after ≡ true → some_becomes_unspecified before after ≡ false → IsTarget t → Shows fde rules before t → Shows fde (rules ++ changed_rules fde before after) after t
 unfolding changed_rules if_changed
 next_shows fde rules before after t sound has none is shows =

@@ -10,7 +10,7 @@ use Rattle.sym_records.specs.declared.line.SymLine.{SymLine}
 use Rattle.sym_records.specs.declared.line.SymLine.TheVariants.{Change}
 use Rattle.rule_postfix.specs.FrameLines.{change}
 
--- the text of lists, one after another
+-- The text of two lists of records, one after the other.
 pub canon_append : (xs ys : List SymLine) → canon_text (xs ++ ys) ≡ canon_text xs ++ canon_text ys
 unfolding canon_text
 canon_append xs ys = flat_map-append canon xs ys
@@ -23,7 +23,7 @@ pub more : (front old new : List ℕ) (xs ys : List SymLine) → old ≡ front +
 more front old new xs ys was is =
     is ∙ ap (λ t. t ++ canon_text ys) was ∙ append_assoc front (canon_text xs) (canon_text ys) ∙ ap (λ t. front ++ t) (sym (canon_append xs ys))
 
--- where no rule differs there is no record of changes
+-- If no rule differs, there is no record of changes.
 pub no_change : (address n : ℕ) (rules : List RuleText) (none end new line : List ℕ) → none ≡ [] → end ≡ 10 ∷ none → new ≡ spelled_rules rules ++ end → n ≡ length new → n ≡ 1 → line ≡ [] → line ≡ canon_text (change address rules)
 unfolding canon_text spelled_rules spelled_rule
 no_change address n [] none end new line empty last is size one cleared = cleared
@@ -38,7 +38,7 @@ some_change address n (r ∷ rules) none end new line empty last is size some fr
     front ∙ ap (λ l. change_front address ++ l) (is ∙ ap (λ l. flat_map spelled_rule (r ∷ rules) ++ l) (last ∙ ap (λ l. 10 ∷ l) empty))
     ∙ change_line address (r ∷ rules) ∙ sym (canon_one (Change address (r ∷ rules)))
 
--- an INIT that ends: its front, and the text after that
+-- An INIT that ends: its line, and the text after that.
 pub init_closed : (front body old none a b new : List ℕ) → none ≡ [] → a ≡ front ++ none → b ≡ old ++ a → new ≡ b ++ body → new ≡ old ++ (front ++ body)
 init_closed front body old none a b new empty written first second =
     second ∙ ap (λ l. l ++ body) (first ∙ ap (λ l. old ++ l) (written ∙ ap (λ l. front ++ l) empty ∙ append-nil front)) ∙ append_assoc old front body

@@ -35,7 +35,7 @@ canon_none : (text : List ℕ) → text ≡ text ++ canon_text []
 unfolding canon_text
 canon_none text = sym (append-nil text)
 
--- an INIT that ends, with the changes in it
+-- An INIT that ends, with the changes in it.
 pub closed_spelled : (front old new : List ℕ) (base end : ℕ) (p : OpenInit) (o : Open) → IsSpelled front base old p o → new ≡ old ++ (init_front (p.start - base) (end - p.start) ++ p.body.items) → new ≡ front ++ canon_text (closed o end)
 closed_spelled front old new base end p o so is =
     let rules : List ℕ = spelled_rules o.rules ++ 10 ∷ [] in
@@ -49,7 +49,7 @@ closed_spelled front old new base end p o so is =
     ∙ ap (λ t. t ++ canon_text o.changes) (init_line (o.start - o.base) (end - o.start) o.rules)
     ∙ sym (canon_more (Init (o.start - o.base) (end - o.start) o.rules) o.changes)))
 
--- a row after another
+-- One row after another.
 pub cut_spelled : (fde : FdeFields) (front old new : List ℕ) (base a : ℕ) (before after : Row) (p q : OpenInit) (o : Open) → some_becomes_unspecified before after ≡ true → new ≡ old ++ (init_front (p.start - base) (a - p.start) ++ p.body.items) → q.start ≡ a → q.body.items ≡ spelled_rules (row_rules fde after) ++ 10 ∷ [] → IsSpelled front base old p o → IsSpelled front base new q (with_row fde a before after o)
 unfolding with_row
 cut_spelled fde front old new base a before after p q o cut is start body so =
@@ -77,7 +77,7 @@ change_spelled fde front text base a before after p q o stays start body so =
       lines = so.lines;
     })
 
--- what is spelled where a stepper stands, after its first row
+-- What is spelled when a stepper is at a row after the first.
 pub record Passing (fde : FdeFields) (base end : ℕ) (front text : List ℕ) (p : OpenInit) (before : Row) (lacking : Bool) (s first : Standing) : Type 0 where
   pub fresh : s.failed ≡ false
   pub going : s.refused ≡ None
@@ -140,11 +140,11 @@ pub pass_lacks : (fde : FdeFields) (base end : ℕ) (front old : List ℕ) (p : 
 pass_lacks fde base end front old p before lacking s first so none =
     sym (or_comm lacking false) ∙ ap (λ rows. lacking || list_any lacks_rule rows) (sym none) ∙ so.lack
 
--- where a stepper stays, all stays
+-- If the stepper does not move, nothing changes.
 pub pass_same : (fde : FdeFields) (base end : ℕ) (front text : List ℕ) (p : OpenInit) (before : Row) (lacking : Bool) (s t first : Standing) → Passing fde base end front text p before lacking s first → t ≡ s → Passing fde base end front text p before lacking t first
 pass_same fde base end front text p before lacking s t first so same = let P : Standing → Type 0 = λ k. Passing fde base end front text p before lacking k first in subst P (sym same) so
 
--- the open INIT lies between the base and the end, and below the next row
+-- The open INIT is between the base and the end, and starts below the next row.
 pub pass_above : (fde : FdeFields) (base end : ℕ) (front text : List ℕ) (p : OpenInit) (before : Row) (lacking : Bool) (s first : Standing) → Passing fde base end front text p before lacking s first → base ≤ p.start
 pass_above fde base end front text p before lacking s first so = omega (arith, so.above, so.spelled.start)
 
@@ -154,14 +154,14 @@ pass_below fde base end front text p before lacking s first so = omega (arith, s
 pub pass_rises : (fde : FdeFields) (base end : ℕ) (front text : List ℕ) (p : OpenInit) (before : Row) (lacking : Bool) (s t first : Standing) → Passing fde base end front text p before lacking s first → GoesOn s t → p.start ≤ t.here.address
 pass_rises fde base end front text p before lacking s t first so step = omega (arith, so.below, so.spelled.start, step.rises)
 
--- what is spelled so far stands after what stood in front
+-- The text before the entry does not change.
 pub front_stays : (front text more : List ℕ) → text ≡ front ++ more → take (length front) text ≡ front
 front_stays front text more is = ap (take (length front)) is ∙ take-append_seam front more
 
 pub pass_front : (fde : FdeFields) (base end : ℕ) (front text : List ℕ) (p : OpenInit) (before : Row) (lacking : Bool) (s first : Standing) → Passing fde base end front text p before lacking s first → take (length front) text ≡ front
 pass_front fde base end front text p before lacking s first so = front_stays front text (canon_text so.o.lines) so.spelled.lines
 
--- the reason of a refusal
+-- The reason of a refusal.
 pub pass_refused : (A B : Type 0) (stop : Stop Reason) (s t first : Standing) (P : A → Type 0) (Q : Type 0) (R : B → Type 0) → s.fault ≡ first.fault → MatchStop {A = A} {F = Reason} (Err stop) P (λ why. Refuses why s t) Q → MatchStop {A = B} {F = Reason} (Err stop) R (λ why. first.fault ≡ Some why) (Unit {0})
 pass_refused A B (Fault why) s t first P Q R same refuses = sym same ∙ refuses.is
 pass_refused A B NoMemory s t first P Q R same refuses = tt
@@ -174,7 +174,7 @@ pub end_text : (A B : Type 0) (stop : Stop Reason) (front old new : List ℕ) (P
 end_text A B (Fault why) front old new P R so same = ap (take (length front)) same ∙ so
 end_text A B NoMemory front old new P R so same = tt
 
--- whether there is another row; one that is last counts where no instruction is bad
+-- Whether there is another row; the last row counts if no instruction is bad.
 pub is_last : (o : Option Columns) (s t : Standing) → o ≡ None → IsNext o s t → (s.fault ≡ None → s.later ≡ []) × (t ≡ s)
 is_last None s t none next = (next.none, next.same)
 is_last (Some columns) s t none next = cc
@@ -182,19 +182,19 @@ is_last (Some columns) s t none next = cc
 pub is_more : (o : Option Columns) (columns : Columns) (s t : Standing) → o ≡ Some columns → IsNext o s t → IsNext (Some columns) s t
 is_more o columns s t is next = let P : Option Columns → Type 0 = λ k. IsNext k s t in subst P is next
 
--- two facts that hold where a call ended well
+-- Two facts that hold after a call that succeeded.
 pub on_both : {A F : Type 0} {P Q R : Type 0} (r : Result A F) → (P → Q → R) → OnOk r P → OnOk r Q → OnOk r R
 on_both (Ok x) then first second = then first second
 on_both (Err e) then first second = tt
 
--- the next row differs from this one in some columns alone
+-- The next row differs from this one only in some columns.
 pub pass_alike : (fde : FdeFields) (base end : ℕ) (front text : List ℕ) (p : OpenInit) (before after : Row) (lacking : Bool) (s t first : Standing) (columns : Columns) → Passing fde base end front text p before lacking s first → StayOutside columns s.here.row t.here.row → after ≡ t.here.row → StayOutside columns before after
 pass_alike fde base end front text p before after lacking s t first columns so alike is =
     let P : Row → Type 0 = λ row. StayOutside columns row after in
     let Q : Row → Type 0 = λ row. StayOutside columns s.here.row row in
     subst P (sym so.here) (subst Q (sym is) alike)
 
--- one row, by where it stands
+-- One row, given where it is.
 pub by_row : (fde : FdeFields) (base address : ℕ) (before row : Row) (old new : List ℕ) (p q : OpenInit) (t : Standing) → address ≡ t.here.address → row ≡ t.here.row → ((front : List ℕ) (o : Open) → IsSpelled front base old p o → IsSpelled front base new q (with_row fde address before row o)) →
     (front : List ℕ) (o : Open) → IsSpelled front base old p o → IsSpelled front base new q (with_row fde t.here.address before t.here.row o)
 by_row fde base address before row old new p q t at is one front o so =

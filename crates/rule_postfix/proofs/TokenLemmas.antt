@@ -1,4 +1,5 @@
--- The words of a rule, as they are written from the last to the first; for `write_base`, `write_cfa`, `write_column`, `write_own`, `write_part`, `write_rule` and others.
+-- The words of a rule, which are written from the last to the first; for `write_base`, `write_cfa`,
+-- `write_column`, `write_own`, `write_part`, `write_rule` and others.
 use Rattle.std.proofs.Common.{◌≡◌, ℕ, ℤ, ◌∷◌, ◌++◌, List, [], codes, Some, None, refl, ap, sym, ◌∙◌, append_assoc, append-nil}
 use Rattle.std.specs.List.{flat_map}
 use Rattle.std.specs.Fmt.{signed_decimal}
@@ -10,28 +11,28 @@ use Rattle.sym_rules.specs.declared.rules.Token.{Token}
 use Rattle.sym_rules.specs.declared.rules.Token.TheVariants as token
 use Rattle.rule_postfix.specs.internal.Backward.{rule_text}
 
--- the CFA plus an offset, and the word there
+-- The CFA plus an offset, and the word at that address.
 pub sum_written : (n : ℤ) (old a b c : List ℕ) → a ≡ codes " +" ++ old → b ≡ signed_decimal n ++ a → c ≡ codes " .cfa " ++ b → c ≡ flat_map spelled_token (token.Cfa ∷ token.Number n ∷ token.Add ∷ []) ++ old
 sum_written n old a b c p q r = rw (r, q, p) (ap (λ l. codes " .cfa " ++ l) (sym (append_assoc (signed_decimal n) (codes " +") old)))
 
 pub word_written : (n : ℤ) (old a b c : List ℕ) → a ≡ codes " + ^" ++ old → b ≡ signed_decimal n ++ a → c ≡ codes " .cfa " ++ b → c ≡ flat_map spelled_token (token.Cfa ∷ token.Number n ∷ token.Add ∷ token.Fetch ∷ []) ++ old
 word_written n old a b c p q r = rw (r, q, p) (ap (λ l. codes " .cfa " ++ l) (sym (append_assoc (signed_decimal n) (codes " + ^") old)))
 
--- a register
+-- A register.
 pub value_written : (k : ℕ) (old a b : List ℕ) → a ≡ register_name k ++ old → b ≡ 32 ∷ a → b ≡ flat_map spelled_token (token.Reg k ∷ []) ++ old
 value_written k old a b p q = rw (q, p) (ap (λ l. 32 ∷ (l ++ old)) (sym (append-nil (register_name k))))
 
--- a register plus an offset
+-- A register plus an offset.
 pub base_written : (k : ℕ) (n : ℤ) (old a b c d e : List ℕ) → a ≡ codes " +" ++ old → b ≡ signed_decimal n ++ a → c ≡ 32 ∷ b → d ≡ register_name k ++ c → e ≡ 32 ∷ d → e ≡ flat_map spelled_token (token.Reg k ∷ token.Number n ∷ token.Add ∷ []) ++ old
 base_written k n old a b c d e p q r s t =
     rw (t, s, r, q, p)
     (ap (λ l. 32 ∷ l) (sym (append_assoc (register_name k) (32 ∷ (signed_decimal n ++ codes " +")) old ∙ ap (λ l. register_name k ++ (32 ∷ l)) (append_assoc (signed_decimal n) (codes " +") old))))
 
--- the name of a register as a target
+-- The name of a register as a target.
 pub register_written : (k : ℕ) (old a b c : List ℕ) → a ≡ 58 ∷ old → b ≡ register_name k ++ a → c ≡ 32 ∷ b → c ≡ (32 ∷ target_word (Reg k)) ++ old
 register_written k old a b c p q r = rw (r, q, p) (ap (λ l. 32 ∷ l) (sym (append_assoc (register_name k) (58 ∷ []) old)))
 
--- a rule of a target, where there is one
+-- The rule of a target, if there is one.
 pub no_rule : (t : Target) (old : List ℕ) → old ≡ rule_text t None ++ old
 unfolding rule_text spelled_rules
 no_rule t old = refl

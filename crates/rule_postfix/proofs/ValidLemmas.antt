@@ -1,4 +1,5 @@
--- The records of sound rows are valid after any record; for the lemmas of CoveringLemmas, EntryLemmas.
+-- The records of sound rows are valid after any record; for the lemmas of CoveringLemmas and
+-- EntryLemmas.
 use Rattle.std.proofs.Common.{◌≡◌, ℕ, zero, suc, ◌+◌, ◌-◌, ◌<◌, ◌≤◌, ◌||◌, ◌^◌, Bool, true, false, cond, List, [], ◌∷◌, ◌++◌, length, None, refl, ap, sym, subst, ◌∙◌, arith, eq-eqb}
 use Rattle.std.specs.List.{list_all, flat_map, range_with_len}
 use Rattle.std.proofs.lemmas.Grind.{flat_map-append}
@@ -22,13 +23,13 @@ use Rattle.sym_records.proofs.JoiningLemmas.{push_behind, behind_pushed}
 use Rattle.rule_postfix.proofs.WideLemmas.{init_fits, change_fits}
 use Rattle.rule_postfix.proofs.RulesLemmas.{range_from_more}
 
--- each row of a range is sound and has a CFA rule
+-- Each row of a range is sound and has a rule for the CFA.
 pub record GoodRows (fde : FdeFields) (row : ℕ → Row) (start size base : ℕ) : Type 0 where
   pub sound : (a : ℕ) → IsSound fde (row a)
   pub cfa : (a : ℕ) → start ≤ a → a < start + size → has_cfa (row a) ≡ true
   pub inside : start + size < 2 ^ 64
 
--- records are valid after any record, and leave a place
+-- Records that are valid after any record, and the place that they leave.
 record Good (place : Place) (lines : List SymLine) : Type 0 where
   valid : first_bad_from 0 Inside lines ≡ None
   behind : place_behind Inside lines ≡ place
@@ -53,7 +54,7 @@ init_fit fde row start size base b end rows is from below =
     init_fits (b - base) (first_cut row start (b + 1) (end - (b + 1)) - b) (row_rules fde (row b)) (omega (arith, rows.inside, is)) (omega (arith, rows.inside, is, cut_within row start (b + 1) (end - (b + 1))))
     (row_plain fde (row b) (rows.sound b)) (row_some fde (row b) (rows.sound b) (rows.cfa b from (omega (arith, is)))) (row_most fde (row b))
 
--- a record of changes, if there is one
+-- A record of changes, if there is one.
 changes_good : (fde : FdeFields) → (row : ℕ → Row) (start size base b : ℕ) (rules : List RuleText) (lines : List SymLine) → GoodRows fde row start size base → b < start + size → list_all is_long_rule rules ≡ true → length rules ≤ 18 → Good Frame lines → Good Frame (lines ++ change (b - base) rules)
 changes_good fde row start size base b [] lines rows below plain most good = let P : List SymLine → Type 0 = λ xs. Good Frame xs in subst P (sym (append-nil lines)) good
 changes_good fde row start size base b (r ∷ rules) lines rows below plain most good =
@@ -94,7 +95,7 @@ all_good fde row start size base end (suc n) rows is below =
     (next_good fde row start size base (start + suc n) end (flat_map (records_at fde row start end base) (range_with_len start (suc n))) rows is (omega arith) (omega (arith, is, below))
     (let Q : ℕ → Type 0 = λ k. Good Frame (flat_map (records_at fde row start end base) (range_with_len start k)) in subst Q (sym one) (all_good fde row start size base end n rows is (omega (arith, below)))))
 
--- the records of a range of good rows are valid after any record
+-- The records of a range of good rows are valid after any record.
 pub lines_valid : (fde : FdeFields) → (row : ℕ → Row) (start size base : ℕ) → GoodRows fde row start size base → 0 < size → first_bad_from 0 Inside (frame_lines fde row start size base) ≡ None
 unfolding frame_lines
 lines_valid fde row start zero base rows some = absurd (omega (arith, some))

@@ -1,4 +1,4 @@
--- The words that say a row's rule have the value of the rule; for the lemmas of MeaningLemmas.
+-- The words of the rules of a row have the values of the rules; for the lemmas of MeaningLemmas.
 use Rattle.std.proofs.Common.{◌≡◌, ℕ, ◌+◌, ◌%◌, ◌^◌, ◌==◌, ◌&&◌, not, nat_lt, ℤ, Bool, true, false, cond, List, [], ◌∷◌, Option, Some, None, is_some, Result, Ok, Err, refl, ap, sym, ◌∙◌, arith}
 use Rattle.std.specs.Option.{option_or}
 use Rattle.std.specs.Int.{w64, cast_unsigned}
@@ -37,7 +37,7 @@ use Rattle.rule_postfix.specs.FrameMeaning.{is_undefined, is_lost}
 use Rattle.rule_postfix.proofs.ShownLemmas.{Shows}
 use Rattle.rule_postfix.proofs.ExprLemmas.{IsTold, words_there, rule_there, expr_told}
 
--- a register, by either side
+-- A register, in both definitions.
 now_by : (register : ℕ) (o : Option ℕ) → outcome_of (known_or_missing register o) ≡ known_value register o
 now_by register None = refl
 now_by register (Some v) = refl
@@ -54,7 +54,7 @@ word_is : (memory : List MemRun) (a : ℕ) → outcome_of (word_value memory a) 
 unfolding word_value
 word_is memory a = word_by a (word_at memory a)
 
--- one register
+-- One register.
 register_by_result : (regs : Regs) (memory : List MemRun) (cfa : Option Outcome) (r : ℕ) (v : Result ℕ Cause) → register_value regs r ≡ v → rule_value regs memory cfa (token.Reg r ∷ []) ≡ outcome_of v
 unfolding rule_value postfix_from with_token
 register_by_result regs memory cfa r (Ok v) is = rw is refl
@@ -63,21 +63,21 @@ register_by_result regs memory cfa r (Err why) is = rw is refl
 one_register : (regs : Regs) (memory : List MemRun) (cfa : Option Outcome) (r : ℕ) → rule_value regs memory cfa (token.Reg r ∷ []) ≡ value_now regs r
 one_register regs memory cfa r = register_by_result regs memory cfa r (register_value regs r) refl ∙ now_is regs r
 
--- the CFA itself, where it has a value or failed
+-- The CFA itself, if it has a value or has failed.
 one_cfa : (regs : Regs) (memory : List MemRun) (cfa : Outcome) → IsTold cfa → rule_value regs memory (Some cfa) (token.Cfa ∷ []) ≡ cfa
 unfolding rule_value postfix_from with_token
 one_cfa regs memory (Value v) told = refl
 one_cfa regs memory Undefined told = absurd told
 one_cfa regs memory (Failed why) told = refl
 
--- the CFA plus an offset
+-- The CFA plus an offset.
 plus_cfa : (regs : Regs) (memory : List MemRun) (cfa : Outcome) (n : ℤ) → rule_value regs memory (Some cfa) (token.Cfa ∷ token.Number n ∷ token.Add ∷ []) ≡ at_cfa cfa n Value
 unfolding rule_value postfix_from with_token
 plus_cfa regs memory (Value v) n = refl
 plus_cfa regs memory Undefined n = refl
 plus_cfa regs memory (Failed why) n = refl
 
--- the word there
+-- The word at the CFA plus an offset.
 fetched : (regs : Regs) (memory : List MemRun) (v : ℕ) (n : ℤ) (w : Result ℕ Cause) → word_value memory ((v + cast_unsigned w64 n) % 2 ^ 64) ≡ w → rule_value regs memory (Some (Value v)) (token.Cfa ∷ token.Number n ∷ token.Add ∷ token.Fetch ∷ []) ≡ outcome_of w
 unfolding rule_value postfix_from with_token
 fetched regs memory v n (Ok w) is = rw is refl
@@ -91,7 +91,7 @@ word_cfa regs memory (Value v) n =
 word_cfa regs memory Undefined n = refl
 word_cfa regs memory (Failed why) n = refl
 
--- the CFA's own rule: a register's value plus an offset
+-- The rule of the CFA: the value of a register plus an offset.
 base_by : (regs : Regs) (memory : List MemRun) (r : ℕ) (n : ℤ) (v : Result ℕ Cause) → register_value regs r ≡ v → rule_value regs memory None (token.Reg r ∷ token.Number n ∷ token.Add ∷ []) ≡ at_cfa (outcome_of v) n Value
 unfolding rule_value postfix_from with_token
 base_by regs memory r n (Ok v) is = rw is refl
@@ -111,7 +111,8 @@ cfa_told fde regs memory None some = cc
 cfa_told fde regs memory (Some (cfa.Base register offset)) some = told_by (slice_index_or regs.values register None) register offset
 cfa_told fde regs memory (Some (cfa.Expr place)) some = expr_told regs memory Undefined false (expr_bytes fde place)
 
--- an expression that can be said has the value of its words, or of the word at it
+-- An expression that rule text can express has the value of its words, or that of the word at its
+-- address.
 expr_words : (regs : Regs) (memory : List MemRun) (cfa : Outcome) (fetch : Bool) (bytes : List ℕ) (words : List Token) → rule_tokens true fetch bytes ≡ Some words → rule_value regs memory (Some cfa) words ≡ value_or_word fetch memory (expr_value regs memory cfa true bytes)
 unfolding rule_tokens
 expr_words regs memory cfa true bytes words are = value_in_memory true bytes words regs memory cfa are
@@ -133,7 +134,7 @@ cfa_by_words : (regs : Regs) (memory : List MemRun) (v : Outcome) (o : Option (L
 cfa_by_words regs memory v None some gives = cc
 cfa_by_words regs memory v (Some words) some gives = gives words refl
 
--- a register without a rule has the value of the words that say so
+-- A register without a rule has the value of the words that say so.
 by_default : (regs : Regs) (memory : List MemRun) (cfa : Outcome) (k : ℕ) (d : Default) → IsTold cfa → default_of k ≡ d → default_value regs cfa d k ≡ register_by regs memory cfa k (default_tokens d k)
 by_default regs memory cfa k KeepsValue told is = now_is regs k ∙ sym (one_register regs memory (Some cfa) k)
 by_default regs memory cfa k IsCfa told is = sym (one_cfa regs memory cfa told)
@@ -166,7 +167,7 @@ unfolding spelled
 other_by fde regs memory cfa k s true is = kept_by fde regs memory cfa k (is_kept k) refl ∙ ap (value_now regs) (sym (eqb-true s k is))
 other_by fde regs memory cfa k s false is = one_register regs memory (Some cfa) s
 
--- a register by its rule
+-- A register, given its rule.
 register_is : (fde : FdeFields) (regs : Regs) (memory : List MemRun) (cfa : Outcome) (k : ℕ) (r : Rule) → is_sound_rule fde k r ≡ true → IsTold cfa → (is_undefined r && not (is_unspecified k)) ≡ false → register_by regs memory cfa k (spelled fde (Reg k) (column_part k r)) ≡ column_value fde regs memory cfa k r
 unfolding spelled column_part is_unspecified
 register_is fde regs memory cfa k rule.Rest sound told shown = at_rest regs memory cfa k told
@@ -178,7 +179,7 @@ register_is fde regs memory cfa k (rule.Expr fetch place) sound told shown =
     by_words regs memory cfa _ k (rule_tokens true fetch (expr_bytes fde place)) (rule_there true fetch (expr_bytes fde place) sound) (expr_words regs memory cfa fetch (expr_bytes fde place))
 register_is fde regs memory cfa k (rule.Register s) sound told shown = other_by fde regs memory cfa k s (s == k) refl
 
--- the return address by its rule
+-- The return address, given its rule.
 ra_other : (fde : FdeFields) (regs : Regs) (memory : List MemRun) (cfa : Outcome) (s : ℕ) (own : Bool) → (s == 16) ≡ own → nat_lt s 16 ≡ true → ra_by regs memory cfa (spelled fde Ra (by_group (is_kept 16) (cond own rule.Same (rule.Register s)))) ≡ value_now regs s
 unfolding spelled
 ra_other fde regs memory cfa s true is below = let same : s ≡ 16 = eqb-true s 16 is in absurd (grind (arith, nat_tests))
@@ -199,7 +200,7 @@ or_none : {A : Type 0} (o : Option A) → option_or o None ≡ o
 or_none None = refl
 or_none (Some x) = refl
 
--- rules that show a row have its values
+-- Rules that show a row have its values.
 cfa_by_part : (fde : FdeFields) (regs : Regs) (memory : List MemRun) (c : Option CfaRule) → is_sound_cfa fde c ≡ true → cfa_by regs memory (spelled fde Cfa (cfa_part c)) ≡ cfa_value fde regs memory c
 unfolding spelled
 cfa_by_part fde regs memory None sound = refl

@@ -1,4 +1,4 @@
--- Frame records of the rules that rows have fit; for `rules_of_rows_fit`.
+-- Frame records of the rules that rows have are valid; for `rules_of_rows_fit`.
 use Rattle.std.proofs.Common.{◌≡◌, ℕ, ◌^◌, ◌<◌, ◌≤◌, ◌*◌, suc, true, false, pos, negsuc, List, [], ◌∷◌, codes, length, nat_lt, nat_le, refl, arith, length-append}
 use Rattle.std.specs.List.{list_all, flat_map}
 use Rattle.std.proofs.lemmas.Bool.{lt-ltb, le-leb, ltb-true, leb-true}
@@ -26,7 +26,7 @@ use Rattle.sym_records.specs.declared.line.SymLine.TheVariants.{Init, Change}
 use Rattle.expr_postfix.specs.ExprTokens.{is_expr_word}
 use Rattle.rule_postfix.specs.LongRules.{is_long_rule}
 
--- a word of an expression is short, can be spelled, and does not end in CR
+-- A word of an expression is short, can be spelled, and does not end in CR.
 record GoodWord (t : Token) : Type 0 where
   short : length (token_word t) ≤ 20
   is : is_token t ≡ true
@@ -109,7 +109,7 @@ unfolding are_rules end_in_cr
 rules_are rules all some =
     both (both (lt-ltb 0 (length rules) some) (all_rules rules all)) (not_false (last_none (λ rule. last_is ends_in_cr rule.tokens) is_long_rule rule_end rules all))
 
--- a record fits whose fields fit and whose line is short
+-- A record is valid if its fields fit and its line is short.
 fits_both : (s : SymLine) → has_fields s ≡ true → length (body s) ≤ 2 ^ 20 → fields_fit s ≡ true
 unfolding fields_fit
 fits_both s fits short = both fits (le-leb (length (body s)) (2 ^ 20) short)

@@ -1,4 +1,4 @@
--- Worked rows: the text of an entry, by its instructions.
+-- Worked examples: the text of an entry, given its instructions.
 use Rattle.std.proofs.Common.{◌≡◌, negsuc, [], ◌∷◌, Ok, Err, refl}
 use Prim.Native.String.{String}
 use Rattle.sym_edges.specs.declared.part.Sect.TheVariants.{EhFrame}
@@ -7,7 +7,8 @@ use Rattle.frame_entries.specs.declared.description.Body.TheVariants.{Good}
 use Rattle.frame_entries.specs.FdeFields.{FdeFields}
 use Rattle.rule_postfix.proofs.WorkedSections.{hex, framed, fde, section, body_text, translated, says, sections}
 
--- a function with a frame pointer has an INIT and three records of changes; addresses are counted from the base
+-- A function with a frame pointer has an INIT and three records of changes; addresses are counted
+-- from the base.
 a_frame_pointer : translated 0 framed
     ≡ Ok "STACK CFI INIT 1000 20 .cfa: $rsp 8 + .ra: .cfa -8 + ^\nSTACK CFI 1001 .cfa: $rsp 16 + $rbp: .cfa -16 + ^\nSTACK CFI 1004 .cfa: $rbp 16 +\nSTACK CFI 100e .cfa: $rsp 8 +\n"
 unfolding sections
@@ -18,7 +19,7 @@ a_frame_pointer_from_400 : translated 0x400 framed
 unfolding sections
 a_frame_pointer_from_400 = refl
 
--- a record of changes says what differs from the address before
+-- A record of changes says what differs from the row at the address before.
 a_kept_register_comes_back : says "41 8602 48 c6"
     ≡ Ok "STACK CFI INIT 1000 20 .cfa: $rsp 8 + .ra: .cfa -8 + ^\nSTACK CFI 1001 $rbp: .cfa -16 + ^\nSTACK CFI 1009 $rbp: $rbp\n"
 unfolding sections
@@ -84,7 +85,7 @@ a_register_becomes_another_register_of_a_scratch_register : says "41 090103 41 0
 unfolding sections
 a_register_becomes_another_register_of_a_scratch_register = refl
 
--- a register that a call keeps rests with its own value
+-- A register that a call keeps has its own value without a rule.
 kept_saved : says "41 8302 41 c3"
     ≡ Ok "STACK CFI INIT 1000 20 .cfa: $rsp 8 + .ra: .cfa -8 + ^\nSTACK CFI 1001 $rbx: .cfa -16 + ^\nSTACK CFI 1002 $rbx: $rbx\n"
 unfolding sections
@@ -127,7 +128,7 @@ kept_r15_restored : says "41 8f02 41 cf"
 unfolding sections
 kept_r15_restored = refl
 
--- the stack pointer rests with the CFA
+-- The stack pointer is the CFA without a rule.
 rsp_saved : says "41 8702 41 c7"
     ≡ Ok "STACK CFI INIT 1000 20 .cfa: $rsp 8 + .ra: .cfa -8 + ^\nSTACK CFI 1001 $rsp: .cfa -16 + ^\nSTACK CFI 1002 $rsp: .cfa\n"
 unfolding sections
@@ -162,7 +163,7 @@ rsp_not_known : says "41 0707 41 c7" ≡ Ok "STACK CFI INIT 1000 20 .cfa: $rsp 8
 unfolding sections
 rsp_not_known = refl
 
--- another register is at rest where nothing is known of it, and a new INIT begins there
+-- Of any other register nothing is specified without a rule, so a new INIT begins there.
 scratch_saved : says "41 8002 41 c0"
     ≡ Ok "STACK CFI INIT 1000 2 .cfa: $rsp 8 + .ra: .cfa -8 + ^\nSTACK CFI 1001 $rax: .cfa -16 + ^\nSTACK CFI INIT 1002 1e .cfa: $rsp 8 + .ra: .cfa -8 + ^\n"
 unfolding sections
@@ -202,7 +203,7 @@ scratch_lost_in_a_short_range : translated 0 (section EhFrame (fde 0x1000 0x10 "
 unfolding sections
 scratch_lost_in_a_short_range = refl
 
--- the return address is lost or changes
+-- The return address becomes unspecified or changes.
 ra_saved_elsewhere : says "41 9002 41 d0"
     ≡ Ok "STACK CFI INIT 1000 20 .cfa: $rsp 8 + .ra: .cfa -8 + ^\nSTACK CFI 1001 .ra: .cfa -16 + ^\nSTACK CFI 1002 .ra: .cfa -8 + ^\n"
 unfolding sections
@@ -227,7 +228,7 @@ ra_lost_from_the_start : says "0710" ≡ Ok "STACK CFI INIT 1000 20 .cfa: $rsp 8
 unfolding sections
 ra_lost_from_the_start = refl
 
--- an entry without rows has the reason of its rows
+-- An entry without rows has the reason that its rows give.
 nothing_is_remembered : says "0b" ≡ Err reason.State
 unfolding sections
 nothing_is_remembered = refl
@@ -245,19 +246,20 @@ no_rule_for_the_cfa : translated 0 (hex "14000000 00000000 01 7a5200 01 78 10 01
 unfolding sections
 no_rule_for_the_cfa = refl
 
--- expressions: the word at one, and the value of one over the CFA
+-- Expressions: the word at the address that one gives, and the value of one over the CFA.
 expressions_of_rbp : says "44 1006027778 44 1606022310"
     ≡ Ok "STACK CFI INIT 1000 20 .cfa: $rsp 8 + .ra: .cfa -8 + ^\nSTACK CFI 1004 $rbp: $rsp -8 + ^\nSTACK CFI 1008 $rbp: .cfa 16 +\n"
 unfolding sections
 expressions_of_rbp = refl
 
--- a procedure linkage table, as linkers write it
+-- The expression that linkers write for the procedure linkage table.
 a_linkage_table : says "0e10 46 0e18 4a 0f0b 7708 8000 3f1a3b2a332422"
     ≡ Ok "STACK CFI INIT 1000 20 .cfa: $rsp 16 + .ra: .cfa -8 + ^\nSTACK CFI 1006 .cfa: $rsp 24 +\nSTACK CFI 1010 .cfa: $rsp 8 + $rip 0 + 16 % 5 + 16 / 8 * +\n"
 unfolding sections
 a_linkage_table = refl
 
--- an expression is the same where it stands at the same place, and not where it is written again
+-- An expression is the same if it is at the same place, but not if the same bytes are at another
+-- place.
 an_expression_twice : says "1006027778 44 1006027778"
     ≡ Ok "STACK CFI INIT 1000 20 .cfa: $rsp 8 + .ra: .cfa -8 + ^ $rbp: $rsp -8 + ^\nSTACK CFI 1004 $rbp: $rsp -8 + ^\n"
 unfolding sections
@@ -273,7 +275,8 @@ a_cfa_expression_remembered : says "0a 44 0f027708 44 0b"
 unfolding sections
 a_cfa_expression_remembered = refl
 
--- on a kept register, on rsp, on the return address, and on a register that a call may change, which makes a cut where it is at rest again
+-- Expressions for a kept register, for rsp, for the return address, and for a register that a call
+-- may change. When the last has no rule again, a new INIT begins.
 an_expression_of_rbx : says "44 1603027308 44 c3"
     ≡ Ok "STACK CFI INIT 1000 20 .cfa: $rsp 8 + .ra: .cfa -8 + ^\nSTACK CFI 1004 $rbx: $rbx 8 +\nSTACK CFI 1008 $rbx: $rbx\n"
 unfolding sections
@@ -294,13 +297,14 @@ an_expression_of_rax : says "44 1000027708 44 c0"
 unfolding sections
 an_expression_of_rax = refl
 
--- an expression beside the loss of a register that a call may change
+-- An expression at an address at which a register that a call may change becomes unspecified.
 an_expression_in_a_cut : says "44 1000027708 44 c0 1606022310"
     ≡ Ok "STACK CFI INIT 1000 8 .cfa: $rsp 8 + .ra: .cfa -8 + ^\nSTACK CFI 1004 $rax: $rsp 8 + ^\nSTACK CFI INIT 1008 18 .cfa: $rsp 8 + .ra: .cfa -8 + ^ $rbp: .cfa 16 +\n"
 unfolding sections
 an_expression_in_a_cut = refl
 
--- the empty expression leaves the CFA, or is the address of the word there; above column 16 none is looked at
+-- The empty expression gives the CFA, or the address of the word there. Columns above 16 are not
+-- checked.
 empty_expressions : says "160600 44 100300"
     ≡ Ok "STACK CFI INIT 1000 20 .cfa: $rsp 8 + .ra: .cfa -8 + ^ $rbp: .cfa\nSTACK CFI 1004 $rbx: .cfa ^\n"
 unfolding sections
@@ -310,7 +314,7 @@ expressions_above_the_columns : says "44 10110196 16110196" ≡ Ok "STACK CFI IN
 unfolding sections
 expressions_above_the_columns = refl
 
--- expressions of the CIE, which the entry changes and takes back
+-- Expressions of the CIE, which the entry changes and restores.
 unfoldable behind_cie : String → String → FdeFields
 unfolding hex
 behind_cie initial own = record {
@@ -330,7 +334,7 @@ expressions_of_the_cie : body_text 0 (Good (behind_cie "0f027708 9001 1006027778
 unfolding sections behind_cie
 expressions_of_the_cie = refl
 
--- what rule text cannot say
+-- Expressions that rule text cannot express.
 an_expression_of_a_nop : says "0f0196" ≡ Err reason.Expression
 unfolding sections
 an_expression_of_a_nop = refl

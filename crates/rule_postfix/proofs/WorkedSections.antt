@@ -1,4 +1,4 @@
--- Sections of frame entries for worked rows, and what is answered on them.
+-- Sections of frame entries for worked examples, and what is translated from them.
 use Rattle.std.proofs.Common.{ℕ, ◌+◌, if◌then◌else◌, List, [], ◌∷◌, ◌++◌, length, codes, Option, Result, Ok, Err, Some, None}
 use Prim.Native.String.{String}
 use Rattle.std.specs.Prelude.{⊤}
@@ -26,14 +26,15 @@ use Rattle.rule_postfix.proofs.Computing.{rule_postfix_computes}
 unfoldable pub hex : String → List ℕ
 hex digits = bytes (codes digits)
 
--- `.eh_frame` of a CIE (version 1, zR, pointers 1b, def_cfa rsp 8, offset ra 1), its FDE of 1000 size 20 at 18 and the zero that ends it,
--- loaded at 2000
+-- `.eh_frame`, loaded at 2000. It has a CIE (version 1, zR, pointers 1b, def_cfa rsp 8, offset ra
+-- 1), an FDE of that CIE at 18, for the address 1000 with the size 20, and the zero that ends the
+-- section.
 unfoldable pub framed : List ℕ
 unfolding hex
 framed =
     hex "14000000 00000000 01 7a5200 01 78 10 01 1b 0c0708 9001 0000 1c000000 1c000000 e0efffff 20000000 00 41 0e10 8602 43 0d06 4a 0c0708 000000 00000000"
 
--- an FDE: its address range and its instructions
+-- An FDE: its address range and its instructions.
 pub record Fde : Type 0 where
   pub start : ℕ
   pub size : ℕ
@@ -42,21 +43,23 @@ pub record Fde : Type 0 where
 abbrev pub fde : ℕ → ℕ → String → Fde
 fde start size instructions = record { start = start; size = size; instructions = hex instructions }
 
--- the FDEs of the CIE at 0, the first of them at a place
+-- The FDEs of the CIE at 0; the first is at the given place.
 unfoldable pub fdes_from : Sect → ℕ → List Fde → List ℕ
 fdes_from which place [] = []
 fdes_from which place (f ∷ fs) =
     little 4 (20 + length f.instructions) ++ little 4 (if is_eh which then place + 4 else 0) ++ little 8 f.start ++ little 8 f.size
     ++ f.instructions ++ fdes_from which (place + 24 + length f.instructions) fs
 
--- a section of a CIE (version 1, no augmentation, code alignment 1, data alignment -8, return address in column 16; def_cfa rsp 8,
--- offset ra 1 and six nops) and of FDEs, the first at 18
+-- A section with a CIE (version 1, no augmentation, code alignment 1, data alignment -8, return
+-- address in column 16; def_cfa rsp 8, offset ra 1 and six nops) and with FDEs, the first of which
+-- is at 18.
 unfoldable pub section : Sect → List Fde → List ℕ
 unfolding hex
 section which fs =
     little 4 20 ++ (if is_eh which then hex "00000000" else hex "ffffffff") ++ hex "01 00 01 78 10 0c0708 9001 000000000000" ++ fdes_from which 24 fs
 
--- the text of an entry's records with addresses counted from a base, or the reason for which it has none
+-- The text of an entry's records, with addresses counted from a base, or the reason for which the
+-- entry has none.
 abbrev pub unless_reason : Option Reason → String → Result String Reason
 unless_reason None text = Ok text
 unless_reason (Some why) text = Err why
@@ -69,15 +72,15 @@ abbrev pub first_text : ℕ → Result (List Entry) (Located FrameKind) → Resu
 first_text base (Ok (entry ∷ entries)) = body_text base entry.body
 first_text base _ = Ok ""
 
--- of the first entry of `.eh_frame` at 2000
+-- The result for the first entry of `.eh_frame` at 2000.
 unfoldable pub translated : ℕ → List ℕ → Result String Reason
 translated base section = first_text base (frame_entries section 0x2000 EhFrame)
 
--- of an entry of 1000 size 20 with instructions
+-- The result for an entry at 1000 with the size 20 and these instructions.
 unfoldable pub says : String → Result String Reason
 says instructions = translated 0 (section EhFrame (fde 0x1000 0x20 instructions ∷ []))
 
--- the text of all records of two sections, and what is left out
+-- The text of all records of two sections, and the entries that are left out.
 abbrev pub Told : Type 0
 Told = Result (String × List Omission) (Located FrameKind)
 

@@ -6,7 +6,7 @@ use Rattle.sym_rules.specs.declared.rules.RuleText.{RuleText}
 use Rattle.rule_postfix.specs.RowRules.{some_becomes_unspecified, changed_rules}
 use Rattle.rule_postfix.specs.internal.Writing.{Open, opened, closed, with_changes, with_row}
 
--- its start lies between the same bounds as the start before and the row
+-- The start of the open INIT has the same bounds as the start before and the row.
 starts_by : (fde : FdeFields) (cut : Bool) (b : ℕ) (after : Row) (rules : List RuleText) (w : Open) (low : ℕ) → w.start ≤ low → b ≤ low → (cond cut (opened fde w.base (closed w b) b after) (with_changes b rules w)).start ≤ low
 starts_by fde true b after rules w low first second = second
 starts_by fde false b after rules w low first second = first

@@ -1,4 +1,4 @@
--- What each written entry is by itself; for the laws on frames.
+-- What holds for each written entry by itself; for the laws about frames.
 use Rattle.std.proofs.Common.{◌≡◌, ℕ, ◌+◌, ◌<◌, ◌^◌, cond, not, true, map, List, [], ◌∷◌, ◌++◌, Option, None, Some, refl, ap, sym, ◌∙◌, subst, arith}
 use Rattle.std.specs.Option.{option_or}
 use Rattle.std.proofs.lemmas.Bool.Decides.{nat_tests}
@@ -20,7 +20,7 @@ use Rattle.rule_postfix.specs.internal.Deciding.{none_decided}
 use Rattle.rule_postfix.proofs.DecidedLemmas.{IsFree, is_free, or_left}
 use Rattle.rule_postfix.proofs.EntryLemmas.{entry_valid}
 
--- it has rows, and a range of addresses
+-- The entry has rows, and a range of addresses.
 pub record IsWritten (e : FdeFields) : Type 0 where
   pub rows : rows_fault e ≡ None
   pub some : 0 < e.size
@@ -65,7 +65,7 @@ pub written_are : (code : List Range) (first second : List Entry) → AreWritten
 unfolding written decided decided_of decided_behind
 written_are code first second = entries_written code (first ++ second) none_decided tt
 
--- their records are valid after any record
+-- The records of the written entries are valid after any record.
 all_valid : (base : ℕ) (entries : List FdeFields) → AreWritten entries → first_bad_from 0 Inside (written_lines base entries) ≡ None
 unfolding written_lines entry_lines first_bad_from
 all_valid base [] are = refl

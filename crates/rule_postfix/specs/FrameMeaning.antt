@@ -30,8 +30,9 @@ is_undefined (rule.Expr fetch place) = false
 unfoldable pub is_lost : Row → ℕ → Bool
 is_lost row register = is_undefined (rule_at row register) && not (is_unspecified register)
 
--- the text's frame `said` is the row's frame `meant`: the CFA, the return address and each of the sixteen registers, except lost ones, are the same
--- value, or both undefined, or the same failure with the same cause
+-- the text's frame `said` is the row's frame `meant`. For the CFA, the return address and each of
+-- the sixteen registers, except lost ones, both have the same value, or both are undefined, or both
+-- have failed with the same cause
 pub record IsFrameOf (row : Row) (meant said : Frame) : Type 0 where
   pub cfa : said.cfa ≡ meant.cfa
   pub ra : said.ra ≡ meant.ra
@@ -46,7 +47,8 @@ pub record KeepsRows (base : ℕ) (lines : List SymLine) (e : FdeFields) : Type 
   pub at : (a : ℕ) (regs : Regs) (memory : List MemRun) → holds_address a e ≡ true →
       SaysFrame (row_at e a) (row_frame e (row_at e a) regs memory) (text_frame lines (a - base) regs memory)
 
--- this holds for each of the entries, and at any other address the text gives no frame
+-- the text gives the frame of the row at each address of each of the entries; at any other address
+-- it gives no frame
 pub record KeepsFrames (base : ℕ) (entries : List FdeFields) (lines : List SymLine) : Type 0 where
   pub rows : AllByRecursion (KeepsRows base lines) entries
   pub nothing_else : (x : ℕ) (regs : Regs) (memory : List MemRun) → entries_at entries (x + base) ≡ 0 → text_frame lines x regs memory ≡ None

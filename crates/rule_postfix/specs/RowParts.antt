@@ -96,7 +96,8 @@ leaves_unspecified Unspecified = true
 unfoldable pub is_unspecified : ℕ → Bool
 is_unspecified column = leaves_unspecified (default_of column)
 
--- such a column becomes unspecified: it is unruled at the second of two rows, and not at the first
+-- a column of which nothing is specified without a rule becomes unspecified: it is unruled at the
+-- second of two rows, and not at the first
 unfoldable pub becomes_unspecified : Row → Row → ℕ → Bool
 becomes_unspecified before after column =
     is_unspecified column && (is_unruled (column_part column (rule_at after column)) && not (is_unruled (column_part column (rule_at before column))))

@@ -38,8 +38,10 @@ own_name Ra = None
 own_name (Reg column) = Some (token.Reg column ∷ [])
 own_name (Other name) = None
 
--- the words of a column's rule: the column's own register, the word at the CFA plus an offset, the CFA plus an offset, a register, or an expression
--- of the entry, which may have the CFA on its stack at the start; `^` follows the expression if it fetches
+-- the words of a column's rule. They give the column's own register, the word at the CFA plus an
+-- offset, the CFA plus an offset, a register, or an expression of the entry. The CFA may be on the
+-- expression's stack at the start; `^` follows the expression if the value is the word at the
+-- address that it gives
 abbrev pub rule_spelled : FdeFields → Target → Rule → Option (List Token)
 rule_spelled e t rule.Rest = None
 rule_spelled e t rule.Undefined = None

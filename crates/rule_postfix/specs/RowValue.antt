@@ -1,5 +1,6 @@
--- The values that a row gives the caller's registers, given registers and memory (DWARF 5, sections 6.4.1 and 6.4.4), by the kind of each rule. Sums
--- are modulo 2^64. A register without a rule is what the ABI says (System V ABI for AMD64, section 3.2.1).
+-- The values that a row gives the caller's registers, given registers and memory (DWARF 5, sections
+-- 6.4.1 and 6.4.4), by the kind of each rule. Sums are modulo 2^64. A register without a rule has
+-- the value that the ABI says (System V ABI for AMD64, section 3.2.1).
 use Rattle.std.specs.Prelude.{ℕ, ◌+◌, ◌%◌, ◌^◌, ℤ, Bool, true, false, List, map, Option, None, Some}
 use Rattle.std.specs.Int.{w64, cast_unsigned}
 use Rattle.std.specs.List.{range_with_len, slice_index_or}
@@ -34,7 +35,8 @@ abbrev pub known_word : ℕ → Option ℕ → Outcome
 known_word a None = Failed (Unreadable a)
 known_word a (Some word) = Value word
 
--- what `then` gives for the sum of a base, such as the CFA, and an offset. It fails if the base is undefined or failed
+-- what `then` gives for the sum of a base, such as the CFA, and an offset; a failure if the base is
+-- undefined or has failed
 abbrev pub at_cfa : Outcome → ℤ → (ℕ → Outcome) → Outcome
 at_cfa (Value cfa) offset then = then ((cfa + cast_unsigned w64 offset) % 2 ^ 64)
 at_cfa Undefined offset then = Failed NoCfa
@@ -52,7 +54,7 @@ value_at_rest regs cfa KeepsValue column = value_now regs column
 value_at_rest regs cfa IsCfa column = cfa
 value_at_rest regs cfa Unspecified column = Undefined
 
--- the value of an expression or, if it fetches, the word at that address
+-- the value of an expression or, if the rule fetches, the word at that address
 abbrev pub value_or_word : Bool → List MemRun → Outcome → Outcome
 value_or_word false memory value = value
 value_or_word true memory value = word_of memory value

@@ -29,7 +29,7 @@ has_range e = nat_lt 0 e.size && nat_lt (e.start + e.size) (2 ^ 64)
 unfoldable pub rows_reason : FdeFields → Option Reason
 rows_reason e = if has_range e then rows_fault e else instruction_fault e
 
--- the range is one of addresses, and wholly in one range of code
+-- the range of an entry is a range of addresses, and wholly in one range of code
 unfoldable pub is_code : List Range → FdeFields → Bool
 is_code code e = has_range e && encloses code e.start (e.start + e.size)
 
@@ -40,7 +40,7 @@ reason_among code taken e =
     (option_or (unless (is_code code e) reason.Outside)
     (unless (not (any_overlap (range_of e) taken)) reason.Overlap))
 
--- the taken ranges are those of the entries that are written before it
+-- the reason to leave out an entry, if the taken ranges are those of the entries `written`
 unfoldable pub reason_behind : List Range → List FdeFields → FdeFields → Option Reason
 reason_behind code written e = reason_among code (map range_of written) e
 
@@ -57,7 +57,7 @@ pub record Decided : Type 0 where
   pub written : List FdeFields
   pub omitted : List Omission
 
--- one more entry is left out with a reason, or written
+-- what was decided, after one more entry was left out with a reason, or written
 abbrev pub left_out : Entry → Reason → Decided → Decided
 left_out entry why d = record { written = d.written; omitted = d.omitted ++ record { section = entry.section; at = entry.at; reason = why } ∷ [] }
 

@@ -23,9 +23,10 @@ pub struct Frames {
     pub omitted: Omissions,
 }
 
-/// Returns the text of the frame records of the written entries, and the entries that are left out, each with its first reason. The entries of the
-/// first list come before those of the second; addresses are counted from `base`. Evaluating the text gives what the rows of the written entries
-/// give. A crew of workers translates; their number changes nothing.
+/// Returns the text of the frame records of the written entries, and the entries that are left out,
+/// each with its first reason. The entries of the first list come before those of the second;
+/// addresses are counted from `base`. Evaluating the text gives what the rows of the written
+/// entries give. A crew of workers translates; the result does not depend on their number.
 #[tactic(auto, using(crate::proofs::DecidedLemmas::lies_above, crate::proofs::DecidedLemmas::shown_text, crate::proofs::DecidedLemmas::shown_omitted, crate::proofs::MeaningLemmas::entries_kept))]
 pub fn translate_all<R: Threads + Sync>(
     crew: &Crew<'_, R>,

@@ -27,7 +27,7 @@ impl<const N: usize> Model for BackwardLine<N> {
 }
 
 impl<const N: usize> BackwardLine<N> {
-    /// Nothing is written yet.
+    /// An empty line.
     pub fn new() -> BackwardLine<N>
         ensures { result ≡ [] }
     {

@@ -10,8 +10,9 @@ use crate::backward_line::BackwardLine;
 use crate::rules::{LINE, Rows, Unwritten, write_changes};
 use frame_rows::Columns;
 
-/// Empties the line and writes a record of the changes between two rows of an entry into it, if there are changes, no column becomes unspecified and
-/// none of the rules is an expression. The rows differ in no column outside `columns`.
+/// Empties the line and writes a record of the changes between two rows of an entry into it;
+/// without changes it stays empty. Refuses if a column becomes unspecified, or if one of the rules
+/// is an expression. The rows differ in no column outside `columns`.
 #[tactic(auto, using(crate::proofs::SpellingLemmas::no_change, crate::proofs::SpellingLemmas::some_change))]
 pub fn write_change_line(
     rows: &Rows<'_, '_, '_>,

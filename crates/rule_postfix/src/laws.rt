@@ -20,8 +20,9 @@ ghost use Rattle.rule_postfix.specs.Decision.{omission_for, fields_for};
 ghost use Rattle.rule_postfix.specs.FrameMeaning.{KeepsFrames};
 ghost use Rattle.rule_postfix.specs.KnownCfa.{HasKnownCfa};
 
-/// An entry is left out with a reason exactly if that is its reason given the entries written before it, and it is written exactly if it has no
-/// reason. Nothing else decides about it; the decisions about the entries after it follow.
+/// An entry is left out with a reason exactly if that is its reason given the entries written
+/// before it. It is written exactly if it has no reason. Nothing else decides about it; the
+/// decisions about the entries after it follow.
 #[tactic(auto, using(crate::proofs::OmittedLemmas::omitted_there, crate::proofs::OmittedLemmas::written_there))]
 pub fn entries_are_decided_by_their_reasons()
     ensures omitted { (code : List Range) (xs ys : List Entry) (entry : Entry) →
@@ -33,8 +34,9 @@ pub fn entries_are_decided_by_their_reasons()
         ≡ (decided_of code xs).written ++ fields_for entry (reason_of code (decided_of code xs).written entry) }
 {}
 
-/// A frame record is valid if its address and its size are below 2^64 and it has 1 to 18 rules of at most 1,025 words with no `Other` name except
-/// that of rip (`is_long_rule`): its line has less than 400,000 bytes.
+/// A frame record is valid if its address and its size are below 2^64 and it has 1 to 18 rules of
+/// at most 1,025 words with no `Other` name except that of rip (`is_long_rule`). Its line has less
+/// than 400,000 bytes.
 #[tactic(auto, using(crate::proofs::WideLemmas::init_fits, crate::proofs::WideLemmas::change_fits))]
 pub fn rules_of_rows_fit()
     ensures init { (address size : ℕ) (rules : List RuleText) → address < 2 ^ 64 → size < 2 ^ 64 → list_all is_long_rule rules ≡ true → 0 < length rules → length rules ≤ 18 → fields_fit (SymLine.Init address size rules) ≡ true }
@@ -48,8 +50,10 @@ pub fn frame_records_are_valid()
     ensures whole { (base : ℕ) (code : List Range) (first second : List Entry) → first_bad_from 0 Place.Inside (written_lines base (written code first second)) ≡ None }
 {}
 
-/// If the records of the written entries stand after records that are not about frames, then no two of these entries have an address in common, an
-/// address is covered by as many INITs as there are written entries with it, and the changes of an INIT are inside its range, at rising addresses.
+/// If the records of the written entries come after records that are not about frames, the
+/// following holds. No two of these entries have an address in common. An address is covered by as
+/// many INITs as there are written entries with it. The changes of an INIT are inside its range, at
+/// rising addresses.
 #[tactic(auto, using(crate::proofs::SayingLemmas::frames_said))]
 pub fn frames_are_said()
     ensures { (base : ℕ) (code : List Range) (first second : List Entry) (front : List SymLine) → AllFrom base code → list_all is_frameless front ≡ true →
@@ -69,10 +73,11 @@ pub fn written_entries_have_a_cfa()
     ensures { (code : List Range) (first second : List Entry) → AllByRecursion HasKnownCfa (written code first second) }
 {}
 
-/// If the records of the written entries stand after records that are not about frames, they mean what the rows of the entries mean. At each address
-/// of a written entry, for all registers and all memory, evaluating the rules gives the CFA, the return address and the registers that DWARF's row
-/// gives, each failure with its cause. At any other address there is no rule. One thing the records do not say: that rbx, rbp, rsp or one of r12 to
-/// r15 is undefined.
+/// If the records of the written entries come after records that are not about frames, they mean
+/// what the rows of the entries mean. At each address of a written entry, for all registers and all
+/// memory, evaluating the rules gives the CFA, the return address and the registers that DWARF's
+/// row gives, each failure with its cause. At any other address there is no rule. One thing the
+/// records do not say: that rbx, rbp, rsp or one of r12 to r15 is undefined.
 #[tactic(auto, using(crate::proofs::MeaningLemmas::frames_kept))]
 pub fn frames_are_kept()
     ensures { (base : ℕ) (code : List Range) (first second : List Entry) (front : List SymLine) → AllFrom base code → list_all is_frameless front ≡ true →

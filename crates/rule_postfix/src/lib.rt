@@ -1,9 +1,11 @@
 //! Frame entries as frame records (Breakpad's symbol_files.md, STACK CFI INIT and STACK CFI).
 //!
-//! [`translate`] gives the records of one entry: an INIT with the rules of its first row, and a record of changes at each address at which the row
-//! says something else than the row at the address before. If a column becomes unspecified, which no rule can say, a new INIT begins.
-//! `specs/RowParts.antt` says which rules mean the same and which targets are unruled, `specs/RowRules.antt` how rules are spelled and in which order
-//! they stand, and `specs/FrameLines.antt` which records a range has, given the row at each of its addresses.
+//! [`translate`] gives the records of one entry: an INIT with the rules of its first row, and a
+//! record of changes at each address at which the row differs from the row at the address before.
+//! If a column becomes unspecified, which no rule can say, a new INIT begins. `specs/RowParts.antt`
+//! says which rules mean the same and which targets are unruled, `specs/RowRules.antt` how rules
+//! are spelled and in which order they come, and `specs/FrameLines.antt` which records a range has,
+//! given the row at each of its addresses.
 //!
 //! [`translate_all`] goes over the entries of both sections, first those of `.eh_frame`, and writes an entry unless there is a reason to leave it
 //! out. The reasons are: its fields cannot be read; an instruction is bad; an address has no CFA rule; the range is not wholly in one range of code;
@@ -18,8 +20,9 @@
 //! Entries are translated in shares, in parallel, each share as if no range were taken before it. If a range of a share overlaps a taken range, that
 //! share is translated anew, in turn.
 //!
-//! To read: `parts`, `column_target`, `backward_line`, `rules`, `change_record`, `long_rules`, `open_init`, `entry_records`, then `omission`,
-//! `written_ranges`, `cie_states`, `progress`, `shares` and `all`.
+//! The modules are best read in this order: `parts`, `column_target`, `backward_line`, `rules`,
+//! `change_record`, `long_rules`, `open_init`, `entry_records`, `omission`, `written_ranges`,
+//! `cie_states`, `progress`, `shares`, `all`.
 #![tactic(auto)]
 
 mod all;

@@ -150,7 +150,7 @@ fn put_row(
     }
 }
 
-/// Ends the last row and its INIT, unless an instruction after the row is bad.
+/// Ends the last row and its INIT, unless an instruction that comes after the row is bad.
 fn end_steps(
     text: &mut Vec<u8>,
     open: &OpenInit,
@@ -173,7 +173,7 @@ fn end_steps(
     Ok(())
 }
 
-/// Whether a row before lacked a rule for the CFA, or this one does.
+/// Whether this row or a row before it lacks a rule for the CFA.
 fn lack_rule(lacking: bool, row: &Row) -> bool
     ensures { result ≡ (lacking || not (has_cfa row.now)) }
 {

@@ -22,7 +22,8 @@ pub fn is_kept(column: u8) -> bool
     column == 3 || column == 6 || (12 <= column && column <= 15)
 }
 
-/// Whether nothing is specified about the column if no rule is given, so that no rule can say that it is unruled again.
+/// Whether nothing is specified about the column without a rule. Then no rule can say that the
+/// column is unruled again.
 #[tactic(auto, unfolding(crate::specs::RowParts::is_unspecified, sym_edges::specs::Abi::default_of))]
 pub fn is_unspecified(column: u8) -> bool
     ensures { result ≡ is_unspecified column }

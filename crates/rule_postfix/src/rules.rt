@@ -139,8 +139,9 @@ fn write_unruled(target: ColumnTarget, line: &mut BackwardLine<LINE>)
     }
 }
 
-/// An expression of an entry that is a rule: whether the CFA may be on the stack at its start, and whether the value is the word at the address that
-/// it gives. Its words may not fit into a line.
+/// An expression of an entry that is a rule: whether the CFA may be on the stack at its start, and
+/// whether the value is the word at the address that the expression gives. The words of the
+/// expression may not fit into a line.
 #[derive(Clone, Copy)]
 pub struct ExprRule {
     pub start: bool,
@@ -148,7 +149,8 @@ pub struct ExprRule {
     pub place: Place,
 }
 
-/// Writes the rule of a column, if it has a spelling; returns it if it is an expression.
+/// Writes the rule of a column, if the rule has a spelling. A rule that is an expression is
+/// returned and not written.
 #[tactic(auto, using(crate::proofs::TokenLemmas::rule_written, crate::proofs::TokenLemmas::no_rule))]
 fn write_rule(
     fde: &Fde<'_>,
@@ -188,7 +190,8 @@ fn write_rule(
     Ok(())
 }
 
-/// Writes the part of a column, if it has a spelling; returns it if it is an expression.
+/// Writes the part of a column, if the part has a spelling. A part that is an expression is
+/// returned and not written.
 #[tactic(auto, unfolding(crate::specs::RowRules::spelled))]
 fn write_part(
     fde: &Fde<'_>,
@@ -213,7 +216,8 @@ fn write_part(
     }
 }
 
-/// Writes the rule that a column has in the second of two rows, if they differ in it; returns it if it is an expression.
+/// Writes the rule that a column has in the second of two rows, if they differ in it. A rule that
+/// is an expression is returned and not written.
 #[tactic(auto, using(crate::proofs::TokenLemmas::no_rule, crate::proofs::PartLemmas::no_base))]
 pub fn write_column(
     rows: &Rows<'_, '_, '_>,
@@ -243,7 +247,8 @@ pub enum Unwritten {
     Expression,
 }
 
-/// Writes the rule that the CFA has in the second of two rows, if they differ in it; returns it if it is an expression.
+/// Writes the rule that the CFA has in the second of two rows, if they differ in it. A rule that is
+/// an expression is returned and not written.
 #[inline(always)]
 #[tactic(auto, using(crate::proofs::TokenLemmas::cfa_written, crate::proofs::TokenLemmas::no_rule), unfolding(crate::specs::RowRules::spelled, expr_postfix::specs::ExprTokens::rule_tokens))]
 pub fn write_cfa(rows: &Rows<'_, '_, '_>, line: &mut BackwardLine<LINE>) -> Result<(), ExprRule>

@@ -66,7 +66,8 @@ fn put_share(
     put_range(setting, progress, entries, from, to)
 }
 
-/// The shares of a section's entries, each decided as if no range were taken before it.
+/// A job that decides about the entries of a section share by share, for each share as if no range
+/// were taken before it.
 #[derive(Drop)]
 struct Translator<'s, 'a> {
     setting: Setting<'s>,

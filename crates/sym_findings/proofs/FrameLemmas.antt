@@ -1,4 +1,5 @@
--- The records of frames: C8 and C9 are found at none of them where a checker finds nothing; for the law `nothing_found`.
+-- Frame records: C8 and C9 are found at none of them exactly if a checker finds nothing (for the
+-- law `nothing_found`).
 use Rattle.std.proofs.Common.{◌≡◌, ℕ, ◌+◌, ◌<◌, ◌≤◌, ◌&&◌, ◌||◌, nat_lt, nat_le, min, max, Bool, true, false, cond, List, [], ◌∷◌, Option, None, Some, refl, ap, sym, ◌∙◌, ◌⊎◌, inl, inr, subst, arith}
 use Rattle.std.specs.List.{list_all, flat_map}
 use Rattle.std.specs.Option.{option_map, option_map_or}
@@ -16,7 +17,7 @@ use Rattle.sym_findings.specs.declared.records_before.OpenInit.{OpenInit}
 use Rattle.sym_findings.specs.Findings.{meets_any, init_run, open_init, goes_on, is_outside}
 use Rattle.sym_findings.proofs.PairLemmas.{NoneOf, not_false, true_not}
 
--- one record more in front is counted where it covers the address
+-- One more record is counted if it covers the address.
 inits_more : (s : SymLine) (lines : List SymLine) (x : ℕ) → inits_at (s ∷ lines) x ≡ cond (init_covers x s) 1 0 + inits_at lines x
 unfolding inits_at
 inits_more s lines x = sum_by-append (λ l. cond (init_covers x l) 1 0) (s ∷ []) lines ∙ ap (λ k. k + inits_at lines x) (counted (init_covers x s))
@@ -25,7 +26,7 @@ true_or_false : (b : Bool) → (b ≡ true) ⊎ (b ≡ false)
 true_or_false true = inl refl
 true_or_false false = inr refl
 
--- an address of both where two meet, and none where they do not
+-- If two ranges overlap, both have an address; otherwise none has an address of the other.
 abbrev has : Extent → ℕ → Bool
 has e x = nat_le e.address x && nat_lt x (e.address + e.size)
 
@@ -35,7 +36,7 @@ meet_has a s b t is = (grind (arith, nat_tests), grind (arith, nat_tests))
 apart_has : (a s b t x : ℕ) → nat_lt (max a b) (min (a + s) (b + t)) ≡ false → (nat_le a x && nat_lt x (a + s)) ≡ true → (nat_le b x && nat_lt x (b + t)) ≡ false
 apart_has a s b t x apart here = grind (arith, nat_tests)
 
--- where an INIT meets one of those behind it, an address is covered by both
+-- If an INIT overlaps a later one, both cover an address.
 record Both (e : Extent) (lines : List SymLine) : Type 0 where
   x : ℕ
   here : has e x ≡ true
@@ -118,7 +119,7 @@ apart_once [] x apart = no_inits x
 apart_once (Init address size rules ∷ lines) x apart = first_once address size rules lines x apart.0 (apart_once lines x apart.1)
 apart_once (s ∷ lines) x apart = other_once s lines x refl (apart_once lines x apart)
 
--- C9: the last address and the end of the INIT that is open
+-- C9: the last address and the end of the open INIT.
 abbrev last_at : Option OpenInit → ℕ
 last_at None = 0
 last_at (Some o) = o.last
@@ -127,7 +128,7 @@ abbrev end_at : Option OpenInit → ℕ
 end_at None = 0
 end_at (Some o) = o.init.address + o.init.size
 
--- the last address is not below the INIT's own
+-- The last address is at or above that of the INIT.
 abbrev IsOpen : Option OpenInit → Type 0
 IsOpen None = Unit {0}
 IsOpen (Some o) = o.init.address ≤ o.last

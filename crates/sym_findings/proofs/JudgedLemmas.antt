@@ -1,4 +1,5 @@
--- One record more: the findings at it, and what is kept of it; for `judge` and the functions of each keyword.
+-- The findings at one more record, and what is stored of it (for `judge` and the functions of each
+-- keyword).
 use Rattle.std.proofs.Common.{◌≡◌, ℕ, ◌&&◌, ◌||◌, ◌==◌, not, Bool, true, false, List, [], ◌∷◌, ◌++◌, Option, None, Some, refl, ap, sym, ◌∙◌, subst, append_assoc, append-nil, ◌⊎◌, inl, inr}
 use Rattle.std.specs.List.{list_any, list_all, flat_map}
 use Rattle.std.specs.Option.{is_some, option_map, option_map_or}
@@ -20,7 +21,7 @@ use Rattle.sym_findings.specs.internal.Numbers.{has_number}
 use Rattle.sym_findings.specs.internal.Ranges.{is_met}
 use Rattle.sym_findings.specs.internal.Preceding.{KeepsLines, func_of, Keeps, Knows, leaves_open, Judged}
 
--- nothing is kept before the first record
+-- What is stored before the first record.
 pub none_kept : (files origins : List ℕ) (functions lines inits : List Range) → files ≡ [] → origins ≡ [] → ((e : Extent) → is_met functions e ≡ false) → ((e : Extent) → is_met inits e ≡ false) →
     Keeps [] (record { files = files; origins = origins; functions = functions; func = None; lines = lines; inits = inits; init = None })
 unfolding has_number
@@ -34,7 +35,7 @@ none_kept files origins functions lines inits no_file no_origin no_function no_i
   init = refl;
 }
 
--- the findings of a record, one kind after another
+-- The findings of a record, one kind after another.
 pub last_one : (old a : List Finding) → (old ++ a) ≡ (old ++ (a ++ []))
 last_one old a = ap (λ l. old ++ l) (sym (append-nil a))
 
@@ -44,7 +45,6 @@ last_two old a b = append_assoc old a b ∙ ap (λ l. old ++ (a ++ l)) (sym (app
 pub last_four : (old a b c d : List Finding) → ((((old ++ a) ++ b) ++ c) ++ d) ≡ (old ++ (a ++ (b ++ (c ++ (d ++ [])))))
 last_four old a b c d = simp (append_assoc, append-nil)
 
--- four findings at one index, each noted behind those before it
 pub four_noted : (old first second third new : List Finding) (a b c d p q r s : Bool) (j k l m : FindingKind) (index i i' i'' : ℕ) → first ≡ old ++ finding_if a j index → i ≡ index → second ≡ first ++ finding_if b k i → i' ≡ i → third ≡ second ++ finding_if c l i' → i'' ≡ i' → new ≡ third ++ finding_if d m i'' →
     a ≡ p → b ≡ q → c ≡ r → d ≡ s → new ≡ (((old ++ finding_if p j index) ++ finding_if q k index) ++ finding_if r l index) ++ finding_if s m index
 four_noted old first second third new a b c d p q r s j k l m index i i' i'' one one_is two two_is three three_is four e f g h = cc (one, one_is, two, two_is, three, three_is, four, e, f, g, h)
@@ -53,15 +53,15 @@ pub and_true : (t : Bool) → (t && true) ≡ t
 and_true true = refl
 and_true false = refl
 
--- `are_sized` of one run
+-- `are_sized` of one range.
 pub one_sized : (e : Extent) (index : ℕ) → finding_if (not (is_sized e)) kind.BadSize index ≡ finding_if (not (list_all is_sized (e ∷ []))) kind.BadSize index
 one_sized e index = ap (λ t. finding_if (not t) kind.BadSize index) (sym (and_true (is_sized e)))
 
--- the addresses of one record more, which meet the same
+-- The ranges with those of one more record.
 pub more_met : (ranges new : List Range) (runs : List Extent) (f : Extent) → ((e : Extent) → is_met ranges e ≡ meets_any runs e) → ((e : Extent) → is_met new e ≡ (is_met ranges e || meet e f)) → (e : Extent) → is_met new e ≡ meets_any (f ∷ runs) e
 more_met ranges new runs f same more e = more e ∙ ap (λ t. t || meet e f) (same e) ∙ or_comm (meets_any runs e) (meet e f)
 
--- what a FUNC that is open says, and that of its records
+-- The open FUNC, as the code stores it.
 pub leaves_same : (runs : List Extent) (func : Option Extent) (o : Option OpenFunc) → func ≡ option_map func_of o → leaves_open runs func ≡ option_map_or (leave runs) o false
 leaves_same runs func None is = ap (leaves_open runs) is
 leaves_same runs func (Some f) is = ap (leaves_open runs) is
@@ -78,7 +78,7 @@ pub line_func : (o : Option OpenFunc) (f : Extent) → option_map func_of o ≡ 
 line_func None f = refl
 line_func (Some o) f = refl
 
--- a record of another keyword has no finding
+-- A record of another keyword has no finding.
 pub closed : (before : List SymLine) (s : SymLine) (p : Preceding) → Keeps before p → ((n : ℕ) → is_file n s ≡ false) → ((n : ℕ) → is_origin n s ≡ false) → func_run s ≡ [] → init_run s ≡ [] → open_func (s ∷ before) ≡ None → open_init (s ∷ before) ≡ None →
     Keeps (s ∷ before) (record p { func = None; init = None })
 closed before s p keeps no_file no_origin no_func no_init func init = record {
@@ -91,12 +91,11 @@ closed before s p keeps no_file no_origin no_func no_init func init = record {
   init = sym init;
 }
 
--- a record that is read as another one
 pub of_record : (k : Known) (p q : Preceding) (index : ℕ) (s r : SymLine) (old new : List Finding) → s ≡ r → ((all before : List SymLine) → Knows all k → Keeps before p → Judged all before index r old new q)
     → (all before : List SymLine) → Knows all k → Keeps before p → Judged all before index s old new q
 of_record k p q index s r old new is told all before knows keeps = subst (λ (x : SymLine). Judged all before index x old new q) (sym is) (told all before knows keeps)
 
--- a record of another keyword has no finding
+-- A record of another keyword.
 abbrev pub IsOther : SymLine → Type 0
 IsOther s = ((binary : Binary) × s ≡ Module binary) ⊎ (((text : List ℕ) × s ≡ Info text) ⊎ ((many : Bool) × (address : ℕ) × (params : ℕ) × (name : List ℕ) × s ≡ Public many address params name))
 

@@ -1,4 +1,5 @@
--- The findings of records are none exactly where a checker finds nothing in them; for the law `nothing_found`.
+-- Records have no findings exactly if a checker finds nothing in them (for the law
+-- `nothing_found`).
 use Rattle.std.proofs.Common.{◌≡◌, List, []}
 use Rattle.sym_records.specs.declared.line.SymLine.{SymLine}
 use Rattle.sym_meaning.specs.Findings.{has_file, has_origin, are_sized, HasNoFindings}

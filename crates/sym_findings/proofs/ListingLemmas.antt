@@ -1,4 +1,4 @@
--- One turn over the records: the findings of those passed, and what is kept of them; for `found_in`.
+-- The loop over the records (for `found_in`).
 use Rattle.std.proofs.Common.{◌≡◌, ℕ, ◌+◌, ◌<◌, ◌≤◌, suc, List, [], ◌∷◌, ◌++◌, length, take, drop, reverse, get_or, ap, sym, ◌∙◌, subst, append_assoc, append-nil, add-one, drop-cons}
 use Rattle.std.proofs.lemmas.List.{take_more, drop_all, reverse-append}
 use Rattle.sym_records.specs.declared.line.SymLine.{SymLine}
@@ -7,7 +7,7 @@ use Rattle.sym_findings.specs.declared.records_before.Preceding.{Preceding}
 use Rattle.sym_findings.specs.Findings.{findings_at, findings_from, findings}
 use Rattle.sym_findings.specs.internal.Preceding.{Keeps, Judged, preceding_at}
 
--- what is said behind some records: what they say is kept, and the findings at them and at those left are all
+-- The invariant of the loop: what is stored of the records so far, and the findings at them.
 pub record Lists (lines : List SymLine) (i : ℕ) (out : List Finding) (p : Preceding) : Type 0 where
   pub keeps : Keeps (preceding_at i lines) p
   pub found : out ++ findings_from lines (preceding_at i lines) i (drop i lines) ≡ findings lines

@@ -1,4 +1,4 @@
--- The addresses of records, the last of them as one range beside those before: which they meet, and one record more; for `MetRanges`.
+-- The ranges of records, of which the last are stored as one (for `MetRanges`).
 use Rattle.std.proofs.Common.{◌≡◌, ℕ, ◌+◌, ◌<◌, ◌≤◌, ◌&&◌, ◌||◌, nat_lt, min, max, Bool, true, false, List, [], ◌∷◌, refl, ap, sym, ◌∙◌, subst, arith}
 use Rattle.std.specs.List.{list_any}
 use Rattle.std.proofs.Math.Bool.{or_comm}
@@ -11,7 +11,7 @@ use Rattle.range_union.specs.Ranges.{overlap, any_overlap, range_to}
 use Rattle.sym_findings.specs.internal.Ranges.{EndBy, IsTail, is_met}
 use Rattle.range_union.proofs.RangeLemmas.{or_assoc_by}
 
--- before the first record
+-- Before the first record.
 pub tail_none : IsTail 0 0 0
 tail_none = record { ordered = omega arith; some = λ above. omega (arith, above); below = omega arith }
 
@@ -33,7 +33,7 @@ none_met ranges is e =
     ∙ ap (λ t. nat_lt 0 e.size && t) (empty_front e.address (e.address + e.size))
     ∙ and_false (nat_lt 0 e.size)
 
--- what ends where
+-- A greater bound for the ends of ranges.
 pub ends_more : (top more : ℕ) (ranges : List Range) → EndBy top ranges → top ≤ more → EndBy more ranges
 ends_more top more ranges ends le = record { none = λ a b from some. ends.none a b (omega (arith, le, from)) some }
 
@@ -46,12 +46,12 @@ ends_put top start end old new ends le no_other = record {
       (ap (λ t. t && nat_lt start b) (le-ltb a end (omega (arith, le, from)))));
 }
 
--- an empty record meets nothing
+-- An empty range overlaps nothing.
 pub empty_met : (ranges : List Range) (address size : ℕ) → address + size ≤ address → false ≡ is_met ranges (run_of address size)
 unfolding is_met
 empty_met ranges address size none = sym (ap (λ t. t && any_overlap (range_to address (address + size)) ranges) (le-ltb 0 size (omega (arith, none))))
 
--- one record more, which is not empty
+-- One more range, which is not empty.
 meet_is : (a s b t : ℕ) → b < b + t → nat_lt (max a b) (min (a + s) (b + t)) ≡ (nat_lt 0 s && (nat_lt a (b + t) && nat_lt b (a + s)))
 meet_is a s b t some = grind (arith, nat_tests)
 
@@ -69,7 +69,7 @@ met_more new old address size some more e =
     (λ is. more e.address (e.address + e.size) (omega (arith, ltb-true 0 e.size is)))
     (meet_is e.address e.size address size some)
 
--- below the greatest end: the record is one of the earlier ones
+-- A range that begins below the greatest end joins the earlier ones.
 pub below_met : (ranges : List Range) (address size : ℕ) (met : Bool) → address < address + size → met ≡ any_overlap (range_to address (address + size)) ranges → met ≡ is_met ranges (run_of address size)
 unfolding is_met
 below_met ranges address size met some is = is ∙ sym (ap (λ t. t && any_overlap (range_to address (address + size)) ranges) (lt-ltb 0 size (omega (arith, some))))
@@ -84,7 +84,7 @@ below_more start end address size old new some more =
     ap (λ t. overlap (range_to a b) (range_to start end) || t) (more a b less)
     ∙ sym (or_assoc_by (overlap (range_to a b) (range_to start end)) (list_any (overlap (range_to a b)) old) (overlap (range_to a b) (range_to address (address + size)))))
 
--- at or above the greatest end: nothing is met
+-- A range that begins at or above the greatest end overlaps nothing.
 pub above_met : (start end top address size : ℕ) (ranges : List Range) → IsTail start end top → EndBy top ranges → top ≤ address → address < address + size → false ≡ is_met (range_to start end ∷ ranges) (run_of address size)
 unfolding is_met any_overlap
 above_met start end top address size ranges tail ends above some =
@@ -95,7 +95,7 @@ above_met start end top address size ranges tail ends above some =
     (ends.none address (address + size) above some))
     ∙ and_false (nat_lt 0 size))
 
--- the last range grows
+-- The last range grows.
 touches : (a b start end more : ℕ) → a < b → start ≤ end → (0 < end → start < end) → end < more → (nat_lt a more && nat_lt start b) ≡ ((nat_lt a end && nat_lt start b) || (nat_lt a more && nat_lt end b))
 touches a b start end more some ordered not_empty above = grind (arith, nat_tests)
 
@@ -113,7 +113,7 @@ grown_more start end top address size ranges tail same some =
     ∙ or_swap (overlap (range_to a b) (range_to start end)) (nat_lt a (address + size) && nat_lt end b) (list_any (overlap (range_to a b)) ranges)
     ∙ ap (λ k. (overlap (range_to a b) (range_to start end) || list_any (overlap (range_to a b)) ranges) || (nat_lt a (address + size) && nat_lt k b)) same)
 
--- the last range joins those before it
+-- The last range joins the earlier ones.
 some_tail : (a b start end : ℕ) → (0 < end → start < end) → (nat_lt start end && (nat_lt a end && nat_lt start b)) ≡ (nat_lt a end && nat_lt start b)
 some_tail a b start end not_empty = grind (arith, nat_tests)
 
@@ -130,6 +130,5 @@ joined_more start end top address size old new tail some more =
     ap (λ t. overlap (range_to a b) (range_to address (address + size)) || t) (more a b less ∙ ap (λ t. list_any (overlap (range_to a b)) old || t) (some_tail a b start end tail.some))
     ∙ or_turn (overlap (range_to a b) (range_to address (address + size))) (list_any (overlap (range_to a b)) old) (overlap (range_to a b) (range_to start end)))
 
--- the numbers of a record, as the code reads them
 pub at_run : (P : ℕ → ℕ → Type 0) (start length address size : ℕ) → start ≡ address → length ≡ size → P start length → P address size
 at_run P start length address size first second said = subst (λ (a : ℕ). P a size) first (subst (λ (s : ℕ). P start s) second said)

@@ -1,4 +1,4 @@
--- Numbers in a list: one more, the same in order, and those that records give.
+-- Numbers in a list or a set, and those that records give.
 use Rattle.std.proofs.Common.{◌≡◌, ℕ, suc, ◌<◌, ◌≤◌, ◌==◌, ◌||◌, not, Bool, true, false, List, [], ◌∷◌, length, get_or, Some, Result, Ok, Err, refl, ap, sym, ◌∙◌, inl, inr, arith, eq-eqb}
 use Rattle.std.specs.List.{list_any, flat_map, slice_get}
 use Rattle.std.specs.List.Sorted.{IsPermutation, IsSorted, IsNonDecreasing, IsBinarySearchResult}
@@ -19,7 +19,7 @@ use Rattle.sym_records.specs.declared.line.SymLine.TheVariants.{File, Origin}
 use Rattle.sym_meaning.specs.TextNames.{is_file, is_origin}
 use Rattle.sym_findings.specs.internal.Numbers.{has_number, file_number, origin_number}
 
--- the numbers of a set
+-- The numbers of a set.
 at_is : (n m : ℕ) → is_at (nat_cmp n) m ≡ (m == n)
 at_is n m = grind (arith, nat_tests)
 
@@ -66,7 +66,7 @@ pub given_more : (n m : ℕ) (keys new : List ℕ) → new ≡ insert_key nat_cm
 unfolding has_number
 given_more n m keys new e = ap (λ ks. list_any (λ k. k == m) ks) e ∙ more_by n m keys
 
--- the numbers in order
+-- The numbers in ascending order.
 pub sorted_rise : (xs : List ℕ) → IsSorted nat_cmp xs → IsNonDecreasing xs
 sorted_rise xs sorted = IsNonDecreasingBy-from_sort (λ x. x) xs sorted
 
@@ -74,12 +74,12 @@ pub sorted_same : (n : ℕ) (xs ys : List ℕ) → IsPermutation xs ys → has_n
 unfolding has_number
 sorted_same n xs ys moves = sym (list_any-IsPermutation (λ m. m == n) xs ys moves)
 
--- a number that stands at a place is there
+-- A number that is at a place of a list is in the list.
 pub stands_in : (xs : List ℕ) (place n : ℕ) → slice_get xs place ≡ Some n → has_number xs n ≡ true
 unfolding has_number
 stands_in xs place n is = list_any_at (λ m. m == n) xs place 0 (slice_get_within xs place n is) (eq-eqb (get_or xs place 0) n (get_or_from_slice_get xs place n 0 is))
 
--- what a search by halves finds, and does not
+-- The result of a binary search.
 pub found_in : (xs : List ℕ) (n i : ℕ) → (i < length xs) × (get_or xs i 0 ≡ n) → has_number xs n ≡ true
 unfolding has_number
 found_in xs n i at = list_any_at (λ m. m == n) xs i 0 at.0 (eq-eqb (get_or xs i 0) n at.1)
@@ -106,7 +106,7 @@ pub by_halves : (xs : List ℕ) (n : ℕ) (r : Result ℕ ℕ) → IsBinarySearc
 by_halves xs n (Ok i) search rises = sym (found_in xs n i (searched xs n (Ok i) search (rises_at xs rises)))
 by_halves xs n (Err i) search rises = sym (not_in xs n i (searched xs n (Err i) search (rises_at xs rises)))
 
--- the numbers that records give
+-- The numbers that records give.
 pub files_given : (n : ℕ) (lines : List SymLine) → has_number (flat_map file_number lines) n ≡ list_any (is_file n) lines
 unfolding has_number
 files_given n [] = refl

@@ -1,4 +1,5 @@
--- The findings of records are none where a checker finds nothing in them, kind by kind: for the law `nothing_found`.
+-- Records have no findings of C1 to C5 and C8 exactly if a checker finds none (for the law
+-- `nothing_found`).
 use Rattle.std.proofs.Common.{◌≡◌, ℕ, ◌+◌, ◌&&◌, ◌==◌, not, nat_lt, min, max, Bool, true, false, List, [], ◌∷◌, ◌++◌, refl, ap, sym, ◌∙◌, arith}
 use Rattle.std.specs.List.{list_any, list_all, flat_map}
 use Rattle.std.proofs.lemmas.Bool.{or_parts, or_from, and_parts}
@@ -14,12 +15,12 @@ use Rattle.sym_findings.specs.internal.Numbers.{has_number, file_number, origin_
 use Rattle.sym_findings.proofs.NumberLemmas.{files_given, origins_given}
 use Rattle.sym_findings.specs.Findings.{is_given_before, meets_func, init_run, meets_init, is_found, finding_if, findings_at, findings_from}
 
--- no record of those behind some has what a test finds
+-- The test of a record and the records before it is false for each of the later records.
 abbrev pub NoneOf : (List SymLine → SymLine → Bool) → List SymLine → List SymLine → Type 0
 NoneOf q before [] = Unit {0}
 NoneOf q before (s ∷ lines) = (q before s ≡ false) × NoneOf q (s ∷ before) lines
 
--- the findings at a record
+-- The findings at a record.
 nil_parts : (b : Bool) (k : FindingKind) (index : ℕ) (rest : List Finding) → (finding_if b k index ++ rest) ≡ [] → (b ≡ false) × (rest ≡ [])
 nil_parts true k index rest is = absurd (let none : record { kind = k; index = index } ∷ rest ≡ [] = is in cc)
 nil_parts false k index rest is = (refl, is)
@@ -28,7 +29,7 @@ nil_more : (b : Bool) (k : FindingKind) (index : ℕ) (rest : List Finding) → 
 nil_more true k index rest isnt none = absurd (let false_is : true ≡ false = isnt in cc)
 nil_more false k index rest isnt none = none
 
--- the findings of some kinds of all
+-- No finding of some kinds.
 kinds_none : (q : FindingKind → Bool) (index : ℕ) (ks : List FindingKind) → ((k : FindingKind) → q k ≡ false) → flat_map (λ k. finding_if (q k) k index) ks ≡ []
 kinds_none q index [] none = refl
 kinds_none q index (k ∷ ks) none = nil_more (q k) k index (flat_map (λ j. finding_if (q j) j index) ks) (none k) (kinds_none q index ks none)
@@ -37,7 +38,7 @@ pub at_none : (all before : List SymLine) (index : ℕ) (s : SymLine) → ((k : 
 unfolding findings_at
 at_none all before index s none = kinds_none (is_found all before s) index (kind.GivenAgain ∷ kind.NoFile ∷ kind.NoOrigin ∷ kind.BadSize ∷ kind.FuncMeets ∷ kind.LeavesFunc ∷ kind.LineMeets ∷ kind.InitMeets ∷ kind.ChangeOutside ∷ []) none
 
--- those behind some kinds, one kind taken away
+-- The findings of the other kinds, without one kind.
 rest_of : (q : FindingKind → Bool) (index : ℕ) (k : FindingKind) (ks : List FindingKind) → flat_map (λ j. finding_if (q j) j index) (k ∷ ks) ≡ [] → (q k ≡ false) × (flat_map (λ j. finding_if (q j) j index) ks ≡ [])
 rest_of q index k ks none = nil_parts (q k) k index (flat_map (λ j. finding_if (q j) j index) ks) none
 
@@ -86,7 +87,7 @@ from_none all before index (s ∷ lines) none =
     ap (λ l. l ++ findings_from all (s ∷ before) (index + 1) lines) (at_none all before index s (λ k. (none k).0))
     ∙ from_none all (s ∷ before) (index + 1) lines (λ k. (none k).1)
 
--- a test of the record alone
+-- A test of the record alone.
 pub not_false : (b : Bool) → not b ≡ false → b ≡ true
 not_false true isnt = refl
 not_false false isnt = absurd (let false_is : true ≡ false = isnt in cc)
@@ -104,7 +105,7 @@ of_all q before (s ∷ lines) all =
     let parts = and_parts (q s) (list_all q lines) all in
     (true_not (q s) parts.0, of_all q (s ∷ before) lines parts.1)
 
--- no two members of a list have what a test finds of two: with those before, with those behind
+-- No two members of a list pass a test: each with those before it, or each with those after it.
 abbrev pub NoneBefore : {X : Type 0} → (X → X → Bool) → List X → List X → Type 0
 NoneBefore p before [] = Unit {0}
 NoneBefore p before (x ∷ xs) = (list_any (p x) before ≡ false) × NoneBefore p (x ∷ before) xs
@@ -113,7 +114,7 @@ abbrev pub NoneBehind : {X : Type 0} → (X → X → Bool) → List X → Type 
 NoneBehind p [] = Unit {0}
 NoneBehind p (x ∷ xs) = (list_any (p x) xs ≡ false) × NoneBehind p xs
 
--- and none of one list with one of another
+-- No member of one list and no member of another pass a test together.
 abbrev NoneAcross : {X : Type 0} → (X → X → Bool) → List X → List X → Type 0
 NoneAcross p before [] = Unit {0}
 NoneAcross p before (x ∷ xs) = (list_any (p x) before ≡ false) × NoneAcross p before xs
@@ -152,7 +153,7 @@ behind_all p same xs none = (before_behind p same [] xs none).0
 pub before_all : {X : Type 0} (p : X → X → Bool) → ((x y : X) → p x y ≡ p y x) → (xs : List X) → NoneBehind p xs → NoneBefore p [] xs
 before_all p same xs none = behind_before p same [] xs none (across_none p xs)
 
--- ranges of addresses
+-- Overlapping is symmetric.
 meet_turns : (a s b t : ℕ) → nat_lt (max a b) (min (a + s) (b + t)) ≡ nat_lt (max b a) (min (b + t) (a + s))
 meet_turns a s b t = grind (arith, nat_tests)
 
@@ -173,21 +174,21 @@ apart_all runs none = apart_of runs (behind_all meet meet_same runs none)
 pub all_apart : (runs : List Extent) → AreApart runs → NoneBefore meet [] runs
 all_apart runs apart = before_all meet meet_same runs (of_apart runs apart)
 
--- numbers that are the same
+-- Whether two numbers are equal.
 abbrev same_number : ℕ → ℕ → Bool
 same_number n m = m == n
 
 number_turns : (n m : ℕ) → same_number n m ≡ same_number m n
 number_turns n m = grind (arith, nat_tests)
 
--- C1: the numbers of FILE records
+-- C1: the numbers of FILE records.
 files_before : (before lines : List SymLine) → NoneOf is_given_before before lines → NoneBefore same_number (flat_map file_number before) (flat_map file_number lines)
 unfolding has_number
 files_before before [] none = tt
 files_before before (File n name ∷ lines) none = (files_given n before ∙ none.0, files_before (File n name ∷ before) lines none.1)
 files_before before (s ∷ lines) none = files_before (s ∷ before) lines none.1
 
--- C1: the numbers of INLINE_ORIGIN records
+-- C1: the numbers of INLINE_ORIGIN records.
 origins_before : (before lines : List SymLine) → NoneOf is_given_before before lines → NoneBefore same_number (flat_map origin_number before) (flat_map origin_number lines)
 unfolding has_number
 origins_before before [] none = tt
@@ -232,7 +233,7 @@ once_given lines once =
     (before_all same_number number_turns (flat_map file_number lines) (files_once lines once))
     (before_all same_number number_turns (flat_map origin_number lines) (origins_once lines once))
 
--- C5: the addresses of FUNC records
+-- C5: the addresses of FUNC records.
 funcs_before : (before lines : List SymLine) → NoneOf meets_func before lines → NoneBefore meet (flat_map func_run before) (flat_map func_run lines)
 funcs_before before [] none = tt
 funcs_before before (Func many address size params name ∷ lines) none = (none.0, funcs_before (Func many address size params name ∷ before) lines none.1)
@@ -249,7 +250,7 @@ funcs_apart lines none = apart_all (flat_map func_run lines) (funcs_before [] li
 pub apart_funcs : (lines : List SymLine) → AreApart (flat_map func_run lines) → NoneOf meets_func [] lines
 apart_funcs lines apart = funcs_none [] lines (all_apart (flat_map func_run lines) apart)
 
--- C8: the addresses of INIT records
+-- C8: the addresses of INIT records.
 inits_before : (before lines : List SymLine) → NoneOf meets_init before lines → NoneBefore meet (flat_map init_run before) (flat_map init_run lines)
 inits_before before [] none = tt
 inits_before before (Init address size rules ∷ lines) none = (none.0, inits_before (Init address size rules ∷ before) lines none.1)

@@ -1,4 +1,5 @@
--- The records under a FUNC: C6 and C7 are found at none of them where a checker finds nothing; for the law `nothing_found`.
+-- The records under a FUNC: C6 and C7 are found at none of them exactly if a checker finds nothing
+-- (for the law `nothing_found`).
 use Rattle.std.proofs.Common.{◌≡◌, ◌&&◌, true, false, List, [], ◌∷◌, Option, None, Some, refl, ap, sym, ◌∙◌}
 use Rattle.std.specs.List.{list_all, flat_map}
 use Rattle.std.specs.Option.{option_map, option_map_or}
@@ -11,7 +12,7 @@ use Rattle.sym_meaning.specs.Findings.{run_of, line_run, runs_of, meet, holds_ru
 use Rattle.sym_findings.specs.Findings.{meets_any, OpenFunc, with_line, open_func, leave, leaves_func, meets_line}
 use Rattle.sym_findings.proofs.PairLemmas.{NoneOf, NoneBefore, apart_all, all_apart, not_false, true_not}
 
--- the line records that follow under a FUNC that is open do not meet each other, nor those before
+-- The later line records under the open FUNC do not overlap each other or earlier ones.
 abbrev OpenApart : Option OpenFunc → List Extent → Type 0
 OpenApart None runs = Unit {0}
 OpenApart (Some f) runs = NoneBefore meet f.lines runs
@@ -28,7 +29,7 @@ apart_line : (o : Option OpenFunc) (e : Extent) (runs : List Extent) → OpenApa
 apart_line None e runs apart = (refl, tt)
 apart_line (Some f) e runs apart = apart
 
--- the records that follow under a FUNC that is open do not leave it
+-- The later records under the open FUNC do not reach outside of it.
 abbrev OpenInside : Option OpenFunc → List SymLine → Type 0
 OpenInside None records = Unit {0}
 OpenInside (Some f) records = list_all (λ s. list_all (holds_run f.func) (runs_of s)) records ≡ true
@@ -58,7 +59,7 @@ inside_with : (o : Option OpenFunc) (e : Extent) (records : List SymLine) → Op
 inside_with None e records inside = tt
 inside_with (Some f) e records inside = inside
 
--- C7
+-- C7.
 lines_of : (before lines : List SymLine) → NoneOf meets_line before lines → OpenApart (open_func before) (flat_map line_run (under lines)) × EachFunc HaveLinesApart lines
 lines_of before [] none = (open_apart_none (open_func before), tt)
 lines_of before (Func many address size params name ∷ lines) none = let later = lines_of (Func many address size params name ∷ before) lines none.1 in (open_apart_none (open_func before), (apart_all (flat_map line_run (under lines)) later.0, later.1))
@@ -73,7 +74,7 @@ of_lines before (Inline level line file origin ranges ∷ lines) now each = (ref
 of_lines before (Line address size line file ∷ lines) now each = let parts = apart_line (open_func before) (run_of address size) (flat_map line_run (under lines)) now in (parts.0, of_lines (Line address size line file ∷ before) lines parts.1 each)
 of_lines before (s ∷ lines) now each = (refl, of_lines (s ∷ before) lines tt each)
 
--- C6
+-- C6.
 inside_of : (before lines : List SymLine) → NoneOf leaves_func before lines → OpenInside (open_func before) (under lines) × EachFunc LieInside lines
 inside_of before [] none = (open_inside_none (open_func before), tt)
 inside_of before (Func many address size params name ∷ lines) none = let later = inside_of (Func many address size params name ∷ before) lines none.1 in (open_inside_none (open_func before), (later.0, later.1))

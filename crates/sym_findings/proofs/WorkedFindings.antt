@@ -1,4 +1,5 @@
--- Worked rows: for each kind of finding a list of records that has it alone, and the nearest list that has it not.
+-- Worked examples: for each kind of finding a list of records that has only this one, and the
+-- nearest list without it.
 use Rattle.std.proofs.Common.{◌≡◌, ℕ, false, List, [], ◌∷◌, codes, refl}
 use Rattle.sym_records.specs.declared.line.Extent.{Extent}
 use Rattle.sym_records.specs.declared.line.SymLine.{SymLine}
@@ -22,7 +23,7 @@ origin n = Origin n (codes "in")
 abbrev func : ℕ → ℕ → SymLine
 func address size = Func false address size 0 (codes "f")
 
--- a line record and an INLINE of the first FILE and INLINE_ORIGIN
+-- A line record and an INLINE that refer to FILE 0 and INLINE_ORIGIN 0.
 abbrev line : ℕ → ℕ → SymLine
 line address size = Line address size 1 0
 
@@ -32,16 +33,17 @@ inlined ranges = Inline 0 4 0 0 ranges
 abbrev head : SymLine
 head = Module (record { os = codes "Linux"; arch = codes "x86_64"; id = codes "0"; name = codes "a" })
 
--- the module, FILE 0, INLINE_ORIGIN 0, and other records from index 3 on
+-- The module, FILE 0, INLINE_ORIGIN 0, and other records from index 3 on.
 abbrev file_of : List SymLine → List SymLine
 file_of lines = head ∷ file 0 ∷ origin 0 ∷ lines
 
--- a file of functions, inlined copies, lines and frames has no finding
+-- A file of functions, inlined copies, lines and frames without a finding.
 nothing : findings (file_of (func 0x10 0x10 ∷ inlined (run_of 0x10 4 ∷ run_of 0x18 8 ∷ []) ∷ line 0x10 8 ∷ line 0x18 8 ∷ func 0x20 0x10 ∷ line 0x20 0x10 ∷ Public false 0x50 0 (codes "p") ∷ Init 0x10 0x10 [] ∷ Change 0x11 [] ∷ Change 0x1f [] ∷ Init 0x20 0x10 [] ∷ Change 0x21 [] ∷ [])) ≡ []
 unfolding sym_findings_computes
 nothing = refl
 
--- C1: FILE and INLINE_ORIGIN number apart, and the later record has the finding, whatever stands between
+-- C1: FILE and INLINE_ORIGIN are numbered separately, and the later record has the finding,
+-- whatever is between.
 file_again : findings (file_of (Info (codes "i") ∷ file 1 ∷ file 0 ∷ [])) ≡ at kind.GivenAgain 5 ∷ []
 unfolding sym_findings_computes
 file_again = refl
@@ -58,7 +60,7 @@ other_numbers : findings (file_of (file 1 ∷ origin 2 ∷ file 2 ∷ origin 1 �
 unfolding sym_findings_computes
 other_numbers = refl
 
--- C2: the FILE is in no record, also not behind
+-- C2: no record gives the FILE, not even a later one.
 line_without_file : findings (file_of (func 0x10 0x10 ∷ Line 0x10 8 1 7 ∷ [])) ≡ at kind.NoFile 4 ∷ []
 unfolding sym_findings_computes
 line_without_file = refl
@@ -71,7 +73,8 @@ file_behind : findings (file_of (func 0x10 0x10 ∷ Line 0x10 8 1 7 ∷ Inline 0
 unfolding sym_findings_computes
 file_behind = refl
 
--- C3: the INLINE_ORIGIN is in no record, also not behind; a FILE of its number is none
+-- C3: no record gives the INLINE_ORIGIN, not even a later one; a FILE with its number does not
+-- count.
 inline_without_origin : findings (file_of (file 7 ∷ func 0x10 0x10 ∷ Inline 0 4 0 7 (run_of 0x10 4 ∷ []) ∷ [])) ≡ at kind.NoOrigin 5 ∷ []
 unfolding sym_findings_computes
 inline_without_origin = refl
@@ -80,7 +83,7 @@ origin_behind : findings (file_of (file 7 ∷ func 0x10 0x10 ∷ Inline 0 4 0 7 
 unfolding sym_findings_computes
 origin_behind = refl
 
--- C4: size 0, or an end of 2^64 or more: of a FUNC that covers the last address too, though a look-up finds it
+-- C4: size 0, or an end of 2^64 or more, even of a FUNC that covers the last address.
 empty_func : findings (file_of (func 0x10 0 ∷ [])) ≡ at kind.BadSize 3 ∷ []
 unfolding sym_findings_computes
 empty_func = refl
@@ -117,7 +120,8 @@ near_init : findings (file_of (Init 0x8000000000000000 0x7fffffffffffffff [] ∷
 unfolding sym_findings_computes
 near_init = refl
 
--- C5: with an earlier FUNC that need not be the one before; ends are whole numbers; FUNCs that touch, and an empty one, meet nothing
+-- C5: the earlier FUNC need not be a neighbour, and ends are not taken modulo 2^64. FUNCs that
+-- touch, and empty ones, do not overlap.
 funcs_meet : findings (file_of (func 0x1000 0x10 ∷ func 0x1008 0x10 ∷ [])) ≡ at kind.FuncMeets 4 ∷ []
 unfolding sym_findings_computes
 funcs_meet = refl
@@ -146,7 +150,8 @@ empty_meets_nothing : findings (file_of (func 0x10 0x10 ∷ func 0x18 0 ∷ func
 unfolding sym_findings_computes
 empty_meets_nothing = refl
 
--- C6: by ends as whole numbers, also for a size of 0: at the very end of its FUNC an empty range does not leave it
+-- C6: ends are not taken modulo 2^64, also for a size of 0. An empty range at the very end of its
+-- FUNC is inside.
 line_before : findings (file_of (func 0x10 0x10 ∷ line 0xf 4 ∷ [])) ≡ at kind.LeavesFunc 4 ∷ []
 unfolding sym_findings_computes
 line_before = refl
@@ -167,7 +172,7 @@ empty_behind_the_end : findings (file_of (func 0x10 0x10 ∷ line 0x21 0 ∷ [])
 unfolding sym_findings_computes
 empty_behind_the_end = refl
 
--- C7: with an earlier line record of the same FUNC, whatever order they have; those of two FUNCs do not count
+-- C7: an earlier line record of the same FUNC, in any order; those of two FUNCs do not count.
 lines_meet : findings (file_of (func 0x10 0x10 ∷ line 0x10 8 ∷ inlined (run_of 0x10 4 ∷ []) ∷ line 0x18 8 ∷ line 0x14 2 ∷ [])) ≡ at kind.LineMeets 7 ∷ []
 unfolding sym_findings_computes
 lines_meet = refl
@@ -180,7 +185,7 @@ lines_of_two : findings (file_of (func 0x10 0x10 ∷ line 0x10 8 ∷ func 0x10 0
 unfolding sym_findings_computes
 lines_of_two = refl
 
--- C8: with an earlier INIT, whatever stands between
+-- C8: an earlier INIT, whatever is between.
 inits_meet : findings (file_of (Init 0x10 0x10 [] ∷ Change 0x11 [] ∷ file 1 ∷ Init 0x1f 0x10 [] ∷ [])) ≡ at kind.InitMeets 6 ∷ []
 unfolding sym_findings_computes
 inits_meet = refl
@@ -189,8 +194,8 @@ inits_touch : findings (file_of (Init 0x10 0x10 [] ∷ Change 0x11 [] ∷ file 1
 unfolding sym_findings_computes
 inits_touch = refl
 
--- C9: at its INIT's own address, at its end, below it, and not above the record before it; behind one that lies below its INIT, one at the
--- INIT's own address is above the record before it
+-- C9: at the INIT's own address, at its end, below it, and not above the record before it. After a
+-- change below the INIT, one at the INIT's own address is above the record before it.
 change_at_init : findings (file_of (Init 0x10 0x10 [] ∷ Change 0x10 [] ∷ [])) ≡ at kind.ChangeOutside 4 ∷ []
 unfolding sym_findings_computes
 change_at_init = refl
@@ -211,7 +216,7 @@ change_below : findings (file_of (Init 0x10 0x10 [] ∷ Change 8 [] ∷ Change 0
 unfolding sym_findings_computes
 change_below = refl
 
--- several at one record, in the order of their kinds, and by record
+-- Several findings at one record, in the order of their kinds, and then by record.
 several : findings (file_of (func 0x10 0x10 ∷ line 0x18 8 ∷ Line 0x1f 2 1 7 ∷ Inline 0 4 7 7 (run_of 0xf 0 ∷ []) ∷ func 0x10 0 ∷ [])) ≡ at kind.NoFile 5 ∷ at kind.LeavesFunc 5 ∷ at kind.LineMeets 5 ∷ at kind.NoFile 6 ∷ at kind.NoOrigin 6 ∷ at kind.BadSize 6 ∷ at kind.LeavesFunc 6 ∷ at kind.BadSize 7 ∷ []
 unfolding sym_findings_computes
 several = refl
@@ -220,7 +225,7 @@ two_records : findings (head ∷ file 0 ∷ File 0 (codes "b") ∷ func 0x10 0 �
 unfolding sym_findings_computes
 two_records = refl
 
--- the smallest lists: two functions that meet, two that touch, and one file
+-- The smallest lists: two functions that overlap, two that touch, and one file.
 two_funcs : findings (head ∷ func 0x1000 0x10 ∷ func 0x1008 0x10 ∷ []) ≡ at kind.FuncMeets 2 ∷ []
 unfolding sym_findings_computes
 two_funcs = refl

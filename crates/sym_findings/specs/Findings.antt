@@ -1,6 +1,7 @@
--- What a checker finds in the records of a symbol file (Breakpad's symbol_files.md). Each of nine kinds of finding is a condition on a record and the
--- records before it; C2 and C3 are conditions on a record and all records. The records before a record are listed nearest first. Ends of ranges are
--- not limited to 64 bits, and an empty range overlaps nothing.
+-- What a checker finds in the records of a symbol file (Breakpad's symbol_files.md). Each of nine
+-- kinds of finding is a condition on a record and the records before it, or, for C2 and C3, on a
+-- record and all records. The records before a record are listed with the nearest first. Ends of
+-- ranges may be above 2^64, and an empty range overlaps nothing.
 use Rattle.std.specs.Prelude.{ℕ, ◌+◌, ◌&&◌, nat_lt, nat_le, not, Bool, true, false, List, [], ◌∷◌, ◌++◌, Option, None, Some}
 use Rattle.std.specs.List.{list_any, list_all, flat_map}
 use Rattle.std.specs.Option.{option_map, option_map_or}
@@ -19,7 +20,7 @@ use Rattle.sym_findings.specs.FindingWords.{kinds}
 abbrev pub meets_any : List Extent → Extent → Bool
 meets_any runs e = list_any (meet e) runs
 
--- C1: the number of a FILE, or of an INLINE_ORIGIN, was given before by the same keyword
+-- C1: the number of a FILE or an INLINE_ORIGIN was given before with the same keyword
 abbrev pub is_given_before : List SymLine → SymLine → Bool
 is_given_before before (File number name) = list_any (is_file number) before
 is_given_before before (Origin number name) = list_any (is_origin number) before
@@ -30,7 +31,7 @@ abbrev pub meets_func : List SymLine → SymLine → Bool
 meets_func before (Func many address size params name) = meets_any (flat_map func_run before) (run_of address size)
 meets_func before _ = false
 
--- a FUNC, and the addresses of the line records under it so far
+-- a FUNC, and the ranges of the line records under it so far
 pub record OpenFunc : Type 0 where
   pub func : Extent
   pub lines : List Extent
@@ -38,7 +39,8 @@ pub record OpenFunc : Type 0 where
 abbrev pub with_line : Extent → OpenFunc → OpenFunc
 with_line e f = record f { lines = e ∷ f.lines }
 
--- the FUNC that is open after records: the nearest FUNC, with only INLINE and line records after it
+-- the FUNC under which the next record is: the nearest FUNC before it, if only INLINE and line
+-- records are after that FUNC
 abbrev pub open_func : List SymLine → Option OpenFunc
 open_func [] = None
 open_func (Func many address size params name ∷ before) = Some (record { func = run_of address size; lines = [] })
@@ -46,7 +48,7 @@ open_func (Inline level line file origin ranges ∷ before) = open_func before
 open_func (Line address size line file ∷ before) = option_map (with_line (run_of address size)) (open_func before)
 open_func (_ ∷ before) = None
 
--- C6: a line record or a range of an INLINE leaves its FUNC
+-- C6: a line record or a range of an INLINE reaches outside of its FUNC
 abbrev pub leave : List Extent → OpenFunc → Bool
 leave runs f = not (list_all (holds_run f.func) runs)
 
@@ -60,7 +62,7 @@ abbrev pub meets_line : List SymLine → SymLine → Bool
 meets_line before (Line address size line file) = option_map_or (λ f. meets_any f.lines (run_of address size)) (open_func before) false
 meets_line before _ = false
 
--- C8: an INIT overlaps an earlier INIT
+-- the range of an INIT, for C8: an INIT overlaps an earlier INIT
 abbrev pub init_run : SymLine → List Extent
 init_run (Init address size rules) = run_of address size ∷ []
 init_run _ = []
@@ -69,7 +71,8 @@ abbrev pub meets_init : List SymLine → SymLine → Bool
 meets_init before (Init address size rules) = meets_any (flat_map init_run before) (run_of address size)
 meets_init before _ = false
 
--- the INIT that is open after records: the nearest INIT, with only STACK CFI records after it; and the address of the last of these records
+-- the INIT that a next STACK CFI changes: the nearest INIT before it, if only STACK CFI records are
+-- after that INIT; and the address of the last of these records
 abbrev pub open_init : List SymLine → Option OpenInit
 open_init [] = None
 open_init (Init address size rules ∷ before) = Some (record { init = run_of address size; last = address })
@@ -96,7 +99,7 @@ is_found all before s kind.LineMeets = meets_line before s
 is_found all before s kind.InitMeets = meets_init before s
 is_found all before s kind.ChangeOutside = is_outside before s
 
--- a finding at the record with the index, if there is one
+-- a list with a finding at the record with this index, if `found`
 abbrev pub finding_if : Bool → FindingKind → ℕ → List Finding
 finding_if true kind index = record { kind = kind; index = index } ∷ []
 finding_if false kind index = []

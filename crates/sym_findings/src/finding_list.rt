@@ -22,7 +22,7 @@ fn known_in(alloc: Global, lines: &[SymLine]) -> Result<Known, OutOfMemory>
     Ok(Known { files, origins })
 }
 
-/// Nothing is kept yet. Allocates no memory.
+/// What is stored before the first record. Allocates no memory.
 fn none_kept(alloc: Global) -> Preceding
     ensures { Keeps [] result }
 {
@@ -54,7 +54,8 @@ fn found_in(alloc: Global, known: &Known, lines: &[SymLine]) -> Result<Vec<Findi
     Ok(notes.list)
 }
 
-/// What a checker finds in the records of a file, ordered by record and then by kind. Takes at most n log n steps for n records and ranges.
+/// What a checker finds in the records of a file, ordered by record and then by kind. The time for
+/// n records and ranges is O(n log n).
 pub fn findings(alloc: Global, file: &SymFile) -> Result<FindingList, OutOfMemory>
     ensures { IfOk result (λ found. found ≡ findings file.now) }
 {

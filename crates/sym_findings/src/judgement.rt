@@ -26,7 +26,7 @@ pub struct Notes {
 }
 
 impl Notes {
-    /// Lists a finding at the record, if there is one.
+    /// Adds a finding at the current record, if `found`.
     #[inline]
     fn note(&mut self, found: bool, kind: FindingKind) -> Result<(), OutOfMemory>
         ensures list { OnOk result (self.new.list.items ≡ self.old.list.items ++ finding_if found kind self.old.index) }
@@ -42,7 +42,7 @@ impl Notes {
     }
 }
 
-/// The range is not empty, and its end is at most 2^64 - 1.
+/// Whether the range is not empty, and its end is at most 2^64 - 1.
 #[inline]
 fn is_sized(run: &Extent) -> bool
     ensures { result ≡ is_sized run.now }
@@ -50,7 +50,7 @@ fn is_sized(run: &Extent) -> bool
     0 < run.size && run.size <= u64::MAX - run.address
 }
 
-/// The second range does not leave the first.
+/// Whether the second range does not reach outside of the first.
 #[inline]
 fn holds_run(func: &Extent, run: &Extent) -> bool
     ensures { result ≡ holds_run func.now run.now }
@@ -72,7 +72,7 @@ fn hold_runs(func: &Extent, runs: &[Extent]) -> bool
     runs.iter().all(|run| holds_run(func, run))
 }
 
-/// Whether one of the ranges leaves the open function, if there is one.
+/// Whether one of the ranges reaches outside of the open `FUNC`, if there is one.
 fn leave_open(func: Option<Extent>, runs: &[Extent]) -> bool
     ensures { result ≡ leaves_open runs.now func }
 {
@@ -82,7 +82,7 @@ fn leave_open(func: Option<Extent>, runs: &[Extent]) -> bool
     }
 }
 
-/// Whether the range leaves the open function, if there is one.
+/// Whether the range reaches outside of the open `FUNC`, if there is one.
 #[inline]
 fn leaves_open(func: Option<Extent>, run: &Extent) -> bool
     ensures { result ≡ leaves_open (run.now ∷ []) func }
@@ -93,7 +93,7 @@ fn leaves_open(func: Option<Extent>, run: &Extent) -> bool
     }
 }
 
-/// Whether a function is open and `holds` is true.
+/// Whether a `FUNC` is open and `holds` is true.
 #[inline]
 fn is_open_and(func: Option<Extent>, holds: bool) -> bool
     ensures { result ≡ (is_some func && holds) }
@@ -115,7 +115,7 @@ fn goes_on(init: Option<OpenInit>, address: u64) -> bool
     }
 }
 
-/// The open `STACK CFI INIT` after a `STACK CFI`.
+/// The open `STACK CFI INIT`, with the address of a `STACK CFI` as the last.
 fn moved(init: Option<OpenInit>, address: u64) -> Option<OpenInit>
     ensures { result ≡ option_map (λ (o : OpenInit). record o { last = address }) init }
 {
@@ -128,7 +128,7 @@ fn moved(init: Option<OpenInit>, address: u64) -> Option<OpenInit>
     }
 }
 
-/// No `FUNC` and no `STACK CFI INIT` is open any more.
+/// Closes the open `FUNC` and the open `STACK CFI INIT`.
 fn close(kept: &mut Preceding)
     ensures { kept.new ≡ record kept.old { func = None; init = None } }
 {
@@ -136,7 +136,7 @@ fn close(kept: &mut Preceding)
     kept.init = None;
 }
 
-/// A `FILE`.
+/// Handles a `FILE`.
 fn judge_file(notes: &mut Notes, kept: &mut Preceding, number: u32) -> Result<(), OutOfMemory>
     ensures { OnOk result ((all before : List SymLine) (name : List ℕ) → Keeps before kept.old → Judged all before notes.old.index (record_line.File number name) notes.old.list.items notes.new.list.items kept.new) }
 {
@@ -147,7 +147,7 @@ fn judge_file(notes: &mut Notes, kept: &mut Preceding, number: u32) -> Result<()
     Ok(())
 }
 
-/// An `INLINE_ORIGIN`.
+/// Handles an `INLINE_ORIGIN`.
 fn judge_origin(notes: &mut Notes, kept: &mut Preceding, number: u32) -> Result<(), OutOfMemory>
     ensures { OnOk result ((all before : List SymLine) (name : List ℕ) → Keeps before kept.old → Judged all before notes.old.index (record_line.Origin number name) notes.old.list.items notes.new.list.items kept.new) }
 {
@@ -158,7 +158,7 @@ fn judge_origin(notes: &mut Notes, kept: &mut Preceding, number: u32) -> Result<
     Ok(())
 }
 
-/// The addresses of a `FUNC` or of a `STACK CFI INIT`.
+/// Handles the range of a `FUNC` or of a `STACK CFI INIT`.
 fn judge_run(
     notes: &mut Notes,
     earlier: &mut MetRanges,
@@ -174,7 +174,7 @@ fn judge_run(
     Ok(())
 }
 
-/// A `FUNC`.
+/// Handles a `FUNC`.
 fn judge_func(
     alloc: Global,
     notes: &mut Notes,
@@ -190,7 +190,7 @@ fn judge_func(
     Ok(())
 }
 
-/// What an `INLINE` says about a call: its file, the function's origin and the addresses.
+/// The file, the origin and the ranges of an `INLINE`.
 #[derive(Clone, Copy)]
 struct Call<'r> {
     file: u32,
@@ -198,7 +198,7 @@ struct Call<'r> {
     runs: &'r [Extent],
 }
 
-/// An `INLINE`.
+/// Handles an `INLINE`.
 fn judge_inline(
     notes: &mut Notes,
     known: &Known,
@@ -215,7 +215,7 @@ fn judge_inline(
     Ok(())
 }
 
-/// A line record.
+/// Handles a line record.
 fn judge_line(
     notes: &mut Notes,
     known: &Known,
@@ -234,7 +234,7 @@ fn judge_line(
     Ok(())
 }
 
-/// A `STACK CFI INIT`.
+/// Handles a `STACK CFI INIT`.
 fn judge_init(notes: &mut Notes, kept: &mut Preceding, run: Extent) -> Result<(), OutOfMemory>
     ensures { OnOk result ((all before : List SymLine) (rules : List RuleText) → Keeps before kept.old → Judged all before notes.old.index (record_line.Init run.address run.size rules) notes.old.list.items notes.new.list.items kept.new) }
 {
@@ -247,7 +247,7 @@ fn judge_init(notes: &mut Notes, kept: &mut Preceding, run: Extent) -> Result<()
     Ok(())
 }
 
-/// A `STACK CFI`.
+/// Handles a `STACK CFI`.
 fn judge_change(notes: &mut Notes, kept: &mut Preceding, address: u64) -> Result<(), OutOfMemory>
     ensures { OnOk result ((all before : List SymLine) (rules : List RuleText) → Keeps before kept.old → Judged all before notes.old.index (record_line.Change address rules) notes.old.list.items notes.new.list.items kept.new) }
 {
@@ -263,7 +263,7 @@ fn run_of(address: u64, size: u64) -> Extent
     Extent { address, size }
 }
 
-/// Lists the findings at a record, and keeps what it says.
+/// Adds the findings at a record, and stores what later records need of it.
 pub fn judge(
     alloc: Global,
     notes: &mut Notes,

@@ -4,17 +4,17 @@ use sym_edges::ListOf;
 /// What a checker finds at a record, in the order of the kinds' numbers.
 #[derive(Clone, Copy, Debug, PartialEq, Eq)]
 pub enum FindingKind {
-    /// C1: the number of a `FILE`, or of an `INLINE_ORIGIN`, was given before by the same keyword.
+    /// C1: the number of a `FILE` or an `INLINE_ORIGIN` was given before with the same keyword.
     GivenAgain,
-    /// C2: a line record or an `INLINE` names a `FILE` that is not among the records.
+    /// C2: a line record or an `INLINE` refers to a `FILE` that is not among the records.
     NoFile,
-    /// C3: an `INLINE` names an `INLINE_ORIGIN` that is not among the records.
+    /// C3: an `INLINE` refers to an `INLINE_ORIGIN` that is not among the records.
     NoOrigin,
     /// C4: a `FUNC`, a line record, a range of an `INLINE` or a `STACK CFI INIT` has size 0, or an end above 2^64 - 1.
     BadSize,
     /// C5: a `FUNC` overlaps an earlier `FUNC`.
     FuncMeets,
-    /// C6: a line record or a range of an `INLINE` leaves its `FUNC`.
+    /// C6: a line record or a range of an `INLINE` reaches outside of its `FUNC`.
     LeavesFunc,
     /// C7: a line record overlaps an earlier line record of its `FUNC`.
     LineMeets,
@@ -28,7 +28,7 @@ impl FindingKind {
     ghost use Rattle.std.specs.Prelude.{◌≡◌};
     ghost use Rattle.sym_findings.specs.FindingWords.{kind_number, kind_word};
 
-    /// From 1 to 9.
+    /// The number of the kind, from 1 to 9.
     pub fn number(self) -> u8
         ensures { result ≡ kind_number self }
     {
@@ -63,7 +63,7 @@ impl FindingKind {
     }
 }
 
-/// A kind that was found at the record with an index, counted from 0.
+/// A finding: its kind, and the index of the record, counted from 0.
 #[derive(Clone, Copy, Debug, PartialEq, Eq)]
 pub struct Finding {
     pub kind: FindingKind,

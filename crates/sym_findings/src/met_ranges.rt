@@ -1,4 +1,4 @@
-//! The addresses of records, in the order of the records.
+//! The ranges of records, in the order of the records.
 ghost use Rattle.std.specs.Prelude.{◌≡◌, ℕ, ◌<◌, ◌&&◌, ◌||◌, ◌∷◌, nat_lt, false, IfOk, OnOk};
 ghost use Rattle.sym_records.specs.declared.line.Extent.{Extent};
 ghost use Rattle.sym_meaning.specs.Findings.{run_of, meet};
@@ -10,8 +10,8 @@ use std::alloc::Global;
 use std::marker::Model;
 use sym_edges::OutOfMemory;
 
-/// The addresses of the records so far. The addresses of the last records that touch each other are stored separately, as one range, so that records
-/// in ascending order need no look-up.
+/// The ranges of the records so far. The last ones, if they touch each other, are stored separately
+/// as one range, so that records in ascending order need no look-up.
 #[derive(Drop)]
 pub struct MetRanges {
     earlier: RangeUnion,
@@ -33,7 +33,7 @@ impl Model for MetRanges {
     ghost invariant = { λ t. IsTail t.start t.end t.top × EndBy t.top t.earlier };
 }
 
-/// Whether a range that is not empty overlaps the last range or an earlier one.
+/// Whether a range, which must not be empty, overlaps the last range or an earlier one.
 #[tactic(auto, unfolding(range_union::specs::Ranges::any_overlap))]
 fn overlaps_any(
     earlier: &RangeUnion,
@@ -75,7 +75,7 @@ impl MetRanges {
         }
     }
 
-    /// Adds the addresses of a record; returns whether they overlap those of an earlier record.
+    /// Adds the range of a record. Returns whether it overlaps that of an earlier record.
     #[tactic(auto, using(crate::proofs::MeetingLemmas::ends_put, crate::proofs::MeetingLemmas::ends_more))]
     pub fn put(&mut self, address: u64, size: u64) -> Result<bool, OutOfMemory>
         ensures met { IfOk result (λ met. met ≡ is_met self.old (run_of address size)) }

@@ -72,7 +72,8 @@ impl KnownNumbers {
         Ok(KnownNumbers { sorted })
     }
 
-    /// Whether a number is among them. The search begins at the index where the number is if the numbers are consecutive.
+    /// Whether a number is one of these. The search begins at the index at which the number is if
+    /// the numbers are consecutive.
     #[inline]
     pub fn has(&self, number: u32) -> bool
         ensures { result ≡ has_number self.now number }
@@ -81,7 +82,7 @@ impl KnownNumbers {
     }
 }
 
-/// Whether a number is among numbers in ascending order.
+/// Whether a number is in an ascending list of numbers.
 #[inline]
 fn has_sorted(sorted: &[u32], number: u32) -> bool
     requires { IsNonDecreasing sorted.now }
@@ -112,7 +113,7 @@ fn stands_apart(sorted: &[u32], number: u32) -> bool
     }
 }
 
-/// The binary search.
+/// Whether a number is in an ascending list of numbers, by binary search.
 #[tactic(auto, using(crate::proofs::NumberLemmas::by_halves))]
 fn is_found(sorted: &[u32], number: u32) -> bool
     requires { IsNonDecreasing sorted.now }
@@ -145,7 +146,7 @@ fn add_number(
     Ok(())
 }
 
-/// The numbers of `FILE` and of `INLINE_ORIGIN` records.
+/// The numbers of all `FILE` and of all `INLINE_ORIGIN` records.
 pub fn numbers_in(alloc: Global, lines: &[SymLine]) -> Result<NumberLists, OutOfMemory>
     ensures files { IfOk result (λ numbers. numbers.files.items ≡ flat_map file_number lines.now) }
     ensures origins { IfOk result (λ numbers. numbers.origins.items ≡ flat_map origin_number lines.now) }

@@ -1,16 +1,17 @@
-//! What is kept of the records before a record, and what is known of all records.
+//! What is stored of the records before a record, and of all records.
 use crate::met_ranges::MetRanges;
 use crate::numbers::{GivenNumbers, KnownNumbers};
 use sym_records::Extent;
 
-/// The `STACK CFI INIT` that a `STACK CFI` changes, and the address of the last record so far that belongs to it.
+/// The open `STACK CFI INIT`, which a next `STACK CFI` changes, and the address of the last record
+/// that belongs to it.
 #[derive(Clone, Copy, Debug, PartialEq, Eq)]
 pub struct OpenInit {
     pub init: Extent,
     pub last: u64,
 }
 
-/// What the records before a record say.
+/// What is stored of the records before a record.
 #[derive(Drop)]
 pub struct Preceding {
     pub files: GivenNumbers,

@@ -21,7 +21,7 @@ seen_is {F = F} x y is = cc
 abbrev read_as : Option SymLine → Result (Option SymLine) TextKind
 read_as o = Ok o
 
--- a line that holds a record has a byte
+-- A line with a record has at least one byte.
 record_some : (line : List ℕ) (s : SymLine) → line_read line ≡ read_as (Some s) → 0 < length line
 unfolding line_read
 record_some [] s is = cc

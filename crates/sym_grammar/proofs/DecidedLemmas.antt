@@ -1,4 +1,4 @@
--- What bytes decide, and bytes after them; for the lemmas of InputLemmas.
+-- The result that bytes decide, and that of more bytes after them (for `InputLemmas`).
 use Rattle.std.specs.Prelude.{⊤}
 use Rattle.std.proofs.Common.{◌≡◌, ℕ, ◌^◌, ◌<◌, ◌==◌, not, cond, Bool, true, false, nat_lt, List, [], ◌∷◌, ◌++◌, length, Option, Some, None, Result, Ok, Err, refl, sym, ◌∙◌, ap, arith, append_assoc, length-append}
 use Rattle.std.specs.List.{list_all}
@@ -18,7 +18,7 @@ use Rattle.sym_grammar.specs.internal.Parts.{Faults}
 use Rattle.sym_grammar.specs.Input.{with_front, decided, IfNone}
 use Rattle.sym_grammar.proofs.PieceLemmas.{split_byte, split_none, split_open, lines_of, with_cons, with_none, with_long, whole_is, open_is, decided_is}
 
--- the lines of a text with one byte more in front
+-- The whole lines of a text with one more byte in front.
 lf_whole : (b : ℕ) (zs : List ℕ) → (b == 10) ≡ true → whole_lines (b ∷ zs) ≡ [] ∷ whole_lines zs
 unfolding but_last
 lf_whole b zs is =
@@ -36,7 +36,7 @@ lf_open b zs is =
 byte_split : (b : ℕ) (zs first : List ℕ) (later : List (List ℕ)) → (b == 10) ≡ false → split_lines zs ≡ first ∷ later → split_lines (b ∷ zs) ≡ (b ∷ first) ∷ later
 byte_split b zs first later past is = split_byte b zs ∙ ap (λ t. cond t ([] ∷ split_lines zs) (onto b (split_lines zs))) past ∙ ap (onto b) is
 
--- a byte in front of a first line that has ended
+-- One more byte in front of a first line that has ended.
 pub record Grown (b : ℕ) (zs f : List ℕ) (r : List (List ℕ)) : Type 0 where
   pub whole : whole_lines (b ∷ zs) ≡ (b ∷ f) ∷ r
   pub rest : open_line (b ∷ zs) ≡ open_line zs
@@ -55,7 +55,6 @@ grown_by b zs f first r (l ∷ ls) past is whole =
 grown : (b : ℕ) (zs f : List ℕ) (r : List (List ℕ)) → (b == 10) ≡ false → whole_lines zs ≡ f ∷ r → Grown b zs f r
 grown b zs f r past whole = let lines = lines_of zs in grown_by b zs f lines.first r lines.later past lines.is (ap but_last (sym lines.is) ∙ sym (whole_is zs) ∙ whole)
 
--- a text of one line
 one_by : (b : ℕ) (zs first f : List ℕ) (l : List (List ℕ)) (t : Bool) → (b == 10) ≡ t → split_lines zs ≡ f ∷ l → (f ∷ [] ≡ f ∷ l → zs ≡ f) → split_lines (b ∷ zs) ≡ first ∷ [] → b ∷ zs ≡ first
 one_by b zs first f l true is lines rest all =
     let past : [] ∷ (f ∷ l) ≡ first ∷ [] = sym (split_byte b zs ∙ ap (λ t. cond t ([] ∷ split_lines zs) (onto b (split_lines zs))) is ∙ ap (λ ls. [] ∷ ls) lines) ∙ all in
@@ -72,7 +71,7 @@ one_line (b ∷ zs) first is =
     let lines = lines_of zs in
     one_by b zs first lines.first lines.later (b == 10) refl lines.is (λ one. one_line zs lines.first (lines.is ∙ sym one)) is
 
--- the lines of two texts, one after the other
+-- The lines of two texts, one after the other.
 pub record Joined (xs ys : List ℕ) : Type 0 where
   pub whole : whole_lines (xs ++ ys) ≡ whole_lines xs ++ whole_lines (open_line xs ++ ys)
   pub rest : open_line (xs ++ ys) ≡ open_line (open_line xs ++ ys)
@@ -114,7 +113,7 @@ unfolding whole_lines open_line split_lines but_last last_line
 lines_joined [] ys = record { whole = refl; rest = refl }
 lines_joined (b ∷ xs) ys = joined_byte b xs ys (b == 10) refl (lines_joined xs ys)
 
--- what stands after the last LF has none
+-- The bytes after the last LF have no LF.
 open_grown : (b : ℕ) (xs first : List ℕ) (later : List (List ℕ)) → (b == 10) ≡ false → split_lines xs ≡ first ∷ later → list_all is_within_line (open_line xs) ≡ true → list_all is_within_line (open_line (b ∷ xs)) ≡ true
 unfolding last_line
 open_grown b xs first [] past is rest =
@@ -135,7 +134,6 @@ unfolding open_line last_line split_lines
 open_within [] = refl
 open_within (b ∷ xs) = within_byte b xs (b == 10) refl (open_within xs)
 
--- lines read one after another
 read_on : (limit : ℕ) (r : Result Seen TextFault) (xs ys : List (List ℕ)) → ((s : Seen) → with_lines limit s (xs ++ ys) ≡ (with_lines limit s xs >>= λ t. with_lines limit t ys)) →
     (r >>= λ s. with_lines limit s (xs ++ ys)) ≡ ((r >>= λ s. with_lines limit s xs) >>= λ t. with_lines limit t ys)
 read_on limit (Ok s) xs ys more = more s
@@ -147,7 +145,7 @@ lines_append limit s (x ∷ xs) ys =
     with_cons limit s x (xs ++ ys) ∙ read_on limit (numbered (next_number s.number) (with_text limit s x)) xs ys (λ t. lines_append limit t xs ys)
     ∙ ap (λ r. r >>= λ t. with_lines limit t ys) (sym (with_cons limit s x xs))
 
--- a front that is not too long
+-- The start of a line that is not too long.
 pub record Fronts (limit : ℕ) (r : Result Seen TextFault) (held : List ℕ) (part : Part) : Type 0 where
   pub seen : r ≡ Ok part.seen
   pub held_is : held ≡ part.held
@@ -167,7 +165,7 @@ front_ok limit (Ok seen) held part is = go (nat_lt limit (length held)) refl
         let same : (let p : Part = record { seen = seen; held = held } in p) ≡ part = cc in
         record { seen = ap (λ (p : Part). Ok p.seen) same; held_is = ap (λ (p : Part). p.held) same }
 
--- what is decided of bytes, and of more after them
+-- The result of bytes, and of more bytes after them.
 both_decided : (limit : ℕ) (part : Part) (xs ys : List ℕ) → decided limit part (xs ++ ys) ≡ with_front limit (with_lines limit part.seen (whole_lines (part.held ++ xs)) >>= λ t. with_lines limit t (whole_lines (open_line (part.held ++ xs) ++ ys))) (open_line (open_line (part.held ++ xs) ++ ys))
 both_decided limit part xs ys =
     let a : List ℕ = part.held ++ xs in
@@ -187,7 +185,7 @@ decided_more limit part mid xs ys is =
     ∙ ap (λ h. with_front limit (with_lines limit mid.seen (whole_lines (h ++ ys))) (open_line (h ++ ys))) parts.held_is
     ∙ sym (decided_is limit mid ys)
 
--- a line that is too long stays so
+-- A line that is too long stays too long with more bytes.
 abbrev too_long : Seen → Result Part TextFault
 too_long seen = Err (record { kind = LongLine; line = next_number seen.number })
 
@@ -232,7 +230,7 @@ decided_stays limit part xs ys fault is =
     let a : List ℕ = part.held ++ xs in
     both_decided limit part xs ys ∙ stays_by limit (with_lines limit part.seen (whole_lines a)) (open_line a) ys fault (open_within a) (sym (decided_is limit part xs) ∙ is)
 
--- what a reader that is up to date knows
+-- The result that the bytes so far decide is in the reader.
 pub decided_up : (limit : ℕ) (old new : Part) (piece : List ℕ) → IsUpToDate limit old piece new → decided limit old piece ≡ Ok new
 decided_up limit old new piece up =
     let short : nat_lt limit (length new.held) ≡ false = (let le = up.short in grind (arith, nat_tests)) in
@@ -243,7 +241,7 @@ pub decided_stop : {A : Type 0} (B : Type 0) (stop : Stop TextFault) (part : Par
 decided_stop B (Fault fault) part piece P Q is = is.decides
 decided_stop B NoMemory part piece P Q is = tt
 
--- the same where a reader was not stopped before
+-- The same for a reader that was not stopped before.
 pub ok_decided : {X : Type 0} (limit : ℕ) (s : Option X) (old new : Part) (piece : List ℕ) → IsUpToDate limit old piece new → IfNone s (decided limit old piece ≡ Ok new)
 ok_decided limit None old new piece up = decided_up limit old new piece up
 ok_decided limit (Some x) old new piece up = tt

@@ -1,4 +1,4 @@
--- Hexadecimal numbers in one pass over a field (hex_field).
+-- Hexadecimal numbers, read in one pass over a field (for `hex_field`).
 use Rattle.std.proofs.Common.{◌≡◌, ◌≢◌, ℕ, ◌+◌, ◌*◌, ◌<◌, ◌≤◌, cond, List, [], ◌∷◌, ◌++◌, length, take, drop, get_or, Option, Some, None, ok_or, Result, Ok, Err, nat_lt, refl, sym, ◌∙◌, ap, arith, length-append}
 use Rattle.std.specs.Option.{option_and_then}
 use Rattle.std.proofs.lemmas.List.{at_drop_more, length-take, take_all}
@@ -26,7 +26,6 @@ no_digit = onto_none 0
 same_some : (m n : ℕ) → Some m ≡ Some n → m ≡ n
 same_some m n is = cc
 
--- the digits behind a front
 digit_or_none : (m n d : ℕ) (xs ys : List ℕ) (o : Option ℕ) → ((v : ℕ) → hex_onto (m * 16 + v) xs ≡ Some n → hex_onto (m * 16 + v) (xs ++ ys) ≡ hex_onto n ys) → option_and_then (λ v. hex_onto (m * 16 + v) xs) o ≡ Some n → option_and_then (λ v. hex_onto (m * 16 + v) (xs ++ ys)) o ≡ hex_onto n ys
 digit_or_none m n d xs ys None on is = cc
 digit_or_none m n d xs ys (Some v) on is = on v is
@@ -51,18 +50,18 @@ field_is field word rest o first second is = ap (λ w. with_rest (from 32 field)
 front_value : (field : List ℕ) (i n : ℕ) → i ≤ 16 → hex_onto 0 (take i field) ≡ Some n → hex_value (take i field) ≡ Some n
 front_value field i n few is = hex_short (take i field) (omega (arith, length-take i field, few)) ∙ is
 
--- a space ends the field
+-- A space ends the field.
 pub field_done : (field : List ℕ) (i n : ℕ) → i < length field → get_or field i 0 ≡ 32 → i ≤ 16 → hex_onto 0 (take i field) ≡ Some n → before 32 field ≡ take i field ++ before 32 (drop i field) → from 32 field ≡ from 32 (drop i field) → hex_field field ≡ Ok (n, drop i field)
 field_done field i n within space few is word rest = field_is field (take i field) (drop i field) (Some n) (word_stop field i within space word) (rest_stop field i within space rest) (front_value field i n few is)
 
--- and so does its end
+-- The end of the bytes ends the field.
 all_taken : (field : List ℕ) (i : ℕ) → length field ≤ i → before 32 field ≡ take i field ++ before 32 (drop i field) → take i field ≡ before 32 field
 all_taken field i past word = take_all i field past ∙ word_end field i past word
 
 pub field_end : (field : List ℕ) (i n : ℕ) → length field ≤ i → i ≤ 16 → hex_onto 0 (take i field) ≡ Some n → before 32 field ≡ take i field ++ before 32 (drop i field) → from 32 field ≡ from 32 (drop i field) → hex_field field ≡ Ok (n, [])
 field_end field i n past few is word rest = field_is field (take i field) [] (Some n) (all_taken field i past word) (rest_end field i past rest) (front_value field i n few is)
 
--- the word goes on
+-- Another byte goes on with the field.
 word_on : (field : List ℕ) (i : ℕ) → i < length field → get_or field i 0 ≢ 32 → before 32 field ≡ take i field ++ before 32 (drop i field) → before 32 field ≡ take i field ++ get_or field i 0 ∷ before 32 (drop (i + 1) field)
 word_on field i within other word = word ∙ ap (λ l. take i field ++ l) (at_drop_more (before 32) field i 0 within ∙ before_go (get_or field i 0) (drop (i + 1) field) other)
 

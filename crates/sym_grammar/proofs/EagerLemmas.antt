@@ -1,4 +1,4 @@
--- Two pieces that were taken are one.
+-- Two pieces that were fed one after the other are like one piece.
 use Rattle.std.proofs.Common.{◌≡◌, ℕ, ◌==◌, cond, true, false, List, [], ◌∷◌, ◌++◌, Result, Ok, Err, refl, sym, ◌∙◌, ap, append_assoc}
 use Rattle.sym_edges.specs.Results.{◌>>=◌}
 use Rattle.sym_rules.proofs.BoolLemmas.{elim_bool}
@@ -50,7 +50,7 @@ joined_on x first (y ∷ later) ys is =
     ∙ ap (λ l. (x ∷ first) ∷ (but_last (y ∷ later) ++ split_lines (l ++ ys))) (last_cons first y later ∙ sym (last_cons (x ∷ first) y later))
     ∙ ap (λ l. l ++ split_lines (last_line ((x ∷ first) ∷ y ∷ later) ++ ys)) (sym (but_last_cons (x ∷ first) y later))
 
--- the lines of two texts, one behind the other
+-- The lines of two texts, one after the other.
 split_both : (xs ys : List ℕ) → split_lines (xs ++ ys) ≡ joined (split_lines xs) ys
 split_both [] ys =
     ap (λ l. split_lines (l ++ ys)) (sym (last_one [])) ∙ ap (λ l. l ++ split_lines (last_line ([] ∷ []) ++ ys)) (sym (but_last_one []))

@@ -1,4 +1,4 @@
--- Fields one after another (word_at, name_at, last_at, ranges_at).
+-- Fields, read one after another (for `word_at`, `name_at`, `last_at` and `ranges_at`).
 use Rattle.std.proofs.Common.{◌≡◌, ◌≢◌, ℕ, ◌<◌, ◌≤◌, ◌==◌, cond, zero, suc, true, false, List, [], ◌∷◌, ◌++◌, length, ok_or, Result, Ok, Err, refl, sym, ◌∙◌, ap, arith, append_assoc, append-nil, ◌⊎◌, inl, inr}
 use Rattle.sym_edges.specs.Results.{◌>>=◌}
 use Rattle.sym_rules.proofs.BoolLemmas.{elim_bool}
@@ -36,7 +36,7 @@ pub end_none : (n : ℕ) (xs : List ℕ) → length xs ≡ 0 → at_end n xs ≡
 end_none n [] none = refl
 end_none n (x ∷ xs) none = absurd (omega arith)
 
--- what is left is shorter
+-- The bytes from the first space on are not more than all.
 from_within : (xs : List ℕ) → length (from 32 xs) ≤ length xs
 unfolding from
 from_within [] = omega arith
@@ -51,7 +51,7 @@ from_begun (x ∷ xs) begins some =
 pub from_shorter : (bytes : List ℕ) → length (skip is_space bytes) ≢ 0 → length (from 32 (skip is_space bytes)) < length (skip is_space bytes)
 from_shorter bytes some = from_begun (skip is_space bytes) (begins_skip bytes) some
 
--- words
+-- Words.
 
 words_space : (xs : List ℕ) (x : ℕ) → (x == 32) ≡ true → words (x ∷ xs) ≡ words xs
 unfolding words
@@ -65,7 +65,7 @@ pub words_nothing : words [] ≡ []
 unfolding words
 words_nothing = refl
 
--- spaces in front do not count
+-- Leading spaces do not change the words.
 pub words_skip : (xs : List ℕ) → words (skip is_space xs) ≡ words xs
 unfolding skip
 words_skip [] = refl
@@ -88,7 +88,7 @@ from_space : (x : ℕ) (xs : List ℕ) → (x == 32) ≡ true → from 32 (x ∷
 unfolding from
 from_space x xs is = ap (λ t. cond t (x ∷ xs) (from 32 xs)) is
 
--- the first word, and those behind it
+-- The first word, and the later ones.
 words_begun : (x : ℕ) (xs : List ℕ) → (x == 32) ≡ false → words (x ∷ xs) ≡ before 32 (x ∷ xs) ∷ words (from 32 (x ∷ xs))
 words_begun x [] is =
     words_byte [] x is
@@ -111,7 +111,7 @@ nothing_is : {A : Type 0} (xs : List A) → length xs ≡ 0 → xs ≡ []
 nothing_is [] none = refl
 nothing_is (x ∷ xs) none = absurd (omega arith)
 
--- the words of bytes behind their spaces
+-- The first word of bytes after their leading spaces, and the later ones.
 pub words_first : (bytes : List ℕ) → length (skip is_space bytes) ≢ 0 → words bytes ≡ before 32 (skip is_space bytes) ∷ words (from 32 (skip is_space bytes))
 words_first bytes some = sym (words_skip bytes) ∙ words_next (skip is_space bytes) (begins_skip bytes) some
 
@@ -123,11 +123,11 @@ unfolding skip
 skip_begun [] begins = refl
 skip_begun (x ∷ xs) begins = ap (λ t. cond t (skip is_space xs) (x ∷ xs)) begins
 
--- what has no spaces in front stays
+-- Bytes without leading spaces do not change if these are skipped.
 pub skip_stays : (xs ys : List ℕ) → ys ≡ skip is_space xs → skip is_space ys ≡ ys
 skip_stays xs ys is = ap (skip is_space) is ∙ skip_begun (skip is_space xs) (begins_skip xs) ∙ sym is
 
--- ranges
+-- Ranges.
 
 pub word_first : (bytes : List ℕ) → length (skip is_space bytes) ≢ 0 → word_at bytes ≡ Ok (before 32 (skip is_space bytes), from 32 (skip is_space bytes))
 unfolding word_at
@@ -151,7 +151,6 @@ extent address size = record { address = address; size = size }
 abbrev Numbered : Type 0
 Numbered = Result (ℕ × List ℕ) TextKind
 
--- a range from two readings
 abbrev two_read : ℕ → Numbered → Result (Extent × List ℕ) TextKind
 two_read n r = r >>= λ size. Ok (extent n size.0, size.1)
 
@@ -183,7 +182,6 @@ pairs_two : (a b : List ℕ) (later : List (List ℕ)) → pairs_of (a ∷ b ∷
 unfolding pairs_of
 pairs_two a b later = refl
 
--- a number is 0 or not
 pub zero_or : (n : ℕ) → (n ≡ 0) ⊎ (n ≢ 0)
 zero_or zero = inl refl
 zero_or (suc n) = inr (λ is. omega (arith, is))

@@ -1,4 +1,4 @@
--- A symbol file that is read in pieces; for `read_rest`, `read_file`.
+-- A symbol file that is read in pieces (for `read_rest` and `read_file`).
 use Rattle.std.specs.Prelude.{⊤}
 use Rattle.std.proofs.Common.{◌≡◌, ℕ, zero, suc, ◌+◌, ◌-◌, ◌^◌, ◌<◌, ◌≤◌, min, cond, true, false, nat_lt, List, [], ◌++◌, length, take, Option, Some, None, Result, Ok, Err, inl, inr, refl, sym, ◌∙◌, ap, arith, subst, append_assoc, append-nil, length-append}
 use Rattle.std.proofs.lemmas.Bool.{cases_lt}
@@ -24,7 +24,6 @@ use Rattle.sym_grammar.specs.declared.refusal.SymEnd.{SymEnd}
 use Rattle.sym_grammar.specs.declared.refusal.SymEnd.TheVariants.{Unread, Refused}
 use Rattle.sym_grammar.proofs.DecidedLemmas.{decided_more, decided_stays, decided_up}
 
--- nothing was read
 take_nothing : {A : Type 0} (n : ℕ) → take {A = A} n [] ≡ []
 take_nothing zero = refl
 take_nothing (suc n) = refl
@@ -49,7 +48,7 @@ start_read limit left reader answers is = record {
   });
 }
 
--- a piece more was fed
+-- One more piece was fed.
 fed_more : (old new : Reads) (bytes piece : List ℕ) → WasFed old bytes → ((more : List ℕ) → answer new more ≡ answer old (piece ++ more)) → IsUpToDate (2 ^ 20) old.part piece new.part → new.stop ≡ None → WasFed new (bytes ++ piece)
 fed_more old new bytes piece fed feeds up going = record {
   answers = λ more. (feeds more ∙ fed.answers (piece ++ more) ∙ ap (λ l. lifted (reading l)) (sym (append_assoc bytes piece more)));
@@ -84,7 +83,7 @@ next_read limit left mid after reader new count n kept room now piece fed has re
   fed = subst (WasFed new) (ap (λ l. take limit has.bytes ++ l) same ∙ sym (fed_front limit count n kept has.bytes piece has.counted few is)) (fed_more reader new (take limit has.bytes) fed has.fed feeds up going);
 }
 
--- a fault that the bytes so far decide
+-- A fault that the bytes so far decide.
 not_longer : (limit : ℕ) (bytes : List ℕ) → length bytes ≤ limit → file_reading limit bytes ≡ whole_reading (reading bytes)
 unfolding file_reading
 not_longer limit bytes few =
@@ -97,7 +96,7 @@ longer limit bytes more =
     let yes : nat_lt limit (length bytes) ≡ true = grind (arith, nat_tests) in
     ap (λ t. cond t (front_reading (decided (2 ^ 20) nothing (take limit bytes))) (whole_reading (reading bytes))) yes
 
--- what was read and what is left
+-- The bytes that were read, and those that are left.
 faulty : (limit : ℕ) (bytes rest : List ℕ) (fault : TextFault) → decided (2 ^ 20) nothing (take limit bytes) ≡ Err fault → ((more : List ℕ) → reading (take limit bytes ++ more) ≡ Err fault) → file_reading limit (bytes ++ rest) ≡ Err (Text fault)
 faulty limit bytes rest fault is always = elim (cases_lt limit (length (bytes ++ rest))) [
   | inl long ↦ longer limit (bytes ++ rest) long ∙ ap front_reading (elim (cases_lt limit (length bytes)) [
@@ -117,7 +116,7 @@ unlifted : (r : Result (List SymLine) TextFault) (fault : TextFault) → lifted 
 unlifted (Ok lines) fault is = cc
 unlifted (Err other) fault is = let same : other ≡ fault = cc in ap Err same
 
--- the reader stops at a piece
+-- The reader stops at a piece.
 where_none : {X : Type 0} (s : Option X) (P : Type 0) → s ≡ None → IfNone s P → P
 where_none None P none is = is
 where_none (Some x) P none is = cc
@@ -141,7 +140,7 @@ stopped_read {B = B} A P limit left mid after reader new count n kept room piece
         ∙ unlifted (reading (take limit has.bytes ++ (fed ++ more))) fault (sym (has.fed.answers (fed ++ more)) ∙ feeds more))
     go NoMemory feeds decides = tt
 
--- the text ends
+-- The text ends.
 pub ends_as : (stop : Stop TextFault) (reader : Reads) → MatchStop {A = List SymLine} (Err stop) (λ lines. answer reader [] ≡ Ok lines) (λ fault. answer reader [] ≡ Err (Fault fault)) ⊤ → EndsAs (Err (refused_stop stop)) reader
 ends_as (Fault fault) reader is = is
 ends_as NoMemory reader is = tt
@@ -173,7 +172,7 @@ ended_read limit left mid after reader count n room front result before later ha
     go (Err (Fault (Refused (Text fault)))) is = whole_told limit left has.bytes (Err (Text fault)) whole (ap whole_reading (unlifted (reading has.bytes) fault (sym all ∙ is)))
     go (Err NoMemory) is = tt
 
--- the file is longer
+-- The file has more than `limit` bytes.
 longer_told : (limit : ℕ) (bytes rest : List ℕ) (part : Part) → limit < length bytes → decided (2 ^ 20) nothing (take limit bytes) ≡ Ok part → file_reading limit (bytes ++ rest) ≡ Err TooLong
 longer_told limit bytes rest part long is =
     longer limit (bytes ++ rest) (omega (arith, long, length-append bytes rest))
@@ -185,7 +184,7 @@ longer_read limit None after reader count before later has past =
 longer_read limit (Some whole) after reader count before later has past =
     ap (file_reading limit) has.parted.2 ∙ longer_told limit has.bytes has.parted.0 reader.part (omega (arith, has.counted, past)) has.fed.decides
 
--- the file of a name
+-- The file with this name.
 rose_later : (before mid after : ℕ) → before ≤ mid → mid ≤ after → Rose mid after → Rose before after
 rose_later before mid after first second rose = λ small. elim (cases_lt (mid + 1) (2 ^ 64)) [
   | inl low ↦ (let up = rose low in omega (arith, up, first))
@@ -207,7 +206,7 @@ opened_read (Err (Fault Unread)) files name limit left before mid after opens fi
 opened_read (Err (Fault (Refused why))) files name limit left before mid after opens first second rest = reading_held limit (Err why) files name left opens rest
 opened_read (Err NoMemory) files name limit left before mid after opens first second rest = tt
 
--- where no call of the store failed its count of faults stands still
+-- If no call of the store failed, its count of faults is unchanged.
 pub steady_read : (result : Result (List SymLine) (Stop SymEnd)) (before after : ℕ) → after ≡ before → IsSteadyRead result before after
 steady_read (Ok lines) before after same = same
 steady_read (Err (Fault Unread)) before after same = tt

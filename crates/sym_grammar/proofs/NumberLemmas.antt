@@ -1,4 +1,4 @@
--- Numbers digit by digit (hex_field, digits_upto, decimal_value, integer_of).
+-- Numbers, read digit by digit (for `hex_field`, `digits_upto`, `decimal_value` and `integer_of`).
 use Rattle.std.proofs.Common.{◌≡◌, ◌≢◌, ℕ, ◌+◌, ◌*◌, ◌/◌, ◌^◌, ◌<◌, ◌≤◌, ◌==◌, ◌&&◌, cond, zero, suc, Bool, true, false, ℤ, pos, negsuc, neg_ℤ, List, [], ◌∷◌, length, drop, get_or, Option, Some, None, nat_lt, nat_le, refl, sym, ◌∙◌, ap, arith}
 use Rattle.std.specs.List.{list_all}
 use Rattle.std.specs.Option.{option_map}
@@ -13,7 +13,7 @@ use Rattle.sym_rules.specs.RuleReading.{is_digit, are_digits, in_i64, integer_of
 use Rattle.sym_records.specs.FieldReading.{hex_onto, hex_value, decimal_value}
 use Rattle.sym_grammar.specs.internal.Runs.{ten_digit, upto, digits_upto}
 
--- hexadecimal
+-- Hexadecimal numbers.
 
 pub hex_long : (ds : List ℕ) → 16 < length ds → hex_value ds ≡ None
 unfolding hex_value
@@ -32,7 +32,7 @@ hex_grows n v i less small =
 pub hex_small : (n i : ℕ) → n < 16 ^ i → i < 16 → n < 1152921504606846976
 hex_small n i less few = omega (arith, pow-le-pow_right {n = 16} (omega arith) {i = i} {j = 15} (omega arith))
 
--- decimal
+-- Decimal numbers.
 
 upto_next : (limit n d : ℕ) (ds : List ℕ) → upto limit n (d ∷ ds) ≡ cond (is_digit d) (upto limit (n * 10 + digit_value d) ds) None
 unfolding upto
@@ -42,7 +42,7 @@ upto_last : (limit n : ℕ) → upto limit n [] ≡ cond (nat_le n limit) (Some 
 unfolding upto
 upto_last limit n = refl
 
--- a number that is too great stays so
+-- A number above the limit stays above it with more digits.
 upto_past : (limit n : ℕ) (ds : List ℕ) → limit < n → upto limit n ds ≡ None
 upto_past limit n [] past = upto_last limit n ∙ ap (λ t. cond t (Some n) None) (lt-leb n limit past)
 upto_past limit n (d ∷ ds) past =
@@ -64,7 +64,7 @@ upto_first limit ds some short = grind (arith, nat_tests)
 upto_at : (limit n i : ℕ) (ds : List ℕ) → i < length ds → upto limit n (drop i ds) ≡ cond (is_digit (get_or ds i 0)) (upto limit (n * 10 + digit_value (get_or ds i 0)) (drop (i + 1) ds)) None
 upto_at limit n i ds within = at_drop_more (upto limit n) ds i 0 within ∙ upto_next limit n (get_or ds i 0) (drop (i + 1) ds)
 
--- what a digit is
+-- A decimal digit and its value.
 ten_some : (d v : ℕ) → Some v ≡ ten_digit d → (is_digit d ≡ true) × (v ≡ digit_value d)
 ten_some d v is = elim_bool (is_digit d) (λ t. Some v ≡ cond t (Some (digit_value d)) None → (t ≡ true) × (v ≡ digit_value d)) (λ _ h. (refl, cc)) (λ _ h. cc) is
 
@@ -95,7 +95,7 @@ pub upto_end : (limit n i : ℕ) (ds : List ℕ) → length ds ≢ 0 → length 
 upto_end limit n i ds some short past within so_far =
     upto_first limit ds some short ∙ so_far ∙ at_drop_all (upto limit n) ds i past ∙ upto_last limit n ∙ ap (λ t. cond t (Some n) None) (le-leb n limit within)
 
--- the definitions by digits up to a limit
+-- The definitions by digits, for a limit.
 
 upto_all : (limit n : ℕ) (ds : List ℕ) → upto limit n ds ≡ cond (list_all is_digit ds && nat_le (digits_value_after 10 n ds) limit) (Some (digits_value_after 10 n ds)) None
 unfolding upto
@@ -117,7 +117,7 @@ pub decimal_is : (ds : List ℕ) → decimal_value ds ≡ digits_upto 4294967295
 unfolding decimal_value
 decimal_is ds = sym (upto_is 4294967295 ds ∙ ap (λ t. cond (are_digits ds && t) (Some (digits_value 10 ds)) None) (below_32 (digits_value 10 ds)))
 
--- integers
+-- Integers.
 
 at_most_63 : (v : ℕ) → nat_lt v (2 ^ 63) ≡ nat_le (suc v) 9223372036854775808
 at_most_63 v = grind (arith, nat_tests)
@@ -136,7 +136,7 @@ mapped : (f : ℕ → ℤ) (b : Bool) (v : ℕ) → cond {A = Option ℤ} b (Som
 mapped f true v = refl
 mapped f false v = refl
 
--- digits that are read and then bounded
+-- An integer that is read and then compared with a bound.
 bounded : (f : ℕ → ℤ) (a b : Bool) (v : ℕ) (o : Option ℤ) → o ≡ cond b (Some (f v)) None → cond a o None ≡ option_map f (cond (a && b) (Some v) None)
 bounded f true b v o is = is ∙ mapped f b v
 bounded f false b v o is = refl
@@ -175,6 +175,5 @@ positive_some word n other is = positive_is word other ∙ ap (option_map pos) (
 pub positive_none : (word : List ℕ) → get_or word 0 0 ≢ 45 → None ≡ digits_upto 9223372036854775807 word → integer_of word ≡ None
 positive_none word other is = positive_is word other ∙ ap (option_map pos) (sym is)
 
--- whether a list is empty
 pub not_empty : (n : ℕ) → false ≡ (n == 0) → n ≢ 0
 not_empty n is = grind (arith, nat_tests)

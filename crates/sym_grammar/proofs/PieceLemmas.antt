@@ -1,4 +1,4 @@
--- The pieces of a text, line by line (end_line, hold, take_piece).
+-- The pieces of a text, read line by line (for `end_line`, `hold` and `take_piece`).
 use Rattle.std.proofs.Common.{◌≡◌, ℕ, ◌-◌, ◌<◌, ◌≤◌, ◌==◌, cond, true, List, [], ◌∷◌, ◌++◌, length, Result, Ok, Err, refl, sym, ◌∙◌, ap, arith, subst, append_assoc, append-nil, length-append}
 use Rattle.std.specs.Prelude.{⊤}
 use Rattle.std.specs.List.{list_all}
@@ -30,7 +30,7 @@ pub split_none : split_lines [] ≡ [] ∷ []
 unfolding split_lines
 split_none = refl
 
--- a text has a first line
+-- Each text has a first line.
 pub record Lines (bytes : List ℕ) : Type 0 where
   pub first : List ℕ
   pub later : List (List ℕ)
@@ -45,7 +45,7 @@ pub lines_of : (bytes : List ℕ) → Lines bytes
 lines_of [] = record { first = []; later = []; is = split_none }
 lines_of (b ∷ bytes) = lines_onto b bytes (lines_of bytes)
 
--- bytes without LF, and an LF behind them, are the first line
+-- Bytes without LF that are followed by LF are the first line.
 split_end : (xs ys : List ℕ) → list_all is_within_line xs ≡ true → split_lines (xs ++ 10 ∷ ys) ≡ xs ∷ split_lines ys
 split_end [] ys all = split_byte 10 ys
 split_end (x ∷ xs) ys all =
@@ -53,7 +53,7 @@ split_end (x ∷ xs) ys all =
     ∙ ap (λ t. cond t ([] ∷ split_lines (xs ++ 10 ∷ ys)) (onto x (split_lines (xs ++ 10 ∷ ys)))) (not_true (and_true all).0)
     ∙ ap (onto x) (split_end xs ys (and_true all).1)
 
--- and go on with the first line of what follows
+-- Bytes without LF are the start of the first line.
 pub split_open : (xs ys : List ℕ) (first : List ℕ) (later : List (List ℕ)) → list_all is_within_line xs ≡ true → split_lines ys ≡ first ∷ later → split_lines (xs ++ ys) ≡ (xs ++ first) ∷ later
 split_open [] ys first later all is = is
 split_open (x ∷ xs) ys first later all is =
@@ -172,7 +172,7 @@ then_up limit a b c bytes mid first second = record {
   short = second.short;
 }
 
--- nothing was taken yet
+-- Nothing was read yet.
 pub nothing_taken : (limit : ℕ) (a : Part) (bytes : List ℕ) → GoesOn limit a bytes a bytes
 nothing_taken limit a bytes = record { same = λ more. refl; lines = refl; held = refl }
 
@@ -186,21 +186,21 @@ moved_on limit a piece b rest other is on = record {
 with_held : (limit : ℕ) (a : Part) (piece : List ℕ) (new : Seen) (none later : List ℕ) → none ≡ [] → GoesOn limit a piece (part_of new []) later → GoesOn limit a piece (part_of new none) later
 with_held limit a piece new none later empty on = subst (λ (h : List ℕ). GoesOn limit a piece (part_of new h) later) (sym empty) on
 
--- one more line
+-- One more line was read.
 pub line_taken : (limit : ℕ) (a : Part) (seen new : Seen) (piece held none rest line later : List ℕ) → GoesOn limit a piece (part_of seen held) rest → IsFront limit held → list_all is_within_line line ≡ true → rest ≡ line ++ 10 ∷ later → read_line limit seen (held ++ line) ≡ Ok new → none ≡ [] → GoesOn limit a piece (part_of new none) later
 line_taken limit a seen new piece held none rest line later on front all is read empty =
     with_held limit a piece new none later empty
     (both_on limit a (part_of seen held) (part_of new []) piece (line ++ 10 ∷ later) later (moved_on limit a piece (part_of seen held) rest (line ++ 10 ∷ later) is on)
     (line_goes_on limit seen new held line later (front_line limit held line front all) read))
 
--- a fault of a line is one of the text
+-- A fault of a line is a fault of the text.
 pub line_stopped : {A : Type 0} (B : Type 0) (limit : ℕ) (a : Part) (seen new : Seen) (piece held rest line later : List ℕ) (stop : Stop TextFault) (P : A → Type 0) → GoesOn limit a piece (part_of seen held) rest → IsFront limit held → list_all is_within_line line ≡ true → rest ≡ line ++ 10 ∷ later → Leaves {A = B} (Err stop) new (read_line limit seen (held ++ line)) → MatchStop {A = A} (Err stop) P (λ fault. Faults limit a piece fault) ⊤
 line_stopped B limit a seen new piece held rest line later (Fault fault) P on front all is read =
     then_faults limit a (part_of seen held) piece (line ++ 10 ∷ later) fault (moved_on limit a piece (part_of seen held) rest (line ++ 10 ∷ later) is on)
     (line_faults limit seen held line later fault (front_line limit held line front all) read)
 line_stopped B limit a seen new piece held rest line later NoMemory P on front all is read = tt
 
--- The front of a line.
+-- The start of a line.
 
 pub with_long : (limit : ℕ) (seen : Seen) (line : List ℕ) → limit < length line → with_text limit seen line ≡ Err LongLine
 unfolding with_text
@@ -262,7 +262,7 @@ held_on limit seen held front new same = record {
   held = ap open_line (append-nil new ∙ same);
 }
 
--- the rest of a piece is held
+-- The rest of a piece is stored.
 pub rest_held : {A : Type 0} (limit : ℕ) (a b c : Part) (piece rest : List ℕ) (result : Result A (Stop TextFault)) → GoesOn limit a piece b rest
     → MatchStop result (λ _. IsUpToDate limit b rest c × GoesOn limit b rest c []) (λ fault. Faults limit b rest fault) ⊤
     → MatchStop result (λ _. IsUpToDate limit a piece c × GoesOn limit a piece c []) (λ fault. Faults limit a piece fault) ⊤
@@ -270,7 +270,7 @@ rest_held limit a b c piece rest (Ok x) on is = (then_up limit a b c piece rest 
 rest_held limit a b c piece rest (Err (Fault fault)) on is = then_faults limit a b piece rest fault on is
 rest_held limit a b c piece rest (Err NoMemory) on is = tt
 
--- nothing is held
+-- No bytes are the start of a line.
 pub front_nothing : (limit : ℕ) (new : List ℕ) → new ≡ [] → IsFront limit new
 front_nothing limit new none = record { one_line = ap (list_all is_within_line) none; short = omega (arith, ap length none) }
 

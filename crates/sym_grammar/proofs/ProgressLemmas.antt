@@ -1,4 +1,5 @@
--- Records one after another, all of them valid (started, add_record, add_line, into_records).
+-- Records that are added one after another and are valid (for `started`, `add_record`, `add_line`
+-- and `into_records`).
 use Rattle.std.proofs.Common.{◌≡◌, ◌≢◌, ℕ, ◌^◌, ◌≤◌, true, List, [], ◌∷◌, ◌++◌, length, Some, None, Ok, refl, sym, ◌∙◌, ap, arith, subst}
 use Rattle.std.specs.List.{list_all}
 use Rattle.std.proofs.lemmas.Bool.{le-leb}
@@ -30,7 +31,7 @@ pushed_good lines new place after s good stands fit same next =
       after = next ∙ ap (λ p. leads p s) good.after ∙ sym (behind_pushed Start lines s) ∙ ap (place_behind Start) (sym same);
     }
 
--- what is read from a short line passes the test
+-- A record that was read from a line that is not too long passes the test.
 pub read_fits : (limit : ℕ) (line : List ℕ) (s : SymLine) → limit ≤ 2 ^ 20 → length line ≤ limit → list_all is_within_line line ≡ true → line_read line ≡ Ok (Some s) → fields_fit s ≡ true
 unfolding fields_fit
 read_fits limit line s small short all read =

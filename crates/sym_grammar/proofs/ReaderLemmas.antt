@@ -1,4 +1,4 @@
--- What a reader will answer (Reader).
+-- The result that a reader will return (for `Reader`).
 use Rattle.std.proofs.Common.{◌≡◌, ◌≢◌, ℕ, ◌^◌, true, List, [], ◌∷◌, ◌++◌, length, Some, None, Result, Ok, Err, Option, refl, sym, ◌∙◌, ap, arith, append-nil}
 use Rattle.std.specs.Prelude.{⊤}
 use Rattle.std.specs.List.{list_all}
@@ -35,7 +35,7 @@ starts seen held first none bytes =
 pub fed : (old new : Part) (piece : List ℕ) → GoesOn (2 ^ 20) old piece new [] → (more : List ℕ) → answer (record { part = new; stop = None }) more ≡ answer (record { part = old; stop = None }) (piece ++ more)
 fed old new piece on more = answer_is new more ∙ ap lifted (on.same more) ∙ sym (answer_is old (piece ++ more))
 
--- a reader by its parts
+-- The result of a reader that was not stopped.
 answer_open : (part : Part) (s : Option (Stop TextFault)) (reads : Reads) (more : List ℕ) → record { part = part; stop = s } ≡ reads → s ≡ None → answer reads more ≡ lifted (outcome (2 ^ 20) part more)
 answer_open part s reads more is open_ =
     ap (λ r. answer r more) (sym is) ∙ ap (λ (x : Option (Stop TextFault)). answer (record { part = part; stop = x }) more) open_ ∙ answer_is part more

@@ -1,4 +1,5 @@
--- Rules one after another, and the tokens of each (next_token, tokens_at, more_tokens, rule_at, rules_at).
+-- Rules and their tokens, read one after another (for `next_token`, `tokens_at`, `more_tokens`,
+-- `rule_at` and `rules_at`).
 use Rattle.std.proofs.Common.{◌≡◌, ◌≢◌, ℕ, cond, true, false, List, [], ◌∷◌, ◌++◌, length, Result, Ok, Err, refl, sym, ◌∙◌, ap, arith, append_assoc, append-nil}
 use Rattle.sym_edges.specs.Results.{◌>>=◌}
 use Rattle.sym_edges.specs.declared.fault.Stop.{Stop}
@@ -29,11 +30,11 @@ run_word w ws = refl
 abbrev ended : List (List ℕ) → Run
 ended ws = Ok ([], ws)
 
--- no token is next at the end of the line
+-- At the end of the line there is no next token.
 pub run_end : (bytes : List ℕ) → length (skip is_space bytes) ≡ 0 → token_run (words bytes) ≡ Ok ([], words bytes)
 run_end bytes none = ap token_run (words_end bytes none) ∙ run_nothing ∙ ap ended (sym (words_end bytes none))
 
--- nor in front of a rule
+-- Before a rule there is no next token.
 pub run_rule : (bytes : List ℕ) → length (skip is_space bytes) ≢ 0 → ends_in_colon (before 32 (skip is_space bytes)) ≡ true → token_run (words bytes) ≡ Ok ([], words bytes)
 run_rule bytes some colon =
     ap token_run (words_first bytes some) ∙ run_word (before 32 (skip is_space bytes)) (words (from 32 (skip is_space bytes)))
@@ -52,7 +53,7 @@ run_token bytes t some colon read = run_on bytes (Ok t) some colon read
 pub run_fault : (bytes : List ℕ) (kind : TextKind) → length (skip is_space bytes) ≢ 0 → ends_in_colon (before 32 (skip is_space bytes)) ≡ false → token_at (before 32 (skip is_space bytes)) ≡ Err kind → token_run (words bytes) ≡ Err kind
 run_fault bytes kind some colon read = run_on bytes (Err kind) some colon read
 
--- tokens in front of a run
+-- Tokens in front of a run.
 
 pub before_none : (ts us : List Token) (ws : List (List ℕ)) (r : Run) → us ≡ ts → r ≡ Ok ([], ws) → put_before ts r ≡ Ok (us, ws)
 before_none ts us ws r same is = ap (put_before ts) is ∙ ap (λ l. Ok (l, ws)) (append-nil ts ∙ sym same)
@@ -74,7 +75,7 @@ before_first t (Err kind) = refl
 pub run_first : (t : Token) (r next : Run) → r ≡ grown t next → r ≡ put_before (t ∷ []) next
 run_first t r next is = is ∙ before_first t next
 
--- rules
+-- Rules.
 
 front : List (List ℕ) → List (List ℕ)
 front [] = []
@@ -92,7 +93,7 @@ groups_none : groups [] ≡ []
 unfolding groups
 groups_none = refl
 
--- the first group has the words up to the next that ends with `:`
+-- The first group has the words up to the next one that ends with `:`.
 groups_front : (w : List ℕ) (ws : List (List ℕ)) → groups (w ∷ ws) ≡ (w ∷ front ws) ∷ groups (back ws)
 unfolding front back
 groups_front w [] = groups_word w [] ∙ ap (onto w) groups_none ∙ ap (λ l. (w ∷ []) ∷ l) (sym groups_none)
@@ -127,7 +128,7 @@ run_is (w ∷ ws) =
     (λ _. ap (λ r. token_at w >>= λ u. grown u r) (run_is ws) ∙ grown_each (token_at w) (each token_at (front ws)) (back ws)
     ∙ ap (λ r. with_back r (back ws)) (sym (each_word w (front ws))))
 
--- what a rule is made of
+-- The rule with this target and these tokens.
 abbrev made_rule : Target → List Token → RuleText
 made_rule target tokens = record { target = target; tokens = tokens }
 
@@ -152,7 +153,7 @@ cons_some (Ok y) (Ok ys) = refl
 cons_some (Ok y) (Err kind) = refl
 cons_some (Err kind) q = refl
 
--- whether there is a member is asked before or behind the reading
+-- Whether there is a rule may be tested before or after reading them.
 some_each : {A B : Type 0} (f : A → Result B TextKind) (xs : List A) → (some_of xs >>= each f) ≡ (each f xs >>= some_of)
 unfolding each
 some_each f [] = refl
@@ -191,7 +192,7 @@ rules_step bytes some =
     ap rules_of (words_first bytes some) ∙ rule_step (before 32 (skip is_space bytes)) (words (from 32 (skip is_space bytes)))
     ∙ ap (λ ws. with_rules rules_of (rule_run ws)) (sym (words_first bytes some))
 
--- one rule
+-- One rule.
 
 rule_run_none : rule_run [] ≡ Err Rule
 unfolding rule_run
@@ -229,7 +230,7 @@ rule_next bytes target ts ws some read run given = rule_read bytes target ts ws 
 pub rule_empty : (bytes : List ℕ) (target : Target) (ts : List Token) (ws : List (List ℕ)) → length (skip is_space bytes) ≢ 0 → target_at (before 32 (skip is_space bytes)) ≡ Ok target → token_run (words (from 32 (skip is_space bytes))) ≡ Ok (ts, ws) → length ts ≡ 0 → rule_run (words bytes) ≡ Err Rule
 rule_empty bytes target ts ws some read run none = rule_read bytes target ts ws some read run ∙ ap (λ r. r >>= λ tokens. Ok (made_rule target tokens, ws)) (none_given ts none)
 
--- rules one after another
+-- Rules, one after another.
 
 some_skipped : (rest : List ℕ) → skip is_space rest ≡ rest → length rest ≢ 0 → length (skip is_space rest) ≢ 0
 some_skipped rest stays some none = some (sym (ap length stays) ∙ none)
@@ -278,7 +279,7 @@ rules_some bytes rest rules some none so_far = rules_done bytes rest rules none 
 pub rules_none : (bytes rest : List ℕ) (rules : List RuleText) → length rules ≡ 0 → length rest ≡ 0 → each rule_at (groups (words bytes)) ≡ behind rules (each rule_at (groups (words rest))) → rules_at bytes ≡ Err Rule
 rules_none bytes rest rules empty none so_far = rules_done bytes rest rules none so_far ∙ none_rules rules empty
 
--- What stopped a step stops the whole.
+-- A step that stops also stops the whole call.
 
 pub pass_on : {A B C D : Type 0} (stop : Stop TextKind) (shown : A → B) (given : C → D) (r : Result B TextKind) (q : Result D TextKind) → ((kind : TextKind) → r ≡ Err kind → q ≡ Err kind) → Gives {A = A} (Err stop) shown r → Gives {A = C} (Err stop) given q
 pass_on (Fault kind) shown given r q on is = on kind is

@@ -27,7 +27,7 @@ use Rattle.sym_records.specs.declared.keyword.Keyword.TheVariants as key
 use Rattle.sym_grammar.proofs.FieldLemmas.{words_skip, words_end, words_nothing, zero_or, word_first, word_none}
 use Rattle.sym_grammar.proofs.ShortWordLemmas.{hex_short, decimal_short, rules_short, rules_some}
 
--- Lengths of cuts.
+-- The lengths of the parts of a line.
 
 skip_within : (p : ℕ → Bool) (xs : List ℕ) → length (skip p xs) ≤ length xs
 unfolding skip
@@ -77,7 +77,7 @@ parted_skip (x ∷ xs) at some =
 
 -- Words.
 
--- one more, where bytes begin with a word
+-- 1 if the bytes begin with a word, otherwise 0.
 gap : List ℕ → ℕ
 gap [] = 0
 gap (x ∷ xs) = cond (x == 32) 0 1
@@ -108,7 +108,7 @@ words_cut : (x : ℕ) (xs : List ℕ) → words (x ∷ xs) ≡ cond (x == 32) (w
 unfolding words
 words_cut x xs = refl
 
--- bytes that begin with a word have one
+-- Bytes that do not begin with a space have a word.
 words_some : (x : ℕ) (xs : List ℕ) → (x == 32) ≡ false → words (x ∷ xs) ≢ []
 words_some x xs other none =
     let all : cond (ends_word xs) ((x ∷ []) ∷ words xs) (onto x (words xs)) ≡ [] =
@@ -147,7 +147,7 @@ words_gap (x ∷ y ∷ ys) =
 words_short : (bytes : List ℕ) → length (parted (words bytes)) ≤ length (skip is_space bytes) + 1
 words_short bytes = omega (arith, words_gap (skip is_space bytes), gap_within (skip is_space bytes), ap (λ l. length (parted l)) (words_skip bytes))
 
--- no word is empty
+-- No word is empty.
 abbrev is_some : List ℕ → Bool
 is_some w = nat_lt 0 (length w)
 
@@ -175,7 +175,7 @@ or_some : {A : Type 0} (o : Option A) (e : TextKind) (x : A) → ok_or o e ≡ O
 or_some None e x is = cc
 or_some (Some y) e x is = cc
 
--- a word that was read
+-- A word that was read, and the bytes after it.
 record WordRead (bytes : List ℕ) (x : List ℕ × List ℕ) : Type 0 where
   some : length (skip is_space bytes) ≢ 0
   size : length x.0 + length x.1 ≡ length (skip is_space bytes)
@@ -189,7 +189,7 @@ word_read bytes x is = elim (zero_or (length (skip is_space bytes))) [
       (record { some = some; size = before_from (skip is_space bytes); word = before_some (skip is_space bytes) (begins_skip bytes) some; at = from_parted (skip is_space bytes) })
 ]
 
--- a field that was read, and what is left
+-- A field that was read: its spelling and the bytes after it are not longer than the line.
 record Took (bytes text rest : List ℕ) : Type 0 where
   some : length (skip is_space bytes) ≢ 0
   at : Parted rest
@@ -219,7 +219,7 @@ decimal_took bytes x is =
 letter_long : (w : List ℕ) (text : List ℕ) → bytes_eq w text ≡ true → length w ≡ length text
 letter_long w text is = ap length ((bytes_eq-Decides w text).0 is)
 
--- `m` in front of a number
+-- An optional `m` before a number.
 mark_took : (bytes : List ℕ) (many : Bool) (n : ℕ) (rest : List ℕ) → bytes_eq (before 32 (skip is_space bytes)) (codes "m") ≡ many → Took (cond many (from 32 (skip is_space bytes)) bytes) (32 ∷ hex n) rest → Took bytes (mark many ++ 32 ∷ hex n) rest
 mark_took bytes true n rest is took =
     let letter = letter_long (before 32 (skip is_space bytes)) (codes "m") is in
@@ -251,7 +251,7 @@ middle_took Hex bytes x is = hex_took bytes x is
 middle_took Marked bytes x is = marked_took bytes x is
 middle_took Decimal bytes x is = decimal_took bytes x is
 
--- the last field
+-- The last field.
 
 record Spent (bytes text : List ℕ) : Type 0 where
   some : length (skip is_space bytes) ≢ 0
@@ -338,7 +338,7 @@ values_spent (Then m rest) bytes v is =
 
 -- Keywords.
 
--- a keyword and what is left take no more than the line
+-- A keyword and the bytes after it are not longer than the line.
 abbrev IfSpent : List ℕ → Result (Keyword × List ℕ) TextKind → Type 0
 IfSpent z (Ok found) = length (skip is_space found.1) ≢ 0 → length (headed found.0) + length (skip is_space found.1) ≤ length z
 IfSpent z (Err kind) = Unit {0}
@@ -350,7 +350,7 @@ if_spent z false r q first second = second
 word_spent : (z : List ℕ) (k : Keyword) (text : List ℕ) → length (headed k) ≡ length text + 1 → bytes_eq (before 32 z) text ≡ true → IfSpent z (Ok (k, from 32 z))
 word_spent z k text size is some = omega (arith, size, letter_long (before 32 z) text is, before_from z, parted_skip (from 32 z) (from_parted z) some)
 
--- what stands behind the next word
+-- The bytes after the next word.
 record Next (bytes text : List ℕ) : Type 0 where
   size : length text + length (from 32 (skip is_space bytes)) + 1 ≤ length bytes
 

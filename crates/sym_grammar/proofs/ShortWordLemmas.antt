@@ -1,4 +1,5 @@
--- The spelling of a number, a target, a token and a rule is no longer than what it was read from.
+-- The spelling of a number, a target, a token or a rule is no longer than the bytes from which it
+-- was read.
 use Rattle.std.proofs.Common.{◌≡◌, ◌≢◌, ℕ, ◌+◌, ◌-◌, ◌*◌, ◌/◌, ◌%◌, ◌^◌, ◌<◌, ◌≤◌, ◌==◌, ◌&&◌, cond, zero, suc, Bool, true, false, ℤ, pos, negsuc, neg_ℤ, List, [], ◌∷◌, length, drop, get_or, codes, Option, Some, None, ok_or, Result, Ok, Err, nat_lt, nat_le, refl, sym, ◌∙◌, ap, arith, subst, ⊎_elim, append-nil, length-append, length-drop}
 use Rattle.std.specs.List.{list_all, flat_map}
 use Rattle.std.specs.Option.{option_or, option_map, option_map_or, option_and_then}
@@ -42,7 +43,7 @@ left_last : (count n : ℕ) (acc : List ℕ) → n / 16 ≡ 0 → hex_left (suc 
 unfolding hex_left
 left_last count n acc none = grind (arith, nat_tests)
 
--- how many digits a number has
+-- The number of digits of a number.
 left_short : (count k n : ℕ) (acc : List ℕ) → n < 16 ^ suc k → length (hex_left count n acc) ≤ suc k + length acc
 unfolding hex_left
 left_short zero k n acc small = omega arith
@@ -172,7 +173,7 @@ target_short w t is = ⊎_elim
     (λ h. cc)
     (chosen (ends_in_colon w && is_symbol (but_last w)) (gives (named_target (but_last w))) refuses (Ok t) is)
 
--- a sign that was read, or what is read otherwise
+-- If an operator was read, its spelling is as long; otherwise the word is read in another way.
 abbrev IfShort : List ℕ → Option Token → Type 0
 IfShort w None = Unit {0}
 IfShort w (Some t) = length (token_word t) ≤ length w
@@ -275,7 +276,7 @@ flat_onto : (w : List ℕ) (gs : List (List (List ℕ))) → flat (onto w gs) �
 flat_onto w [] = refl
 flat_onto w (g ∷ gs) = refl
 
--- the groups of words have all of them
+-- The groups of words together have all words.
 groups_flat : (ws : List (List ℕ)) → flat (groups ws) ≡ ws
 unfolding groups
 groups_flat [] = refl
@@ -298,7 +299,7 @@ groups_nothing : groups [] ≡ []
 unfolding groups
 groups_nothing = refl
 
--- where no word is left there are no rules
+-- If no word is left, there are no rules.
 pub rules_some : (bytes : List ℕ) (rules : List RuleText) → rules_at bytes ≡ Ok rules → words bytes ≢ []
 unfolding rules_at
 rules_some bytes rules is none =

@@ -1,4 +1,5 @@
--- Worked rows of a reader's answers, of texts that are cut, and of lines that are refused (Breakpad's symbol_files.md).
+-- Worked examples: the results of a reader, texts that are cut, and lines that are refused
+-- (Breakpad's symbol_files.md).
 use Rattle.std.proofs.Common.{◌≡◌, [], ◌∷◌, codes, Some, None, Ok, Err, refl}
 use Rattle.sym_edges.specs.declared.fault.Stop.TheVariants.{Fault, NoMemory}
 use Rattle.sym_grammar.proofs.Computing.{sym_grammar_computes}
@@ -12,7 +13,7 @@ use Rattle.sym_rules.specs.declared.text_fault.TextKind.TheVariants as fault
 abbrev binary : SymLine
 binary = line.Module (record { os = codes "a"; arch = codes "b"; id = codes "c"; name = codes "d" })
 
--- the lines that have ended, and the front of the next
+-- The lines that have ended, and the start of the next.
 two_lines : whole_lines (codes "ab\n\ncd") ≡ codes "ab" ∷ [] ∷ []
 unfolding sym_grammar_computes
 two_lines = refl
@@ -25,7 +26,7 @@ open_nothing : open_line (codes "ab\n") ≡ []
 unfolding sym_grammar_computes
 open_nothing = refl
 
--- a reader that holds the front of its first line
+-- A reader that has the start of its first line.
 abbrev cut : Reads
 cut = record { part = record { seen = start; held = codes "XMOD" }; stop = None }
 
@@ -37,7 +38,7 @@ cut_refused : answer cut (codes "ULE a b c d\n") ≡ Err (Fault (record { kind =
 unfolding sym_grammar_computes
 cut_refused = refl
 
--- a reader behind three lines, of which the last was not whole
+-- A reader after three whole lines, with the start of the fourth.
 abbrev behind : Part
 behind = record { seen = record { records = binary ∷ []; place = Inside; number = 3 }; held = codes "FILE 0" }
 
@@ -49,12 +50,12 @@ behind_goes_on : answer (record { part = behind; stop = None }) (codes "1 x \r")
 unfolding sym_grammar_computes
 behind_goes_on = refl
 
--- past the limit, whatever follows
+-- A line longer than the limit is refused, whatever follows.
 behind_long : outcome 7 behind (codes "12\n") ≡ Err (record { kind = fault.LongLine; line = 4 })
 unfolding sym_grammar_computes
 behind_long = refl
 
--- what stopped a reader stays its answer
+-- A reader that was stopped returns the same again.
 stopped : answer (record { part = behind; stop = Some (Fault (record { kind = fault.Hex; line = 2 })) }) (codes "1 x\n") ≡ Err (Fault (record { kind = fault.Hex; line = 2 }))
 unfolding sym_grammar_computes
 stopped = refl
@@ -63,7 +64,7 @@ stopped_memory : answer (record { part = behind; stop = Some NoMemory }) [] ≡ 
 unfolding sym_grammar_computes
 stopped_memory = refl
 
--- the first place in a line where something is wrong
+-- The first place in a line that is wrong decides the fault.
 bad_hex : reading (codes "MODULE a b c d\nFUNC  M000 1 0 f\n") ≡ Err (record { kind = fault.Hex; line = 2 })
 unfolding sym_grammar_computes
 bad_hex = refl

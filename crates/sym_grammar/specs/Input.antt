@@ -1,4 +1,5 @@
--- The reading of a symbol file whose size is limited, and what a call that reads it from a store returns.
+-- The reading of a symbol file whose size is limited, and the result of a call that reads the file
+-- from a store.
 use Rattle.std.specs.Prelude.{◌≡◌, ◌⊎◌, ℕ, ◌^◌, ⊤, nat_lt, if◌then◌else◌, List, [], ◌∷◌, ◌++◌, length, take, Option, Some, None, Result, Ok, Err}
 use Rattle.sym_edges.specs.Outside.{Files, Rose}
 use Rattle.sym_edges.specs.WholeFile.{HoldsFile}
@@ -14,7 +15,8 @@ use Rattle.sym_grammar.specs.declared.refusal.SymRefusal.TheVariants.{TooLong, T
 use Rattle.sym_grammar.specs.declared.refusal.SymEnd.{SymEnd}
 use Rattle.sym_grammar.specs.declared.refusal.SymEnd.TheVariants.{Unread, Refused}
 
--- what bytes decide, whatever follows them: what their whole lines give, and that the start of the next line is not too long
+-- the result that bytes decide, whatever follows them: that of their whole lines, or the fault that
+-- the start of the next line is too long
 abbrev pub with_front : ℕ → Result Seen TextFault → List ℕ → Result Part TextFault
 with_front limit (Err fault) held = Err fault
 with_front limit (Ok seen) held =
@@ -29,16 +31,17 @@ abbrev pub IfNone : {A : Type 0} → Option A → Type 0 → Type 0
 IfNone None P = P
 IfNone (Some x) P = ⊤
 
--- what was read before the first byte
+-- the state before the first byte
 abbrev pub nothing : Part
 nothing = record { seen = start; held = [] }
 
--- a file that is not too long is refused for its first fault
+-- the reading of a file that is not too long
 abbrev pub whole_reading : Result (List SymLine) TextFault → Result (List SymLine) SymRefusal
 whole_reading (Ok lines) = Ok lines
 whole_reading (Err fault) = Err (Text fault)
 
--- a file that is too long is refused for its length, except if its first bytes decide a fault
+-- a file that is too long is refused for its length, unless its first `limit` bytes already decide
+-- a fault
 abbrev pub front_reading : Result Part TextFault → Result (List SymLine) SymRefusal
 front_reading (Ok part) = Err TooLong
 front_reading (Err fault) = Err (Text fault)
@@ -47,19 +50,20 @@ front_reading (Err fault) = Err (Text fault)
 unfoldable pub file_reading : ℕ → List ℕ → Result (List SymLine) SymRefusal
 file_reading limit bytes = if nat_lt limit (length bytes) then front_reading (decided (2 ^ 20) nothing (take limit bytes)) else whole_reading (reading bytes)
 
--- the result is the reading of the file, if its bytes are known, and otherwise the reading of some bytes
+-- if the bytes of the file are known, the result is the reading of these, otherwise that of some
+-- bytes
 abbrev pub IsReading : ℕ → Result (List SymLine) SymRefusal → Option (List ℕ) → Type 0
 IsReading limit read None = (bytes : List ℕ) × (file_reading limit bytes ≡ read)
 IsReading limit read (Some bytes) = file_reading limit bytes ≡ read
 
--- what a reading of the file `name` returns, and when
+-- what each result of reading the file `name` means
 abbrev pub SymRead : Result (List SymLine) (Stop SymEnd) → Option Files → List ℕ → ℕ → ℕ → ℕ → Type 0
 SymRead (Ok lines) files name limit before after = HoldsFile files name (IsReading limit (Ok lines))
 SymRead (Err (Fault Unread)) files name limit before after = Rose before after
 SymRead (Err (Fault (Refused why))) files name limit before after = HoldsFile files name (IsReading limit (Err why))
 SymRead (Err NoMemory) files name limit before after = ⊤
 
--- the count of faults does not change, unless the file could not be opened or read
+-- the store's count of faults is unchanged, unless the file could not be opened or read
 abbrev pub IsSteadyRead : Result (List SymLine) (Stop SymEnd) → ℕ → ℕ → Type 0
 IsSteadyRead (Ok lines) before after = after ≡ before
 IsSteadyRead (Err (Fault Unread)) before after = Unit {0}

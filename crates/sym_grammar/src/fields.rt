@@ -1,4 +1,4 @@
-//! The fields of a line, from left to right: each call gives a value and the bytes after it.
+//! The fields of a line, read from left to right. Each call returns a value and the bytes after it.
 ghost use Rattle.std.specs.Prelude.{◌≡◌, ◌<◌, length, IfOk};
 ghost use Rattle.sym_rules.specs.RuleReading.{words};
 ghost use Rattle.sym_records.specs.FieldReading.{word_at, name_at, hex_at, mark_at, marked_at, decimal_at, ranges_at, last_at};
@@ -53,7 +53,7 @@ pub(crate) fn decimal_at(bytes: &[u8]) -> Result<(u32, &[u8]), Stop<TextKind>>
     }
 }
 
-/// Whether the next field is `m`; if it is, the bytes after it, otherwise all bytes.
+/// Whether the next field is `m`, and the bytes after it; if it is not, all bytes.
 #[inline]
 #[tactic(auto, unfolding(sym_records::specs::FieldReading::mark_at))]
 fn mark_at(bytes: &[u8]) -> (bool, &[u8])

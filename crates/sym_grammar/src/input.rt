@@ -1,4 +1,4 @@
-//! Symbol files of a store.
+//! Reading a symbol file from a store.
 ghost use Rattle.std.specs.Prelude.{◌≡◌, ℕ, ◌+◌, ◌^◌, ◌<◌, ◌≤◌, Ok, Err};
 ghost use Rattle.sym_grammar.specs.Answer.{Reads};
 ghost use Rattle.sym_grammar.specs.Input.{SymRead, IsSteadyRead, AsksName};
@@ -11,10 +11,10 @@ use sym_edges::{Failed, Stop, Store};
 use sym_records::SymFile;
 use sym_rules::TextFault;
 
-/// How many bytes are read at once.
+/// How many bytes are read from the store at once.
 const PIECE: usize = 65536;
 
-/// A stop of the reader as a stop of the reading of a file.
+/// Why a reader stopped, as why the reading of a file stopped.
 fn refused(stop: Stop<TextFault>) -> Stop<SymEnd>
     ensures { result ≡ refused_stop stop }
 {
@@ -24,7 +24,7 @@ fn refused(stop: Stop<TextFault>) -> Stop<SymEnd>
     }
 }
 
-/// The records of the text that was fed to a reader, which is the whole file.
+/// The records of the text that was fed to a reader. The text is the whole file.
 #[tactic(auto, using(crate::proofs::InputLemmas::ends_as))]
 fn end(alloc: Global, reader: Reader) -> Result<SymFile, Stop<SymEnd>>
     ensures { EndsAs result reader }
@@ -35,7 +35,7 @@ fn end(alloc: Global, reader: Reader) -> Result<SymFile, Stop<SymEnd>>
     }
 }
 
-/// The records of the open file, whose remaining bytes are read `room` bytes at a time.
+/// The records of the open file. Its remaining bytes are read `room` at a time.
 #[tactic(auto, using(crate::proofs::InputLemmas::start_read, crate::proofs::InputLemmas::next_read, crate::proofs::InputLemmas::stopped_read, crate::proofs::InputLemmas::ended_read, crate::proofs::InputLemmas::longer_read, crate::proofs::InputLemmas::steady_read))]
 fn read_rest<S: Store>(
     alloc: Global,
@@ -76,8 +76,9 @@ fn read_rest<S: Store>(
 /// The records of the symbol file with this name, which may have at most `limit` bytes and is read in pieces. The store is asked only for this name,
 /// and at most once.
 ///
-/// If the result is `Unread`, the store's count of faults rose; with any other result the count is unchanged. If the file is longer, only its first
-/// `limit` bytes are looked at: it is refused for a fault that these bytes decide, and otherwise for its length.
+/// If the result is `Unread`, the store's count of faults rose; with any other result the count is
+/// unchanged. If the file has more than `limit` bytes, only the first `limit` are looked at. If
+/// these decide a fault, the file is refused for it, otherwise for its length.
 #[tactic(auto, using(crate::proofs::InputLemmas::opened_read, crate::proofs::InputLemmas::steady_behind))]
 pub fn read_file<S: Store>(
     alloc: Global,

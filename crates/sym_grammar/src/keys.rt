@@ -17,7 +17,7 @@ fn are_hex_digits(word: &[u8]) -> bool
         .all(|b| matches!(*b, b'0'..=b'9' | b'a'..=b'f' | b'A'..=b'F'))
 }
 
-/// After `STACK CFI`: the next word may be `INIT`.
+/// The keyword after `STACK CFI`, which is `INIT` or has no more words; and the bytes after it.
 #[inline]
 #[tactic(auto, unfolding(sym_records::specs::Text::cfi_key))]
 fn cfi_key(bytes: &[u8]) -> (Keyword, &[u8])
@@ -31,7 +31,7 @@ fn cfi_key(bytes: &[u8]) -> (Keyword, &[u8])
     }
 }
 
-/// After `STACK`: the next word decides.
+/// The keyword after `STACK`, by the next word; and the bytes after it.
 #[inline]
 #[tactic(auto, unfolding(sym_records::specs::Text::stack_key))]
 fn stack_key(bytes: &[u8]) -> Result<(Keyword, &[u8]), Stop<TextKind>>
@@ -47,7 +47,8 @@ fn stack_key(bytes: &[u8]) -> Result<(Keyword, &[u8]), Stop<TextKind>>
     Err(Stop::Fault(TextKind::Unknown))
 }
 
-/// The keyword that begins with a word, and the bytes after the keyword.
+/// The keyword, given the first word of a line and the bytes after this word; and the bytes after
+/// the keyword.
 #[tactic(auto, unfolding(sym_records::specs::Text::worded_key))]
 fn worded_key<'a>(word: &[u8], rest: &'a [u8]) -> Result<(Keyword, &'a [u8]), Stop<TextKind>>
     ensures { Gives result (λ x. (x.0, x.1.now)) (worded_key word.now rest.now) }
@@ -79,7 +80,8 @@ fn worded_key<'a>(word: &[u8], rest: &'a [u8]) -> Result<(Keyword, &'a [u8]), St
     Err(Stop::Fault(TextKind::Unknown))
 }
 
-/// The keyword of a line, and the bytes after it. A line record has no keyword and begins with a number.
+/// The keyword of a line, and the bytes after it. A line record begins with a number and has no
+/// keyword.
 #[inline]
 #[tactic(auto, unfolding(sym_records::specs::Text::key_at, sym_records::specs::Text::keyed))]
 pub(crate) fn key_at(bytes: &[u8]) -> Result<(Keyword, &[u8]), Stop<TextKind>>

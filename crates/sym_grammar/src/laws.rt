@@ -10,7 +10,7 @@ pub fn a_text_has_no_more_records_than_bytes()
     ensures { (bytes : List ℕ) (lines : List SymLine) → reading bytes ≡ Ok lines → length lines ≤ length bytes }
 {}
 
-/// If two pieces were fed one after the other, the reader knows all that it would know if they had been fed as one piece.
+/// Two pieces that are fed one after the other give the same state as one piece.
 pub fn two_pieces_are_one()
     ensures { (limit : ℕ) (a b c : Part) (p q : List ℕ) → IsUpToDate limit a p b → IsUpToDate limit b q c → IsUpToDate limit a (p ++ q) c }
 {}

@@ -1,10 +1,12 @@
-//! The reader of symbol files, however the text is cut.
+//! A reader of symbol files that come in pieces of any size.
 //!
-//! A `Reader` is fed a symbol file (Breakpad's symbol_files.md) in pieces of any size, and returns its records once the text has ended. Its contract
-//! is about what follows: what a reader will return if the text goes on with some bytes and then ends is the reading of all bytes, wherever they were
-//! cut. A fault is returned as soon as the byte that decides it was fed, with the number of its line, and remains the result; so does running out of
-//! memory. The reader keeps the records and at most one line of 2^20 bytes: a line that is wholly in a piece is read in place. `read_file` uses the
-//! reader to read a symbol file of a store.
+//! A `Reader` is fed a symbol file (Breakpad's symbol_files.md) in pieces of any size, and returns
+//! its records once the text has ended. Its contract is about the bytes that may follow: if the
+//! text goes on with some bytes and then ends, the result is the reading of all bytes, wherever
+//! they were cut. A fault is returned as soon as the byte that decides it was fed, with the number
+//! of its line. After a fault, and after memory ran out, each further call returns the same. The
+//! reader stores the records and the start of one line, at most 2^20 bytes. A line that is wholly
+//! in a piece is not copied. `read_file` uses the reader to read a symbol file from a store.
 #![tactic(auto)]
 
 // How a text is cut into lines.
@@ -16,16 +18,16 @@ mod numbers;
 mod rules;
 mod words;
 
-// The records.
+// The records and their keywords.
 mod keys;
 mod records;
 
-// The lines one after another, and the reader.
+// Reading one line after another.
 mod pieces;
 mod progress;
 mod reader;
 
-// The files of a store.
+// Reading a file from a store.
 mod input;
 mod refusal;
 

@@ -1,4 +1,4 @@
-//! Numbers, given their digits.
+//! Reading numbers from their digits.
 ghost use Rattle.std.specs.Prelude.{◌≡◌, ◌^◌, ◌<◌, ◌≤◌, pos, neg_ℤ, IfSome, IfOk};
 ghost use Rattle.sym_rules.specs.RuleReading.{integer_of};
 ghost use Rattle.sym_rules.specs.Cuts.{from};
@@ -88,7 +88,7 @@ pub(crate) fn decimal_value(word: &[u8]) -> Option<u32>
     }
 }
 
-/// The integer from -2^63 to 2^63 - 1 with these digits, after an optional `-`.
+/// The integer with these digits, after an optional `-`, if it is from -2^63 to 2^63 - 1.
 #[tactic(auto, using(crate::proofs::NumberLemmas::integer_none, crate::proofs::NumberLemmas::negative_some, crate::proofs::NumberLemmas::negative_none, crate::proofs::NumberLemmas::positive_some, crate::proofs::NumberLemmas::positive_none))]
 pub(crate) fn integer_of(word: &[u8]) -> Option<i64>
     ensures { result ≡ integer_of word.now }

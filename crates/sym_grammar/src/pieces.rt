@@ -26,7 +26,7 @@ fn too_long(seen: &Progress) -> Stop<TextFault>
     })
 }
 
-/// A line ends with these bytes, which follow those kept so far.
+/// Reads the line that ends with these bytes; the stored bytes come before them.
 #[inline]
 #[tactic(auto, using(crate::proofs::PieceLemmas::line_long, crate::proofs::PieceLemmas::joined_front, crate::proofs::PieceLemmas::front_nothing, crate::proofs::PieceLemmas::nothing_held, crate::proofs::PieceLemmas::nothing_joined))]
 fn end_line(
@@ -59,7 +59,7 @@ fn end_line(
     }
 }
 
-/// Keeps the start of a line, if it is not too long.
+/// Stores the start of a line, if it is not too long.
 #[tactic(auto, using(crate::proofs::PieceLemmas::held_long, crate::proofs::PieceLemmas::held_up, crate::proofs::PieceLemmas::held_on, crate::proofs::PieceLemmas::joined_front))]
 fn hold(
     limit: usize,
@@ -83,7 +83,7 @@ fn hold(
     Ok(())
 }
 
-/// Reads a piece of the text.
+/// Reads a piece of the text, up to the start of a line that has not ended.
 #[tactic(auto, using(crate::proofs::PieceLemmas::line_taken, crate::proofs::PieceLemmas::nothing_taken))]
 pub(crate) fn take_piece(
     alloc: Global,

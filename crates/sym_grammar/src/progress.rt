@@ -14,7 +14,8 @@ use sym_edges::Stop;
 use sym_records::{Place, SymLine, fits, leads};
 use sym_rules::{TextFault, TextKind, is_blank};
 
-/// What whole lines gave: their records, which are valid, the place after them, and the number of lines.
+/// The result of the whole lines so far: their records, which are valid, the place after them, and
+/// the number of lines.
 #[derive(Debug, Drop)]
 pub(crate) struct Progress {
     records: Vec<SymLine>,
@@ -33,7 +34,7 @@ impl Model for Progress {
     ghost invariant = { λ p. AreGood p.records.items p.place };
 }
 
-/// Before the first line.
+/// The state before the first line.
 #[tactic(auto, using(crate::proofs::ProgressLemmas::start_good))]
 pub(crate) fn started(alloc: Global) -> Progress
     ensures { result ≡ start }
@@ -45,7 +46,7 @@ pub(crate) fn started(alloc: Global) -> Progress
     }
 }
 
-/// The records.
+/// The records of the lines so far.
 pub(crate) fn into_records(progress: Progress) -> Vec<SymLine>
     ensures records { result.items ≡ progress.records }
     ensures valid { first_bad_from 0 Start result.items ≡ None }
@@ -74,7 +75,7 @@ fn add_record(seen: &mut Progress, line: SymLine) -> Result<(), Stop<TextKind>>
     Ok(())
 }
 
-/// Whether no record was read yet, and the line is not blank and does not begin with the word `MODULE`.
+/// Whether no record was read yet, and the line is neither blank nor begins with the word `MODULE`.
 #[tactic(auto, unfolding(sym_records::specs::Reading::lacks_module))]
 fn lacks_module(place: Place, line: &[u8]) -> bool
     ensures { result ≡ lacks_module place line.now }
@@ -82,7 +83,7 @@ fn lacks_module(place: Place, line: &[u8]) -> bool
     place == Place::Start && !is_blank(line) && !begins_module(line)
 }
 
-/// Adds a line.
+/// Reads a line, and adds its record if it has one.
 #[tactic(auto, using(crate::proofs::ProgressLemmas::read_fits), unfolding(sym_records::specs::Reading::with_text))]
 fn add_line(
     alloc: Global,
@@ -116,7 +117,7 @@ pub(crate) fn next_number(seen: &Progress) -> u64
     seen.number.saturating_add(1)
 }
 
-/// Adds a line; a fault gets the number of the line.
+/// Reads a line like `add_line`; a fault gets the number of the line.
 pub(crate) fn add_numbered(
     alloc: Global,
     limit: usize,

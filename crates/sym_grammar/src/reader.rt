@@ -1,4 +1,4 @@
-//! The reader.
+//! A reader of a symbol file that comes in pieces.
 ghost use Rattle.std.specs.Prelude.{◌≡◌, ◌^◌, ℕ, List, [], ⊤, None, Ok, Err, IfSome, OnOk};
 ghost use Rattle.sym_edges.specs.Outside.{MatchStop};
 ghost use Rattle.sym_records.specs.Reading.{reading};
@@ -76,7 +76,7 @@ impl Reader {
         }
     }
 
-    /// The records of the text, which ends here.
+    /// Ends the text, and returns its records.
     #[tactic(auto, using(crate::proofs::ReaderLemmas::ended, crate::proofs::ReaderLemmas::ended_empty, crate::proofs::ProgressLemmas::some_good))]
     pub fn finish(self, alloc: Global) -> Result<SymFile, Stop<TextFault>>
         ensures finishes { MatchStop result (λ file. answer self [] ≡ Ok file) (λ fault. answer self [] ≡ Err (Fault fault)) ⊤ }

@@ -1,4 +1,4 @@
-//! The records, each read from the bytes after its keyword.
+//! Each record, read from the bytes after its keyword.
 ghost use Rattle.std.specs.Prelude.{◌≡◌, codes};
 ghost use Rattle.std.specs.Str.{bytes_eq};
 ghost use Rattle.sym_records.specs.Text.{key_of, record_of, record_at, line_read};

@@ -10,7 +10,7 @@ pub enum SymRefusal {
     Text(TextFault),
 }
 
-/// Why a symbol file has no records.
+/// Why reading a symbol file gave no records.
 #[derive(Clone, Copy, Debug, PartialEq, Eq)]
 pub enum SymEnd {
     /// The file cannot be opened or read.

@@ -9,7 +9,7 @@ use std::alloc::Global;
 use sym_edges::Stop;
 use sym_rules::{RuleText, Rules, TextKind, Token, Tokens, cut_word, skip_spaces};
 
-/// The next token and the bytes after it; nothing if a rule or the end of the line is next.
+/// The next token, and the bytes after it; `None` if a rule or the end of the line is next.
 #[inline]
 #[tactic(auto, using(crate::proofs::RunLemmas::run_end, crate::proofs::RunLemmas::run_rule, crate::proofs::RunLemmas::run_token, crate::proofs::RunLemmas::run_fault, crate::proofs::FieldLemmas::from_shorter))]
 fn next_token(alloc: Global, bytes: &[u8]) -> Result<Option<(Token, &[u8])>, Stop<TextKind>>
@@ -43,7 +43,8 @@ fn tokens_at(alloc: Global, bytes: &[u8]) -> Result<(Tokens, &[u8]), Stop<TextKi
     }
 }
 
-/// The same after one token.
+/// A token, followed by those up to the next rule or the end of the line; and the bytes from there
+/// on.
 #[tactic(auto, using(crate::proofs::RunLemmas::before_none, crate::proofs::RunLemmas::before_some, crate::proofs::RunLemmas::before_fault))]
 fn tokens_after(alloc: Global, a: Token, bytes: &[u8]) -> Result<(Tokens, &[u8]), Stop<TextKind>>
     ensures tokens { Gives result (λ x. (x.0, words x.1.now)) (put_before (a ∷ []) (token_run (words bytes.now))) }
@@ -55,7 +56,7 @@ fn tokens_after(alloc: Global, a: Token, bytes: &[u8]) -> Result<(Tokens, &[u8])
     }
 }
 
-/// The same after two tokens.
+/// The same for two tokens in front.
 #[tactic(auto, using(crate::proofs::RunLemmas::before_none, crate::proofs::RunLemmas::before_some, crate::proofs::RunLemmas::before_fault))]
 fn tokens_after_two(
     alloc: Global,
@@ -77,7 +78,7 @@ fn tokens_after_two(
     }
 }
 
-/// The same after three tokens.
+/// The same for three tokens in front.
 #[tactic(auto, using(crate::proofs::RunLemmas::before_none, crate::proofs::RunLemmas::before_some, crate::proofs::RunLemmas::before_fault))]
 fn tokens_after_three(
     alloc: Global,
@@ -95,7 +96,7 @@ fn tokens_after_three(
     }
 }
 
-/// The same after four tokens.
+/// The same for four tokens in front.
 #[tactic(auto, using(crate::proofs::RunLemmas::before_none, crate::proofs::RunLemmas::before_some, crate::proofs::RunLemmas::before_fault))]
 fn tokens_after_four(
     alloc: Global,
@@ -122,7 +123,7 @@ fn tokens_after_four(
     }
 }
 
-/// The same after many tokens.
+/// The same for any number of tokens in front.
 #[tactic(auto, using(crate::proofs::RunLemmas::before_none, crate::proofs::RunLemmas::before_some, crate::proofs::RunLemmas::before_fault))]
 fn more_tokens(
     alloc: Global,
@@ -170,8 +171,9 @@ fn rule_at(alloc: Global, bytes: &[u8]) -> Result<(RuleText, &[u8]), Stop<TextKi
     Ok((RuleText { target, tokens }, later))
 }
 
-/// For how many rules memory is allocated at once: the number of `:` directly before a space, as after the target of each rule. Since a rule has at
-/// least five bytes, the number is at most a fifth of that of the bytes, plus one.
+/// For how many rules memory is allocated at once. This is the number of `:` directly before a
+/// space, since the target of each rule ends so; but at most one more than a fifth of the number of
+/// bytes, since a rule has at least five bytes.
 #[inline]
 fn rule_room(bytes: &[u8]) -> usize {
     let mut count: usize = 0;

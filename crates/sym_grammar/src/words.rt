@@ -28,7 +28,7 @@ fn begins_symbol(b: u8) -> bool
     b == b'$' || b == b'.' || (b'A' <= b && b <= b'Z') || (b'a' <= b && b <= b'z')
 }
 
-/// Whether the word begins as a name in a rule does, and does not end with `:`.
+/// Whether the word is a name in a rule: it begins like one, and does not end with `:`.
 #[inline]
 #[tactic(auto, using(sym_rules::proofs::LastLemmas::symbol_ends, sym_rules::proofs::LastLemmas::symbol_other, sym_rules::proofs::LastLemmas::symbol_nothing))]
 fn is_symbol(word: &[u8]) -> bool

@@ -1,4 +1,4 @@
--- Lemmas on the first INLINE at each level.
+-- The first INLINE of each level that covers an address.
 use Rattle.std.proofs.Common.{◌≡◌, ◌+◌, ◌<◌, ◌≤◌, ◌==◌, ◌&&◌, ℕ, zero, suc, Bool, true, false, cond, List, [], ◌∷◌, length, get_or, set, drop, replicate, Option, None, Some, refl, sym, ap, subst, ◌∙◌, arith, drop-cons}
 use Rattle.std.specs.List.{position_from, slice_get, list_any}
 use Rattle.std.specs.Option.{option_map, IfSome}
@@ -12,7 +12,7 @@ use Rattle.sym_lookup.specs.internal.Scans.{sooner, AreFirsts}
 abbrev Firsts : Type 0
 Firsts = List (Option ℕ)
 
--- what a record at a place changes
+-- What a record changes in the list of first records.
 abbrev pub Notes : ℕ → ℕ → SymLine → Firsts → Firsts → Type 0
 Notes x place line old new = (level : ℕ) → slice_get new level ≡ option_map (sooner level x place line) (slice_get old level)
 
@@ -81,7 +81,7 @@ level_noted x place line own call_line call_file origin ranges firsts is l h = �
     level_set firsts own place level (own == level) l refl
     ∙ ap (λ b. option_map (λ later. cond b (Some place) later) (slice_get firsts level)) (sym (ap (is_inline_at level x) is ∙ ap (λ b. (own == level) && b) h ∙ and_true (own == level)))
 
--- record by record, from the last on
+-- The records, one by one from the last on.
 none_held : (n level : ℕ) → IfSome (slice_get (replicate n None) level) (λ (found : Option ℕ). found ≡ None)
 none_held zero level = tt
 none_held (suc n) zero = refl
@@ -121,6 +121,6 @@ pub firsts_all : (first x at : ℕ) (records : List SymLine) (firsts : Firsts) �
 firsts_all first x zero records firsts l h = subst (λ n. AreFirsts n x records firsts) (omega arith) h
 firsts_all first x (suc at) records firsts l h = absurd (omega arith)
 
--- what is held of a level
+-- The first record of a level that the list has.
 pub first_held : (first x level : ℕ) (records : List SymLine) (firsts : Firsts) (found : Option ℕ) → slice_get firsts level ≡ Some found → AreFirsts first x records firsts → found ≡ position_from (is_inline_at level x) first records
 first_held first x level records firsts found is h = subst (λ o. IfSome o (λ f. f ≡ position_from (is_inline_at level x) first records)) is (h level)

@@ -1,4 +1,4 @@
--- Lemmas on which functions have what stands under them held.
+-- For which FUNC records the index stores what is under them.
 use Rattle.std.proofs.Common.{◌≡◌, ◌≢◌, ◌+◌, ◌-◌, ◌<◌, ◌≤◌, ◌++◌, not, ◌&&◌, nat_le, nat_lt, ℕ, zero, suc, Bool, true, false, List, [], ◌∷◌, length, get_or, drop, Some, sym, ap, subst, ◌∙◌, arith, add-one, drop-cons, inl, inr}
 use Rattle.std.specs.List.{sum_by}
 use Rattle.std.specs.Option.{option_map_or}
@@ -13,7 +13,7 @@ use Rattle.sym_meaning.specs.TextNames.{under}
 use Rattle.sym_lookup.specs.internal.HeldUnders.{range_count, is_func, is_held, HaveNone, AreHeld}
 use Rattle.sym_lookup.specs.declared.under.Under.{Under}
 
--- so many ranges fit, record by record
+-- The ranges counted record by record.
 pub one_fits : (records : List SymLine) (at room many : ℕ) (line : SymLine) → line ≡ get_or records at line → at < length records → many ≡ range_count line → many ≤ room
     → nat_le (sum_by range_count (drop (at + 1) records)) (room - many) ≡ nat_le (sum_by range_count (drop at records)) room
 one_fits records at room many line is l size fits =
@@ -44,7 +44,7 @@ all_fit [] (suc at) room l = none_fits room
 all_fit (s ∷ records) zero room l = absurd (omega arith)
 all_fit (s ∷ records) (suc at) room l = all_fit records at room (omega arith)
 
--- one record
+-- Whether one record is such a FUNC.
 pub held_by : (lines records : List SymLine) (func : ℕ) (line : SymLine) (few : Bool) → line ≡ get_or lines func line → func < length lines → records ≡ under (drop (func + 1) lines) → few ≡ nat_le (sum_by range_count records) 32
     → is_held lines func ≡ (is_func line && not few)
 unfolding is_held
@@ -62,7 +62,7 @@ no_func lines func line is l none =
     ap (λ o. option_map_or is_func o false && nat_lt 32 (sum_by range_count (under (drop (func + 1) lines)))) (slice_get-get_or lines func line l ∙ ap Some (sym is))
     ∙ ap (λ b. b && nat_lt 32 (sum_by range_count (under (drop (func + 1) lines)))) none
 
--- from a place up to another one
+-- No record from one place up to another is such a FUNC.
 pub none_yet : (lines : List SymLine) → HaveNone lines 0 0
 none_yet lines = (omega arith, λ func low up. absurd (omega arith))
 
@@ -84,7 +84,7 @@ held_joined lines first at [] u held is e =
     (subst (HaveNone lines first) (sym e) held, (ap (is_held lines) e ∙ is, (let l : u.func ≡ at = e in omega arith, λ func low up. absurd (let l : u.func ≡ at = e in omega arith))))
 held_joined lines first at (v ∷ unders) u held is e = (held.0, (held.1.0, held_joined lines (v.func + 1) at unders u held.1.1 is e))
 
--- they stand in their order
+-- The stored entries are in the order of their places.
 from_first : (lines : List SymLine) (first end : ℕ) (unders : List Under) (at : ℕ) (d : Under) → AreHeld lines first end unders → at < length unders → first ≤ (get_or unders at d).func
 from_first lines first end [] at d held l = absurd (omega arith)
 from_first lines first end (u ∷ unders) zero d held l = held.0.0
@@ -103,7 +103,7 @@ held_rise lines first end (u ∷ unders) held = λ i j d l m. by (held_rise line
     by rise (suc i) zero d l m = absurd (omega arith)
     by rise (suc i) (suc j) d l m = rise i j d (omega arith) (omega arith)
 
--- found and not found
+-- A place that has an entry, and one that has none.
 held_at : (lines : List SymLine) (first end : ℕ) (unders : List Under) (at : ℕ) (d : Under) → AreHeld lines first end unders → at < length unders → is_held lines (get_or unders at d).func ≡ true
 held_at lines first end [] at d held l = absurd (omega arith)
 held_at lines first end (u ∷ unders) zero d held l = held.1.0

@@ -1,4 +1,4 @@
--- Lemmas on the index of a list of records.
+-- An index gives the records that a scan finds.
 use Rattle.std.proofs.Common.{◌≡◌, ◌<◌, ℕ, List, [], length, Option, None, Some, sym, ap, ◌∙◌}
 use Rattle.std.specs.List.{position_from}
 use Rattle.std.specs.List.Sorted.{IsNonDecreasingBy}
@@ -29,7 +29,7 @@ pub func_within : (lines : List SymLine) (x func : ℕ) → func_place lines x �
 unfolding func_place
 func_within lines x func h = let d : SymLine = Change 0 [] in (position-Some (is_func_at x) lines func d h).0
 
--- the maps of an index find the places that the scans find
+-- The maps of an index give the places that a scan finds.
 pub funcs_map : (lines : List SymLine) (map : Stepping (Option FirstItem)) → IsPlaceMap (λ x. position_from (is_at kind.Functions x) 0 lines) map → IsPlaceMap (func_place lines) map
 unfolding func_place
 funcs_map lines map h = record { places = λ x l. h.places x l ∙ sym (position_from-zero (is_func_at x) lines) }
@@ -38,7 +38,7 @@ pub inits_map : (lines : List SymLine) (map : Stepping (Option FirstItem)) → I
 unfolding init_place
 inits_map lines map h = record { places = λ x l. h.places x l ∙ sym (position_from-zero (is_init_at x) lines) }
 
--- a run by a map is one by the scans
+-- An interval of a map is one of the scans.
 pub run_of_map : (find : ℕ → Option ℕ) (map : Stepping (Option FirstItem)) (x : ℕ) (run : PlaceRun) → IsPlaceMap find map → IsPlaceRun (place_in map) x run → IsPlaceRun find x run
 run_of_map find map x run is told = record { above = told.above; places = λ y low fits before. sym (is.places y fits) ∙ told.places y low fits before }
 
@@ -50,7 +50,7 @@ marks_found lines starts publics s p f g = record {
   public = λ x. sym (public_by_marks lines x (mark_at publics x) (mark_at starts x) (sym (g x)) (sym (f x)));
 }
 
--- the cases of an answer
+-- The cases of an answer.
 pub answer_function : (lines : List SymLine) (x func : ℕ) → func_place lines x ≡ Some func → answer_of lines x ≡ answer.Function func (chain_places lines func x) (line_place lines func x)
 unfolding answer_of
 answer_function lines x func h = ap (λ place. option_map_or (λ func. answer.Function func (chain_places lines func x) (line_place lines func x)) place (option_map_or answer.Public (public_place lines x) answer.Nothing)) h

@@ -1,4 +1,4 @@
--- Lemmas on the stretches of INLINE records, level by level.
+-- The stretches of INLINE records, level by level.
 use Rattle.std.proofs.Common.{◌≡◌, ◌+◌, ◌<◌, ◌≤◌, ◌^◌, ◌++◌, ◌==◌, ℕ, zero, suc, Bool, true, false, cond, List, [], ◌∷◌, length, get_or, set, drop, Option, None, Some, Result, Ok, Err, refl, sym, ap, subst, ◌∙◌, arith, append-nil}
 use Rattle.std.specs.Global.{Vec}
 use Rattle.std.specs.List.{position_from, slice_get}
@@ -23,7 +23,7 @@ use Rattle.sym_lookup.proofs.StretchLemmas.{records_more, records_all, records_f
 abbrev Leveled : Type 0
 Leveled = List (Vec Stretch)
 
--- levels without a stretch
+-- Levels without stretches.
 pub none_empty : AreEmpty []
 none_empty = record { none = λ level. tt }
 
@@ -36,7 +36,7 @@ empty_pushed (w ∷ leveled) v is (suc level) h all = empty_pushed leveled v is 
 pub empty_more : (leveled next : Leveled) (v : Vec Stretch) → v.items ≡ [] → next ≡ leveled ++ v ∷ [] → AreEmpty leveled → AreEmpty next
 empty_more leveled next v is n before = record { none = λ level. subst (λ l. IfSome (bucket l level) (λ s. s ≡ [])) (sym n) (empty_pushed leveled v is level (before.none level) before.none) }
 
--- what is added to each level
+-- What is added to each level.
 abbrev pub AddsLine : ℕ → SymLine → Leveled → Leveled → Type 0
 AddsLine index line old new = (level : ℕ) → bucket new level ≡ option_map (λ s. s ++ extent_stretches index (extents_of (kind.Level level) line)) (bucket old level)
 
@@ -130,12 +130,11 @@ some_there found s is h = subst (λ f. IfSome f AreStretches) is h
 pub have_there : (leveled : Leveled) (own : ℕ) (v : Vec Stretch) → own < length leveled → v ≡ get_or leveled own v → HaveStretches leveled → AreStretches v.items
 have_there leveled own v l is have = some_there (bucket leveled own) v.items (bucket_there leveled own v l is) (have.some own)
 
--- what follows from an answer that is Ok
 pub then_ok : {A E P Q : Type 0} (result : Result A E) → OnOk result P → (P → Q) → OnOk result Q
 then_ok (Ok x) p f = f p
 then_ok (Err e) p f = tt
 
--- record by record
+-- The stretches of the records so far.
 pub record AreLeveledTo (first at : ℕ) (records : List SymLine) (leveled : Leveled) : Type 0 where
   pub have : HaveStretches leveled
   pub same : (level : ℕ) → IfSome (bucket leveled level) (λ s. s ++ stretches_of (kind.Level level) (first + at) (drop at records) ≡ stretches_of (kind.Level level) first records)
@@ -169,18 +168,18 @@ all_one first at level records (Some s) l h = records_all (kind.Level level) rec
 pub leveled_all : (first at : ℕ) (records : List SymLine) (leveled : Leveled) → length records ≤ at → AreLeveledTo first at records leveled → AreLeveled first records leveled
 leveled_all first at records leveled l before = record { have = before.have; same = λ level. all_one first at level records (bucket leveled level) l (before.same level) }
 
--- a level that has a map, or none
+-- A level with a map, and one without.
 pub no_map : (level first : ℕ) (records : List SymLine) (found : Option (Stepping (Option FirstItem))) → found ≡ None → IsLevelMap level first records found → (x : ℕ) → x < 2 ^ 64 → position_from (is_inline_at level x) first records ≡ None
 no_map level first records found is h = subst (IsLevelMap level first records) is h
 
 pub some_map : (level first : ℕ) (records : List SymLine) (found : Option (Stepping (Option FirstItem))) (map : Stepping (Option FirstItem)) → found ≡ Some map → IsLevelMap level first records found → IsPlaceMap (λ x. position_from (is_at (kind.Level level) x) first records) map
 some_map level first records found map is h = subst (IsLevelMap level first records) is h
 
--- a level without a stretch
+-- A level without a stretch.
 pub level_none : (level first : ℕ) (records : List SymLine) (stretches : List Stretch) → length stretches ≡ 0 → stretches ≡ stretches_of (kind.Level level) first records → (x : ℕ) → x < 2 ^ 64 → position_from (is_inline_at level x) first records ≡ None
 level_none level first records [] none is x fits = sym (records_found (kind.Level level) first records x fits) ∙ ap (λ s. index_at s x) (sym is) ∙ none_at x
 level_none level first records (s ∷ stretches) none is x fits = absurd (omega arith)
 
--- the stretches that are held of a level
+-- The stretches that the list has for a level.
 pub held_there : (leveled : Leveled) (level : ℕ) (v : Vec Stretch) (P : List Stretch → Type 0) → slice_get leveled level ≡ Some v → IfSome (bucket leveled level) P → P v.items
 held_there leveled level v P is h = subst (λ (f : Option (Vec Stretch)). IfSome (option_map (λ (w : Vec Stretch). w.items) f) P) is h

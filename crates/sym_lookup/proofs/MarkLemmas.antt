@@ -1,4 +1,4 @@
--- Marks in the order of their addresses, and in that of their records.
+-- Marks sorted by their keys, and in the order of their records.
 use Rattle.std.proofs.Common.{◌≡◌, ℕ, zero, suc, ◌+◌, ◌-◌, ◌<◌, ◌≤◌, ◌==◌, not, ◌&&◌, nat_le, nat_lt, Bool, cond, true, false, List, [], ◌∷◌, ◌++◌, length, get_or, drop, Option, Some, None, refl, sym, ◌∙◌, ap, subst, inl, inr, arith, append_assoc, append-nil, drop-cons}
 use Rattle.std.specs.List.{filter}
 use Rattle.std.specs.List.Sorted.{IsNonDecreasingBy, IsPartitionPoint, IsStableByKey, ties}
@@ -14,7 +14,7 @@ use Rattle.sym_lookup.specs.declared.marks.Marked.{Marked}
 use Rattle.sym_lookup.specs.internal.Marks.{key_of, mark_of, marks_of}
 use Rattle.sym_lookup.specs.NearestMarks.{nearer_mark, mark_at}
 
--- one more record
+-- The mark of one more record.
 pub marks_more : (kind : Marked) (at : ℕ) (lines : List SymLine) (line : SymLine) (done next all : List Mark) → done ++ marks_of kind at (drop at lines) ≡ all → line ≡ get_or lines at line → at < length lines → next ≡ done ++ mark_of at (key_of kind line)
     → next ++ marks_of kind (at + 1) (drop (at + 1) lines) ≡ all
 marks_more kind at lines line done next all h is l n =
@@ -35,14 +35,14 @@ none_left kind (s ∷ lines) n (suc at) l = none_left kind lines n at (omega ari
 pub marks_all : (kind : Marked) (lines : List SymLine) (n at : ℕ) (done all : List Mark) → done ++ marks_of kind n (drop at lines) ≡ all → length lines ≤ at → done ≡ all
 marks_all kind lines n at done all h l = sym (append-nil done) ∙ ap (λ xs. done ++ xs) (sym (none_left kind lines n at l)) ∙ h
 
--- no mark at or below the address
+-- There is no mark at or below the key.
 pub no_mark : (marks : List Mark) (x : ℕ) → ((k : ℕ) (d : Mark) → k < length marks → x < (get_or marks k d).key) → mark_at marks x ≡ None
 unfolding mark_at
 no_mark [] x above = refl
 no_mark (m ∷ marks) x above =
     ap (λ b. nearer_mark (cond b (Some m) None) (mark_at marks x)) (lt-leb m.key x (above 0 m (omega arith))) ∙ no_mark marks x (λ k d l. above (suc k) d (omega arith))
 
--- a mark, if it is there, lies at or below an address
+-- A mark that was found has a key at or below the one looked up.
 abbrev pub IsUpTo : ℕ → Option Mark → Type 0
 IsUpTo v None = Unit {0}
 IsUpTo v (Some s) = s.key ≤ v
@@ -78,7 +78,7 @@ later_kept : (m t : Mark) (b : Bool) → m.key < t.key → nearer_mark (cond b (
 later_kept m t true l = ap (λ b. cond b (Some t) (Some m)) (lt-ltb m.key t.key l)
 later_kept m t false l = refl
 
--- the mark at an index is the nearest, and no earlier one is at its address
+-- The mark at an index is the nearest, and no earlier one has its key.
 pub mark_is : (marks : List Mark) (x at : ℕ) (d : Mark) → at < length marks → (get_or marks at d).key ≤ x
     → ((k : ℕ) (e : Mark) → k < length marks → (get_or marks k e).key ≤ x → (get_or marks k e).key ≤ (get_or marks at d).key)
     → ((k : ℕ) (e : Mark) → k < at → (get_or marks k e).key < (get_or marks at d).key) → mark_at marks x ≡ Some (get_or marks at d)
@@ -101,14 +101,14 @@ unfolding mark_at
 mark_nearest [] a = refl
 mark_nearest (m ∷ marks) a = nearer_is (cond (nat_le m.key a) (Some m) None) (mark_at marks a) ∙ ap (nearer nat_lt (λ m. m.key) (cond (nat_le m.key a) (Some m) None)) (mark_nearest marks a)
 
--- a stable sort keeps the mark that counts
+-- A stable sort does not change the mark that counts.
 pub mark_same : (xs ys : List Mark) → IsStableByKey (λ m. m.key) nat_cmp xs ys → (a : ℕ) → mark_at ys a ≡ mark_at xs a
 mark_same xs ys stable a =
     mark_nearest ys a
     ∙ nearest_sorted nat_lt (λ m. m.key) first_counts (λ v. record { key = v; place = 0 }) (λ v. refl) xs ys stable a
     ∙ sym (mark_nearest xs a)
 
--- a search by halves: so many marks lie at or below the address, and so many below the nearest one's
+-- Binary search for the nearest key, and then for the first mark with this key.
 above_of : (a b : ℕ) → nat_le a b ≡ false → b < a
 above_of a b h = grind (arith, nat_tests)
 

@@ -1,4 +1,4 @@
--- The places of an answer name what a look-up in the text names.
+-- The records of an answer give the names that `sym_meaning` defines.
 use Rattle.std.proofs.Common.{◌≡◌, ◌+◌, ℕ, zero, suc, Bool, true, false, cond, List, [], ◌∷◌, drop, map, Option, None, Some, refl, sym, ap, subst, ◌∙◌, arith}
 use Rattle.std.specs.List.{find, position_from, slice_get}
 use Rattle.std.specs.Option.{option_map, option_map_or, option_and_then}
@@ -10,12 +10,12 @@ use Rattle.sym_lookup.specs.declared.answers.Answer.TheVariants as answer
 use Rattle.sym_lookup.specs.Answers.{chain_from, chain_places, line_place, func_place, public_place, answer_of}
 use Rattle.sym_lookup.specs.AnswerTexts.{call_at, owner_of, calls_of, line_of}
 
--- records that stand in a list from a place on
+-- The records are those of a list from a place on.
 abbrev pub IsPart : List SymLine → ℕ → List SymLine → Type 0
 IsPart lines first [] = Unit {0}
 IsPart lines first (s ∷ records) = (slice_get lines first ≡ Some s) × IsPart lines (first + 1) records
 
--- a record of a list, and its place there
+-- The record is that of a list at a place.
 abbrev pub IsPlaceOf : List SymLine → Option SymLine → Option ℕ → Type 0
 IsPlaceOf lines None None = Unit {0}
 IsPlaceOf lines None (Some place) = ⊥
@@ -30,7 +30,7 @@ place_found p lines (s ∷ records) first part = go (p s) (place_found p lines r
     go true later = part.0
     go false later = later
 
--- the record at a place, and what stands after it
+-- The record at a place, and the records after it.
 drop_step : (lines : List SymLine) (n : ℕ) (s : SymLine) (rest : List SymLine) → drop n lines ≡ s ∷ rest → (slice_get lines n ≡ Some s) × (drop (suc n) lines ≡ rest)
 drop_step [] zero s rest e = cc
 drop_step [] (suc n) s rest e = cc
@@ -61,7 +61,7 @@ part_under lines (s ∷ rest) n part = tt
 under_part : (lines : List SymLine) (n : ℕ) → IsPart lines n (under (drop n lines))
 under_part lines n = part_under lines (drop n lines) n (part_from lines (drop n lines) n refl)
 
--- the function that a look-up names, and its place
+-- The function that `sym_meaning` defines is that at the place.
 abbrev pub IsFuncOf : List SymLine → Option Found → Option ℕ → Type 0
 IsFuncOf lines None None = Unit {0}
 IsFuncOf lines None (Some place) = ⊥
@@ -85,7 +85,7 @@ pub func_at : (lines : List SymLine) (x : ℕ) → IsFuncOf lines (text_func lin
 unfolding func_place
 func_at lines x = let P : Option ℕ → Type 0 = IsFuncOf lines (text_func lines x) in subst P (sym (position_from-zero (is_func_at x) lines)) (func_found lines x lines 0 refl)
 
--- an answer that is no function names nothing
+-- An answer without a function has no names.
 no_owner : (lines : List SymLine) (place : Option ℕ) → owner_of lines (option_map_or answer.Public place answer.Nothing) ≡ None
 unfolding owner_of
 no_owner lines None = refl
@@ -101,7 +101,7 @@ unfolding line_of
 no_line lines None = refl
 no_line lines (Some place) = refl
 
--- the function
+-- The name of the function.
 owner_at : (lines : List SymLine) (x : ℕ) (f : Option Found) (place : Option ℕ) → IsFuncOf lines f place
     → option_map (λ (g : Found). func_name g.func) f ≡ owner_of lines (option_map_or (λ func. answer.Function func (chain_places lines func x) (line_place lines func x)) place (option_map_or answer.Public (public_place lines x) answer.Nothing))
 unfolding owner_of
@@ -114,7 +114,7 @@ pub owner_named : (lines : List SymLine) (x : ℕ) → text_owner lines x ≡ ow
 unfolding text_owner answer_of
 owner_named lines x = owner_at lines x (text_func lines x) (func_place lines x) (func_at lines x)
 
--- the line
+-- The path and the line.
 place_got : (lines : List SymLine) (s : Option SymLine) (place : Option ℕ) → IsPlaceOf lines s place → s ≡ option_and_then (slice_get lines) place
 place_got lines None None h = refl
 place_got lines None (Some place) h = absurd h
@@ -140,7 +140,7 @@ pub line_named : (lines : List SymLine) (x : ℕ) → text_line lines x ≡ line
 unfolding text_line answer_of
 line_named lines x = line_where lines x (text_func lines x) (func_place lines x) (func_at lines x)
 
--- the calls
+-- The inlined calls.
 calls_step : (lines : List SymLine) (s : Option SymLine) (place : Option ℕ) (later : List SymLine) (places : List ℕ) → IsPlaceOf lines s place → map (call_of lines) later ≡ map (call_at lines) places
     → map (call_of lines) (option_map_or (λ t. t ∷ later) s []) ≡ map (call_at lines) (option_map_or (λ p. p ∷ places) place [])
 calls_step lines None None later places h e = refl

@@ -1,4 +1,5 @@
--- FILE and INLINE_ORIGIN records by their numbers; for `numbers_of`, `numbered_file` and `numbered_origin`.
+-- FILE and INLINE_ORIGIN records by their numbers (for `numbers_of`, `numbered_file` and
+-- `numbered_origin`).
 use Rattle.std.proofs.Common.{◌≡◌, ℕ, ◌+◌, ◌<◌, ◌≤◌, ◌==◌, nat_le, nat_lt, Bool, cond, true, false, List, [], ◌∷◌, length, Option, Some, None, refl, sym, ◌∙◌, ap, inl, inr, arith, slice_get}
 use Rattle.std.specs.List.{find, position, position_from, position_or_len}
 use Rattle.std.specs.Option.{option_and_then}
@@ -16,7 +17,7 @@ use Rattle.sym_lookup.specs.internal.Marks.{marks_of}
 use Rattle.sym_lookup.specs.NearestMarks.{nearer_mark, mark_at, numbered}
 use Rattle.sym_lookup.proofs.MarkLemmas.{IsUpTo, bounded}
 
--- one more record with a number, in front of others
+-- One more record with a number, before others.
 abbrev one : ℕ → ℕ → Mark
 one number place = record { key = number; place = place }
 
@@ -67,14 +68,14 @@ origin_is n (Origin number name ∷ lines) x =
     step x number n (mark_at (marks_of marked.Origins (n + 1) lines) x) (bounded (marks_of marked.Origins (n + 1) lines) x x (λ k d l h. h)) ∙ ap (λ o. cond (number == x) (Some n) o) (origin_is (n + 1) lines x)
 origin_is n (_ ∷ lines) x = origin_is (n + 1) lines x
 
--- marks that are found as those of the records
+-- Marks that give the same as those of the records.
 pub file_numbered : (lines : List SymLine) (files : List Mark) → ((x : ℕ) → mark_at files x ≡ mark_at (marks_of marked.Files 0 lines) x) → (x : ℕ) → numbered x (mark_at files x) ≡ position (is_file x) lines
 file_numbered lines files same x = ap (numbered x) (same x) ∙ file_is 0 lines x ∙ sym (position_from-zero (is_file x) lines)
 
 pub origin_numbered : (lines : List SymLine) (origins : List Mark) → ((x : ℕ) → mark_at origins x ≡ mark_at (marks_of marked.Origins 0 lines) x) → (x : ℕ) → numbered x (mark_at origins x) ≡ position (is_origin x) lines
 origin_numbered lines origins same x = ap (numbered x) (same x) ∙ origin_is 0 lines x ∙ sym (position_from-zero (is_origin x) lines)
 
--- the record at the first place that passes a test is the first that does
+-- The record at the first place that passes a test is the first that passes it.
 pub found_at : (p : SymLine → Bool) (lines : List SymLine) → option_and_then (slice_get lines) (position p lines) ≡ find p lines
 found_at p lines = by_test (nat_lt (position_or_len p lines) (length lines)) refl
   where

@@ -1,4 +1,4 @@
--- Lemmas on the parts of an answer.
+-- The parts of an answer.
 use Rattle.std.proofs.Common.{◌≡◌, ◌<◌, ◌^◌, ℕ, Bool, List, length, Option, sym, ap, subst, ◌∙◌}
 use Rattle.sym_records.specs.declared.line.SymLine.{SymLine}
 use Rattle.step_maps.specs.Stepping.{Stepping}

@@ -1,4 +1,4 @@
--- Lemmas on the places of records that a scan finds.
+-- The places of the records that a scan finds.
 use Rattle.std.proofs.Common.{◌≡◌, ◌+◌, ◌-◌, ◌<◌, ◌≤◌, ◌++◌, ℕ, zero, suc, Bool, true, false, cond, List, [], ◌∷◌, length, get_or, drop, None, Some, refl, sym, ap, ◌∙◌, arith, drop-cons, append_assoc, append-nil}
 use Rattle.std.specs.List.{position_from}
 use Rattle.sym_records.specs.declared.line.SymLine.{SymLine}
@@ -32,7 +32,7 @@ none_left p (s ∷ records) first (suc at) l = none_left p records first at (ome
 pub placed_none : (p : SymLine → Bool) (records : List SymLine) (first at : ℕ) → position_from p (first + at) (drop at records) ≡ position_from p first records → length records ≤ at → position_from p first records ≡ None
 placed_none p records first at e l = sym e ∙ none_left p records (first + at) at l
 
--- a level that has a record, and one that has none
+-- A level that has a record at the address, and one that has none.
 chain_at : (first x level levels place : ℕ) (records : List SymLine) → position_from (is_inline_at level x) first records ≡ Some place → chain_from first x level (suc levels) records ≡ place ∷ chain_from first x (level + 1) levels records
 chain_at first x level levels place records h = rw h refl
 

@@ -1,4 +1,4 @@
--- Lemmas on the PUBLIC in front of an address.
+-- The PUBLIC before an address, found by a scan.
 use Rattle.std.proofs.Common.{◌≡◌, ◌+◌, ◌<◌, ◌≤◌, ℕ, zero, suc, List, [], ◌∷◌, length, get_or, drop, Option, None, refl, sym, ap, ◌∙◌, arith, drop-cons}
 use Rattle.sym_records.specs.declared.line.SymLine.{SymLine}
 use Rattle.sym_lookup.specs.Answers.{nearer, nearest_public}

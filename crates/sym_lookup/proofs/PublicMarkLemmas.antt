@@ -1,4 +1,4 @@
--- The PUBLIC in front of an address, by marks.
+-- The PUBLIC before an address, found by marks.
 use Rattle.std.proofs.Common.{◌≡◌, ℕ, ◌+◌, ◌≤◌, ◌==◌, ◌&&◌, ◌||◌, max, nat_le, nat_lt, Bool, cond, true, false, List, [], ◌∷◌, Option, Some, None, refl, ◌∙◌, ap, subst, arith}
 use Rattle.std.specs.List.{list_any, position, position_from}
 use Rattle.std.specs.Option.{option_map, option_map_or, option_and_then}
@@ -13,7 +13,7 @@ use Rattle.sym_lookup.specs.internal.Marks.{marks_of}
 use Rattle.sym_lookup.specs.NearestMarks.{nearer_mark, mark_at, public_of}
 use Rattle.sym_lookup.proofs.MarkLemmas.{IsUpTo, bounded}
 
--- the nearest PUBLIC
+-- The address of the nearest PUBLIC.
 max_is : (a b : ℕ) → max a b ≡ cond (nat_lt a b) b a
 max_is a b = grind (arith, nat_tests)
 
@@ -33,7 +33,7 @@ nearest_is n (Public many address params name ∷ lines) x =
     ap (λ o. cond (nat_le address x) (greater address o) o) (nearest_is (n + 1) lines x) ∙ nearest_step (nat_le address x) (record { key = address; place = n }) (mark_at (marks_of marked.Publics (n + 1) lines) x)
 nearest_is n (_ ∷ lines) x = nearest_is (n + 1) lines x
 
--- whether a FUNC begins from an address on
+-- Whether a FUNC begins at or after an address.
 either_le : (a m t : ℕ) → (nat_le a m || nat_le a t) ≡ cond (nat_lt m t) (nat_le a t) (nat_le a m)
 either_le a m t = grind (arith, nat_tests)
 
@@ -65,7 +65,7 @@ begins_is n (Func many address size params name ∷ lines) a x =
     ap (λ c. (nat_le a address && nat_le address x) || c) (begins_is (n + 1) lines a x) ∙ begins_step a (nat_le address x) (record { key = address; place = n }) (mark_at (marks_of marked.Functions (n + 1) lines) x)
 begins_is n (_ ∷ lines) a x = begins_is (n + 1) lines a x
 
--- the first PUBLIC of the nearest one's address
+-- The first PUBLIC at the address of the nearest one.
 same_number : (a : ℕ) → (a == a) ≡ true
 same_number a = grind (arith, nat_tests)
 
@@ -91,7 +91,7 @@ some_same : (s t : Mark) → Some s ≡ Some t → s ≡ t
 unfolding value_in
 some_same s t e = ap (value_in s) e
 
--- the step at a PUBLIC: `at` is the test of an address
+-- One more record, which is a PUBLIC.
 place_step : (x address n : ℕ) (b : Bool) (later : Option Mark) (m : Mark) (rest : ℕ → Option ℕ) → nat_le address x ≡ b → IsUpTo x later → ((t : Mark) → later ≡ Some t → rest t.key ≡ Some t.place)
     → nearer_mark (cond b (Some (record { key = address; place = n })) None) later ≡ Some m → cond (address == m.key) (Some n) (rest m.key) ≡ Some m.place
 place_step x address n true None m rest test up go e =
@@ -120,7 +120,7 @@ place_is n (_ ∷ lines) x m e = place_is (n + 1) lines x m e
 place_first : (lines : List SymLine) (x : ℕ) (m : Mark) → mark_at (marks_of marked.Publics 0 lines) x ≡ Some m → position (is_public_of m.key) lines ≡ Some m.place
 place_first lines x m e = position_from-zero (is_public_of m.key) lines ∙ place_is 0 lines x m e
 
--- all together
+-- The result for all records.
 by_func : (lines : List SymLine) (x : ℕ) (m : Mark) (func : Option Mark) → position (is_public_of m.key) lines ≡ Some m.place
     → cond (option_map_or (λ (s : Mark). nat_le m.key s.key) func false) None (position (is_public_of m.key) lines) ≡ public_of (Some m) func
 by_func lines x m None e = e

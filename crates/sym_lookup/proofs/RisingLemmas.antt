@@ -1,4 +1,4 @@
--- Lemmas on line records that rise and do not meet.
+-- Line records that are ascending and disjoint.
 use Rattle.std.proofs.Common.{◌≡◌, ◌+◌, ◌<◌, ◌≤◌, ◌&&◌, nat_le, nat_lt, ℕ, zero, suc, Bool, true, false, cond, List, [], ◌∷◌, length, get_or, drop, None, Some, refl, sym, ap, subst, ◌∙◌, inl, inr, arith, drop-cons}
 use Rattle.std.specs.List.{position_from}
 use Rattle.std.specs.List.Sorted.{IsNonDecreasingBy, IsPartitionPoint}
@@ -16,7 +16,7 @@ rising_cons : (low end : ℕ) (s : SymLine) (records : List SymLine) → RisesTo
 rising_cons low end (Line address size line file) records h later = (h.0, subst (λ e. AreRising e records) h.1 later)
 rising_cons low end s records h later = h
 
--- one more record
+-- One more record.
 pub rising_more : (low end at : ℕ) (records : List SymLine) (line : SymLine) → (AreRising low (drop at records) → AreRising 0 records) → line ≡ get_or records at line → at < length records → RisesTo low line (Some end) → AreRising end (drop (at + 1) records) → AreRising 0 records
 rising_more low end at records line before is l h later =
     let cut : drop at records ≡ line ∷ drop (suc at) records = drop-cons records at line l ∙ ap (λ s. s ∷ drop (suc at) records) (sym is) in
@@ -32,7 +32,7 @@ none_left (s ∷ records) low (suc at) l = none_left records low at (omega arith
 pub rising_all : (records : List SymLine) (low at : ℕ) → (AreRising low (drop at records) → AreRising 0 records) → length records ≤ at → AreRising 0 records
 rising_all records low at before l = before (none_left records low at l)
 
--- an INLINE is no line record
+-- An INLINE is not a line record.
 no_line : (x : ℕ) (s : SymLine) → is_inline s ≡ true → is_line_at x s ≡ false
 no_line x (Inline level line file origin ranges) h = refl
 no_line x (Line address size line file) h = cc
@@ -42,7 +42,7 @@ pub skip_more : (at : ℕ) (records : List SymLine) (line : SymLine) → ((first
     → (first x : ℕ) → position_from (is_line_at x) (first + (at + 1)) (drop (at + 1) records) ≡ position_from (is_line_at x) first records
 skip_more at records line before is l h first x = placed_more (is_line_at x) records first at line (before first x) is l (no_line x line h)
 
--- starts and ends
+-- The starts and the ends of the records ascend.
 from_low : (low : ℕ) (records : List SymLine) → AreRising low records → (k : ℕ) (d : SymLine) → k < length records → (low ≤ line_start (get_or records k d)) × (line_start (get_or records k d) ≤ line_end (get_or records k d))
 from_low low [] rises k d l = absurd (omega arith)
 from_low low (Line address size line file ∷ records) rises zero d l = (rises.0, omega arith)
@@ -53,7 +53,7 @@ from_low low (Line address size line file ∷ records) rises (suc k) d l =
     (omega arith, later.1)
 from_low low (s ∷ records) rises k d l = absurd rises
 
--- a later record begins at or behind the end of an earlier one
+-- A later record begins at or after the end of an earlier one.
 tail_rises : (low : ℕ) (s : SymLine) (records : List SymLine) → AreRising low (s ∷ records) → AreRising (line_end s) records
 tail_rises low (Line address size line file) records rises = rises.1
 tail_rises low s records rises = absurd rises
@@ -70,7 +70,7 @@ ends_rise low records rises i j d up h = elim (cases_lt i j) [
   | inr le ↦ (let same : i ≡ j = omega arith in subst (λ n. line_end (get_or records i d) ≤ line_end (get_or records n d)) same (omega arith))
 ]
 
--- a record that ends at or below an address, or begins above it, does not cover it
+-- A record that ends at or below an address, or begins above it, does not cover it.
 ended : (x : ℕ) (s : SymLine) → nat_le (line_end s) x ≡ true → is_line_at x s ≡ false
 ended x (Line address size line file) h = past address size x h
   where
@@ -85,7 +85,6 @@ ahead x (Line address size line file) h = above address size x h
     above a s x h = grind (arith, nat_tests)
 ahead x _ h = refl
 
--- the first record that passes a test
 pub first_at : (p : SymLine → Bool) (records : List SymLine) (first at : ℕ) (d : SymLine) → at < length records → p (get_or records at d) ≡ true → ((k : ℕ) → k < at → p (get_or records k d) ≡ false) → position_from p first records ≡ Some (first + at)
 first_at p [] first at d l h none = absurd (omega arith)
 first_at p (s ∷ records) first zero d l h none = let one : first ≡ first + 0 = omega arith in ap (λ b. cond b (Some first) (position_from p (first + 1) records)) h ∙ ap Some one

@@ -1,4 +1,4 @@
--- Lemmas on the run of addresses between two stops of a map.
+-- The addresses between two stops of a map.
 use Rattle.std.proofs.Common.{◌≡◌, ◌≢◌, ◌+◌, ◌-◌, ◌<◌, ◌≤◌, ℕ, true, false, nat_le, List, length, get_or, Option, None, sym, ap, subst, ◌∙◌, arith, inl, inr}
 use Rattle.std.specs.List.{slice_get}
 use Rattle.std.specs.Option.{option_map}
@@ -10,14 +10,14 @@ use Rattle.step_maps.specs.declared.stretch.FirstItem.{FirstItem}
 use Rattle.step_maps.proofs.SteppingLemmas.{Point, held_below_first, held_at_index}
 use Rattle.sym_lookup.specs.PlaceMaps.{place_in, IsBefore, IsPlaceRun}
 
--- the stops up to a place are not above the address, and the others are
+-- The stops before the partition point are at or below the address, and the others above it.
 low_stop : (stops : List ℕ) (x i k : ℕ) → Point stops x i → k < i → get_or stops k 0 ≤ x
 low_stop stops x i k point l = let is : nat_le (get_or stops k 0) x ≡ true = point.0 k 0 (omega arith) l in grind (arith, nat_tests)
 
 high_stop : (stops : List ℕ) (x i k : ℕ) → Point stops x i → i ≤ k → k < length stops → x < get_or stops k 0
 high_stop stops x i k point l m = let is : nat_le (get_or stops k 0) x ≡ false = point.1 k 0 l m in grind (arith, nat_tests)
 
--- so the address is below the next stop
+-- The address is below the next stop.
 above_by : (stops : List ℕ) (x i : ℕ) → Point stops x i → IsBefore (slice_get stops i) x
 above_by stops x i point = elim (cases_lt i (length stops)) [
   | inl l ↦ subst (λ o. IsBefore o x) (sym (slice_get-get_or stops i 0 l)) (high_stop stops x i i point (omega arith) l)
@@ -27,7 +27,7 @@ above_by stops x i point = elim (cases_lt i (length stops)) [
 below_next : (stops : List ℕ) (i y : ℕ) → IsBefore (slice_get stops i) y → i < length stops → y < get_or stops i 0
 below_next stops i y before l = subst (λ o. IsBefore o y) (slice_get-get_or stops i 0 l) before
 
--- below the first stop there is no record
+-- Below the first stop there is no record.
 pub run_in_front : (map : Stepping (Option FirstItem)) (stops : List ℕ) (x i : ℕ) (end : Option ℕ) → IsStepping map.stops map.values → stops ≡ map.stops → Point stops x i → i ≡ 0 → end ≡ slice_get stops i
     → IsPlaceRun (place_in map) x (record { place = None; end = end })
 run_in_front map stops x i end stepping same point none is =
@@ -41,7 +41,7 @@ run_in_front map stops x i end stepping same point none is =
           ap (option_map (λ (item : FirstItem). item.index)) (held_below_first None map.stops map.values y stepping first);
     }
 
--- from a stop on it is the one of the stop
+-- From a stop up to the next one, the record is that of the stop.
 pub run_from_stop : (map : Stepping (Option FirstItem)) (stops : List ℕ) (values : List (Option FirstItem)) (x i : ℕ) (end place : Option ℕ) (d : Option FirstItem) → IsStepping map.stops map.values → stops ≡ map.stops → values ≡ map.values → Point stops x i
     → i ≢ 0 → i ≤ length stops → end ≡ slice_get stops i → place ≡ option_map (λ (item : FirstItem). item.index) (get_or values (i - 1) d) → IsPlaceRun (place_in map) x (record { place = place; end = end })
 run_from_stop map stops values x i end place d stepping same these point some within is named =

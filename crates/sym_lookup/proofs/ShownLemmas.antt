@@ -1,4 +1,4 @@
--- The text of an answer shows what a look-up in the text names.
+-- The text of an answer shows the names that `sym_meaning` defines.
 use Rattle.std.proofs.Common.{◌≡◌, ◌++◌, ℕ, List, [], ◌∷◌, map, reverse, Option, None, Some, refl, sym, ap, ◌∙◌}
 use Rattle.std.proofs.lemmas.List.{reverse-append, map-append}
 use Rattle.sym_records.specs.declared.line.SymLine.{SymLine}

@@ -1,4 +1,4 @@
--- Lemmas on the stretches of records.
+-- The stretches of records.
 use Rattle.std.proofs.Common.{◌≡◌, ◌+◌, ◌<◌, ◌≤◌, ◌^◌, ◌++◌, ◌==◌, ◌&&◌, ◌||◌, ℕ, zero, suc, Bool, true, false, cond, List, [], ◌∷◌, length, get_or, drop, Option, None, Some, refl, sym, ap, ◌∙◌, arith, append_assoc, append-nil, drop-cons}
 use Rattle.std.specs.List.{position_from, list_any}
 use Rattle.std.specs.Option.{option_map, option_or}
@@ -18,7 +18,7 @@ use Rattle.sym_lookup.specs.declared.stretches.Kind.TheVariants as kind
 use Rattle.sym_lookup.specs.internal.Kinds.{is_at, init_run, level_ranges, extents_of, stretch_of, extent_stretches, stretches_of}
 use Rattle.sym_lookup.specs.PlaceMaps.{IsPlaceMap}
 
--- one more range, and one more record
+-- One more range, and one more record.
 pub extents_more : (done : List Stretch) (n : ℕ) (e : Extent) (extents : List Extent) (all : List Stretch) → done ++ extent_stretches n (e ∷ extents) ≡ all → (done ++ stretch_of n e) ++ extent_stretches n extents ≡ all
 extents_more done n e extents all h = append_assoc done (stretch_of n e) (extent_stretches n extents) ∙ h
 
@@ -44,7 +44,7 @@ none_left kind (s ∷ records) n (suc at) l = none_left kind records n at (omega
 pub records_all : (kind : Kind) (records : List SymLine) (n at : ℕ) (done all : List Stretch) → done ++ stretches_of kind n (drop at records) ≡ all → length records ≤ at → done ≡ all
 records_all kind records n at done all h l = sym (append-nil done) ∙ ap (λ xs. done ++ xs) (sym (none_left kind records n at l)) ∙ h
 
--- a range has the addresses of its stretch
+-- A range has the same addresses as its stretch.
 one_range : (n : ℕ) (e : Extent) (x : ℕ) → x < 2 ^ 64 → index_at (stretch_of n e) x ≡ cond (is_within e.address e.size x) (Some n) None
 one_range n e x l = cut_at n e.address e.size x l
 
@@ -60,7 +60,7 @@ some_range n (e ∷ extents) x l =
     ∙ ap (λ o. option_or (cond (is_within e.address e.size x) (Some n) None) o) (some_range n extents x l)
     ∙ first_of_both (is_within e.address e.size x) (list_any (λ (e : Extent). is_within e.address e.size x) extents) n
 
--- a record of the kind has the addresses of its ranges
+-- A record of the kind has the addresses of its ranges.
 or_none : (b : Bool) → (b || false) ≡ b
 or_none true = refl
 or_none false = refl

@@ -1,4 +1,4 @@
--- Lemmas on the records directly under a FUNC.
+-- The records directly under a FUNC.
 use Rattle.std.proofs.Common.{◌≡◌, ◌+◌, ◌<◌, ◌≤◌, ◌++◌, ℕ, zero, suc, true, false, List, [], ◌∷◌, length, get_or, take, drop, refl, sym, ap, ◌∙◌, max, arith, add-one}
 use Rattle.sym_records.specs.declared.line.SymLine.{SymLine}
 use Rattle.sym_records.specs.declared.line.SymLine.TheVariants.{Inline, Line}

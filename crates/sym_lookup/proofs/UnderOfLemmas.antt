@@ -1,4 +1,4 @@
--- Lemmas on what stands under a FUNC.
+-- What is stored of the records under a FUNC.
 use Rattle.std.proofs.Common.{◌≡◌, ◌+◌, ◌-◌, ◌<◌, ◌≤◌, ◌^◌, ◌++◌, ℕ, zero, suc, List, [], ◌∷◌, length, get_or, take, drop, Option, None, Some, refl, sym, ap, subst, ◌∙◌, arith, append_assoc, append-nil, drop-cons}
 use Rattle.std.specs.List.{position_from}
 use Rattle.std.specs.Option.{option_map_or}
@@ -21,7 +21,7 @@ use Rattle.sym_lookup.proofs.RisingLemmas.{SkipsTo}
 abbrev pub Maps : Type 0
 Maps = List (Stepping (Option FirstItem))
 
--- the places that maps have, and what follows where all have one
+-- The places that maps give, followed by others if all maps give one.
 abbrev pub chain_then : Maps → ℕ → List ℕ → List ℕ
 chain_then [] x tail = tail
 chain_then (map ∷ maps) x tail = option_map_or (λ place. place ∷ chain_then maps x tail) (place_in map x) []
@@ -34,7 +34,7 @@ chain_pushed : (maps : Maps) (map : Stepping (Option FirstItem)) (x : ℕ) (tail
 chain_pushed [] map x tail = refl
 chain_pushed (m ∷ maps) map x tail = ap (λ later. option_map_or (λ place. place ∷ later) (place_in m x) []) (chain_pushed maps map x tail)
 
--- the levels below one are held
+-- The maps of the levels below `level` are made.
 abbrev pub LevelsTo : ℕ → List SymLine → ℕ → ℕ → Maps → Type 0
 LevelsTo first records count level maps = (x : ℕ) → x < 2 ^ 64 → chain_then maps x (chain_from first x level (count - level) records) ≡ chain_from first x 0 (level_count records) records
 
@@ -52,7 +52,7 @@ levels_more first level count records maps next map before is l n x fits =
     ∙ ap (chain_then maps x) (level_step first x level count records l)
     ∙ before x fits
 
--- a level that has nothing
+-- A level without records ends the levels.
 pub levels_stop : (first level count : ℕ) (records : List SymLine) (maps : Maps) → LevelsTo first records count level maps → ((x : ℕ) → x < 2 ^ 64 → position_from (is_inline_at level x) first records ≡ None) → (x : ℕ) → x < 2 ^ 64
     → chain_in maps x ≡ chain_from first x 0 (level_count records) records
 levels_stop first level count records maps before none x fits = chain_ends maps x ∙ ap (chain_then maps x) (sym (stops_at first x level (count - level) records (none x fits))) ∙ before x fits
@@ -62,7 +62,7 @@ levels_all first level count records maps before l x fits =
     let none : count - level ≡ 0 = omega arith in
     chain_ends maps x ∙ ap (λ n. chain_then maps x (chain_from first x level n records)) (sym none) ∙ before x fits
 
--- the places at an address, map by map
+-- The places at an address, map by map.
 map_at : (maps : Maps) (at x : ℕ) (map : Stepping (Option FirstItem)) → map ≡ get_or maps at map → at < length maps → chain_in (drop at maps) x ≡ option_map_or (λ place. place ∷ chain_in (drop (suc at) maps) x) (place_in map x) []
 map_at maps at x map is l = ap (λ ms. chain_in ms x) (drop-cons maps at map l ∙ ap (λ m. m ∷ drop (suc at) maps) (sym is))
 
@@ -92,7 +92,7 @@ none_left (m ∷ maps) (suc at) x l = none_left maps at x (omega arith)
 pub chain_all : (maps : Maps) (at x : ℕ) (done all : List ℕ) → done ++ chain_in (drop at maps) x ≡ all → length maps ≤ at → done ≡ all
 chain_all maps at x done all before l = sym (append-nil done) ∙ ap (λ ps. done ++ ps) (sym (none_left maps at x l)) ∙ before
 
--- what stands under a FUNC is the front of what stands behind it
+-- The records under a FUNC are the first of those after it.
 under_front : (rest : List SymLine) → under rest ≡ take (length (under rest)) rest
 under_front [] = refl
 under_front (Inline level line file origin ranges ∷ rest) = ap (λ rs. Inline level line file origin ranges ∷ rs) (under_front rest)

@@ -1,4 +1,4 @@
--- Worked rows: what a look-up answers, and the text that shows it.
+-- Worked examples: the answer at an address, and its text.
 use Rattle.std.proofs.Common.{◌≡◌, ℕ, List, [], ◌∷◌, Some, None, codes, false, refl}
 use Prim.Native.String.{String}
 use Rattle.sym_edges.proofs.Shown.{shown}
@@ -13,7 +13,7 @@ unfoldable look : List SymLine → ℕ → String
 unfolding shown
 look lines x = shown (answer_text lines (answer_of lines x))
 
--- a function with an inlined copy
+-- A function with an inlined copy.
 unfoldable called : List SymLine
 called =
     File 0 (codes "/s/a.c")
@@ -41,7 +41,7 @@ behind_it : look called 0x1020 ≡ "none\n"
 unfolding look called sym_lookup_computes
 behind_it = refl
 
--- a program of gcc: symbols in front of its function and behind it
+-- A program made by gcc: symbols before its function and after it.
 unfoldable hello : List SymLine
 hello =
     File 0 (codes "/home/u/hello.c")
@@ -73,7 +73,7 @@ behind_main : look hello 0x1150 ≡ "none\n"
 unfolding look hello sym_lookup_computes
 behind_main = refl
 
--- a FUNC behind a PUBLIC
+-- A FUNC after a PUBLIC.
 unfoldable parted : List SymLine
 parted = Public false 0x1000 0 (codes "p") ∷ Func false 0x1010 4 0 (codes "f") ∷ []
 
@@ -89,7 +89,7 @@ behind_the_func : look parted 0x1014 ≡ "none\n"
 unfolding look parted sym_lookup_computes
 behind_the_func = refl
 
--- two functions that overlap
+-- Two functions that overlap.
 unfoldable met : List SymLine
 met = Func false 0x1000 0x20 0 (codes "f") ∷ Func false 0x1010 0x20 0 (codes "g") ∷ []
 
@@ -101,7 +101,8 @@ in_the_second : look met 0x1028 ≡ "g at ?\n"
 unfolding look met sym_lookup_computes
 in_the_second = refl
 
--- a function at the last address, one that ends past it, and an empty one, which covers nothing, but begins
+-- A function at the last address, one that ends beyond it, and an empty one, which covers nothing
+-- but begins at an address.
 unfoldable ends : List SymLine
 ends =
     Public false 0x1000 0 (codes "p")
@@ -126,7 +127,7 @@ before_the_empty : look ends 0x1007 ≡ "public p\n"
 unfolding look ends sym_lookup_computes
 before_the_empty = refl
 
--- symbols of one address, out of order, and one where a function begins
+-- Symbols at one address, not in order, and one at which a function begins.
 unfoldable symbols : List SymLine
 symbols =
     Public false 0x3000 0 (codes "far")
@@ -144,8 +145,8 @@ at_a_function : look symbols 0x3000 ≡ "none\n"
 unfolding look symbols sym_lookup_computes
 at_a_function = refl
 
--- levels out of order, two copies of one level that overlap, a level 1 without a level 0; FILE and INLINE_ORIGIN records that are missing,
--- and numbers that are given twice
+-- Levels out of order, two copies of one level that overlap, and a level 1 without a level 0; FILE
+-- and INLINE_ORIGIN records that are missing, and numbers that are given twice.
 unfoldable levels : List SymLine
 levels =
     File 0 (codes "a.c")

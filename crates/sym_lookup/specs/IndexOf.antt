@@ -1,4 +1,5 @@
--- An index of a list of records: at each address of 64 bits it finds the records that the scans find.
+-- What an index of a list of records contains: at each address of 64 bits it gives the records that
+-- a scan of the list finds.
 use Rattle.std.specs.Prelude.{◌≡◌, ℕ, List, length}
 use Rattle.std.specs.List.{position}
 use Rattle.std.specs.List.Sorted.{IsNonDecreasingBy}
@@ -14,7 +15,8 @@ use Rattle.sym_lookup.specs.internal.HeldUnders.{AreHeld}
 use Rattle.sym_lookup.specs.PlaceMaps.{IsPlaceMap}
 use Rattle.sym_lookup.specs.NearestMarks.{mark_at, public_of, numbered}
 
--- marks, sorted by their keys, that give the result of `public_place` at each address
+-- marks of FUNC and of PUBLIC records, sorted by their keys, that give the result of `public_place`
+-- at each address
 pub record AreMarksOf (lines : List SymLine) (starts publics : List Mark) : Type 0 where
   pub starts_sorted : IsNonDecreasingBy (λ m. m.key) starts
   pub publics_sorted : IsNonDecreasingBy (λ m. m.key) publics
@@ -27,8 +29,9 @@ pub record AreNumbersOf (lines : List SymLine) (numbers : Numbers) : Type 0 wher
   pub file : (n : ℕ) → numbered n (mark_at numbers.files.items n) ≡ position (is_file n) lines
   pub origin : (n : ℕ) → numbered n (mark_at numbers.origins.items n) ≡ position (is_origin n) lines
 
--- the places of the first records at each address, what is under FUNC records, and the records of each number. `held` says for which FUNC records the
--- index stores what is under them; only speed depends on that
+-- an index has, for each address, the first FUNC and the first INIT there; the marks; what is under
+-- FUNC records; and the records of each number. `held` says for which FUNC records the index stores
+-- what is under them; only speed depends on that
 pub record IsIndexOf (lines : List SymLine) (index : Index) : Type 0 where
   pub funcs : IsPlaceMap (func_place lines) index.funcs
   pub inits : IsPlaceMap (init_place lines) index.inits

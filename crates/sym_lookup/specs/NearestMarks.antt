@@ -1,4 +1,5 @@
--- The nearest mark. A mark is a record's place with a key: the address at which the record begins, or its number.
+-- The nearest mark. A mark is the place of a record with a key, which is the address at which the
+-- record begins, or its number.
 use Rattle.std.specs.Prelude.{ℕ, ◌==◌, nat_le, nat_lt, if◌then◌else◌, List, [], ◌∷◌, Option, None, Some}
 use Rattle.sym_lookup.specs.declared.marks.Mark.{Mark}
 
@@ -13,13 +14,14 @@ unfoldable pub mark_at : List Mark → ℕ → Option Mark
 mark_at [] x = None
 mark_at (m ∷ marks) x = nearer_mark (if nat_le m.key x then Some m else None) (mark_at marks x)
 
--- the PUBLIC before an address, given the nearest PUBLIC and the nearest FUNC; none if that FUNC begins at or after that PUBLIC
+-- the place of the PUBLIC before an address, given the nearest PUBLIC and the nearest FUNC; none if
+-- that FUNC begins at or after that PUBLIC
 abbrev pub public_of : Option Mark → Option Mark → Option ℕ
 public_of None func = None
 public_of (Some m) None = Some m.place
 public_of (Some m) (Some func) = if nat_le m.key func.key then None else Some m.place
 
--- the place of the nearest mark, if its key is the number that was asked for
+-- the place of the nearest mark, if its key is the number n
 abbrev pub numbered : ℕ → Option Mark → Option ℕ
 numbered n None = None
 numbered n (Some m) = if m.key == n then Some m.place else None

@@ -1,4 +1,5 @@
--- Which record is the first at each address of 64 bits: as a map, and as an interval with one first record.
+-- Which record is the first at each address of 64 bits, as a map, and on an interval of addresses
+-- with the same first record.
 use Rattle.std.specs.Prelude.{◌≡◌, ℕ, ◌<◌, ◌≤◌, ◌^◌, Option, None, Some}
 use Rattle.std.specs.Option.{option_map}
 use Rattle.step_maps.specs.Stepping.{Stepping, value_at}
@@ -18,7 +19,8 @@ abbrev pub IsBefore : Option ℕ → ℕ → Type 0
 IsBefore None x = Unit {0}
 IsBefore (Some end) x = x < end
 
--- from an address up to an end above it (the last address if there is no end), `find` gives `run.place`
+-- from the address x up to `run.end`, which is above x, `find` gives `run.place`; if `run.end` is
+-- missing, up to the last address
 pub record IsPlaceRun (find : ℕ → Option ℕ) (x : ℕ) (run : PlaceRun) : Type 0 where
   pub above : IsBefore run.end x
   pub places : (y : ℕ) → x ≤ y → y < 2 ^ 64 → IsBefore run.end y → find y ≡ run.place

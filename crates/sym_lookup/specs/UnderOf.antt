@@ -1,4 +1,4 @@
--- What is under a FUNC, stored so that the records at an address are found by binary search.
+-- The records under a FUNC, stored so that those at an address are found by binary search.
 use Rattle.std.specs.Prelude.{◌≡◌, ℕ, ◌+◌, ◌-◌, ◌<◌, ◌≤◌, ◌^◌, List, [], ◌∷◌, length, take, drop, Option}
 use Rattle.std.specs.List.{position_from}
 use Rattle.std.specs.Option.{option_map_or}
@@ -22,21 +22,23 @@ chain_in (map ∷ maps) x = option_map_or (λ place. place ∷ chain_in maps x) 
 abbrev pub part : ℕ → ℕ → List SymLine → List SymLine
 part first end lines = take (end - first) (drop first lines)
 
--- all are line records, each beginning at or after the end of the one before it (the first at or after `low`)
+-- all records are line records, and each begins at or after the end of the one before it, the first
+-- one at or after `low`
 abbrev pub AreRising : ℕ → List SymLine → Type 0
 AreRising low [] = Unit {0}
 AreRising low (Line address size line file ∷ records) = (low ≤ address) × AreRising (address + size) records
 AreRising low (_ ∷ records) = ⊥
 
--- the records from `first` to `end` can be searched by binary search: they are ascending disjoint line records, and the first of them at an address
--- is the first line record of the FUNC there
+-- the records from `first` to `end` can be searched by binary search: they are ascending disjoint
+-- line records, and the first of them that covers an address is the first line record of the FUNC
+-- there
 pub record AreSearchable (lines : List SymLine) (func first end : ℕ) : Type 0 where
   pub ordered : first ≤ end
   pub within : end ≤ length lines
   pub rising : AreRising 0 (part first end lines)
   pub line : (x : ℕ) → position_from (is_line_at x) first (part first end lines) ≡ line_place lines func x
 
--- the finder gives the first line record under the FUNC at a place that covers an address
+-- the finder gives the first line record under the FUNC at the place `func` that covers an address
 abbrev pub IsLineFinder : List SymLine → ℕ → LineFinder → Type 0
 IsLineFinder lines func (Rising first end) = AreSearchable lines func first end
 IsLineFinder lines func (Map map) = IsPlaceMap (line_place lines func) map

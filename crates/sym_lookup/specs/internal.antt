@@ -1,5 +1,5 @@
--- Definitions for the functions and loops of the crate. Public clauses cite them only to say for which FUNC records an index stores what is under
--- them.
+-- Definitions for the functions and loops of the crate. Public contracts use only those that say
+-- for which FUNC records an index stores what is under them.
 pub mod Scans
 pub mod Spots
 pub mod Kinds

@@ -24,8 +24,9 @@ use sym_edges::OutOfMemory;
 use sym_records::{SymFile, SymLine};
 use sym_rules::ByteText;
 
-/// An index of a symbol file: which `FUNC` and which `INIT` is the first at each address, where `FUNC` and `PUBLIC` records begin, and which
-/// `FILE` and which `INLINE_ORIGIN` is the first of each number.
+/// An index of a symbol file. It has the first `FUNC` and the first `INIT` at each address, the
+/// addresses at which `FUNC` and `PUBLIC` records begin, and the first `FILE` and the first
+/// `INLINE_ORIGIN` of each number.
 #[derive(Drop)]
 pub struct Index {
     funcs: PlaceMap,
@@ -36,7 +37,7 @@ pub struct Index {
     numbers: Numbers,
 }
 
-/// The `PUBLIC` before an address, given the nearest `PUBLIC` and the nearest `FUNC`.
+/// The place of the `PUBLIC` before an address, given the nearest `PUBLIC` and the nearest `FUNC`.
 fn public_of(found: Option<Mark>, func: Option<Mark>) -> Option<usize>
     ensures { result ≡ public_of found func }
 {
@@ -66,7 +67,7 @@ fn outside(starts: &[Mark], publics: &[Mark], address: u64) -> Answer
     }
 }
 
-/// The first `FUNC` that covers the address, by the map of `FUNC` records.
+/// The place of the first `FUNC` that covers the address, found in the map of `FUNC` records.
 #[tactic(auto, using(crate::proofs::IndexLemmas::func_within))]
 fn func_in(funcs: &PlaceMap, lines: &[SymLine], address: u64) -> Option<usize>
     requires { IsPlaceMap (func_place lines.now) funcs.now }
@@ -77,7 +78,8 @@ fn func_in(funcs: &PlaceMap, lines: &[SymLine], address: u64) -> Option<usize>
 }
 
 impl Index {
-    /// The index of a file of fewer than 2^32 records, in n log n turns for n records and ranges, however they overlap.
+    /// The index of a file of fewer than 2^32 records. The time for n records and ranges is O(n log
+    /// n), however they overlap.
     pub fn of(alloc: Global, file: &SymFile) -> Result<Index, OutOfMemory>
         requires { length file.now < 2 ^ 32 }
         ensures { IfOk result (λ index. IsIndexOf file.now index) }
@@ -99,21 +101,21 @@ impl Index {
         })
     }
 
-    /// Which `FUNC` is the first at each address.
+    /// The map of the first `FUNC` at each address.
     pub(crate) fn funcs(&self) -> &PlaceMap
         ensures { result.now ≡ self.now.funcs }
     {
         &self.funcs
     }
 
-    /// What is under each `FUNC` that has more than a few ranges under it.
+    /// The records under each `FUNC` that has more than a few ranges under it.
     pub(crate) fn unders(&self) -> &[Under]
         ensures { result.now ≡ self.now.unders.items }
     {
         self.unders.as_slice()
     }
 
-    /// What a look-up of the address returns.
+    /// The answer at an address.
     pub fn answer_at(
         &self,
         alloc: Global,
@@ -160,7 +162,8 @@ impl Index {
         run_at(&self.inits, address)
     }
 
-    /// The text that shows an answer, as [`crate::answer_text`] gives it, without a pass over the file.
+    /// The text of an answer, equal to that of [`crate::answer_text`], but without a scan of the
+    /// file.
     pub fn answer_text(
         &self,
         alloc: Global,
@@ -174,7 +177,7 @@ impl Index {
         shown_text(alloc, &records, answer)
     }
 
-    /// The name of the first `FILE` of a number.
+    /// The name of the first `FILE` with a number.
     pub fn path<'f>(&'f self, file: &'f SymFile, number: u32) -> Option<&'f [u8]>
         requires { IsIndexOf file.now self.now }
         ensures { option_copied result ≡ text_path file.now number }
@@ -182,7 +185,7 @@ impl Index {
         Records::numbered(file.as_slice(), &self.numbers).path(number)
     }
 
-    /// The name of the first `INLINE_ORIGIN` of a number.
+    /// The name of the first `INLINE_ORIGIN` with a number.
     pub fn origin<'f>(&'f self, file: &'f SymFile, number: u32) -> Option<&'f [u8]>
         requires { IsIndexOf file.now self.now }
         ensures { option_copied result ≡ text_origin file.now number }

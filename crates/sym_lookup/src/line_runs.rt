@@ -9,7 +9,7 @@ ghost use Rattle.sym_lookup.specs.UnderOf.{AreRising};
 use crate::scans::is_line_at;
 use sym_records::SymLine;
 
-/// The end of a line record that begins at or after an address, if the end is an address.
+/// The end of a line record, if it begins at or after the address `low` and its end is below 2^64.
 #[inline]
 fn end_from(line: &SymLine, low: u64) -> Option<u64>
     ensures { RisesTo low line.now result }

@@ -1,4 +1,5 @@
-//! Records sorted by a key: `FUNC` and `PUBLIC` records by the address at which they begin, `FILE` and `INLINE_ORIGIN` records by their number.
+//! Marks: records sorted by a key. The key of a `FUNC` or `PUBLIC` record is the address at which
+//! it begins; that of a `FILE` or `INLINE_ORIGIN` record is its number.
 ghost use Rattle.std.specs.Prelude.{◌≡◌, ℕ, ◌+◌, ◌<◌, ◌≤◌, ◌^◌, ◌++◌, length, IfOk, OnOk};
 ghost use Rattle.std.specs.List.Sorted.{IsNonDecreasingBy};
 ghost use Rattle.sym_lookup.specs.internal.Marks.{key_of, mark_of, marks_of};
@@ -15,7 +16,7 @@ pub struct Mark {
     pub place: u32,
 }
 
-/// Which records are marked.
+/// The kind of records that are marked.
 #[derive(Clone, Copy)]
 pub enum Marked {
     Functions,
@@ -24,7 +25,7 @@ pub enum Marked {
     Origins,
 }
 
-/// The key of a record that is marked.
+/// The key of a record, if it is of the marked kind.
 fn key_of(marked: Marked, line: &SymLine) -> Option<u64>
     ensures { result ≡ key_of marked line.now }
 {
@@ -48,7 +49,7 @@ fn push_mark(marks: &mut Vec<Mark>, place: u32, key: Option<u64>) -> Result<(), 
     Ok(())
 }
 
-/// The marks of records in their order.
+/// The marks of records, in the order of the records.
 fn marks_in(alloc: Global, marked: Marked, lines: &[SymLine]) -> Result<Vec<Mark>, OutOfMemory>
     requires { length lines.now < 2 ^ 32 }
     ensures { IfOk result (λ marks. marks.items ≡ marks_of marked 0 lines.now) }
@@ -60,7 +61,7 @@ fn marks_in(alloc: Global, marked: Marked, lines: &[SymLine]) -> Result<Vec<Mark
     Ok(marks)
 }
 
-/// The marks of records, sorted by their keys; marks with one key stay in their order.
+/// The marks of records, sorted by their keys. Marks with the same key stay in their order.
 pub(crate) fn sorted_marks(
     alloc: Global,
     marked: Marked,
@@ -75,7 +76,8 @@ pub(crate) fn sorted_marks(
     Ok(marks)
 }
 
-/// The mark with the greatest key at or below a key, the first if several are equal, by binary search.
+/// The mark with the greatest key at or below `key`, by binary search; the first if several have
+/// the same key.
 pub(crate) fn mark_at(marks: &[Mark], key: u64) -> Option<Mark>
     requires { IsNonDecreasingBy (λ m. m.key) marks.now }
     ensures { result ≡ mark_at marks.now key }

@@ -1,4 +1,4 @@
-//! The records that others name by a number, found by a scan or by the sorted numbers.
+//! `FILE` and `INLINE_ORIGIN` records, found by number: by a scan or by sorted numbers.
 ghost use Rattle.std.specs.Prelude.{◌≡◌, slice_get};
 ghost use Rattle.std.specs.List.{find};
 ghost use Rattle.std.specs.Option.{option_copied, option_and_then};
@@ -9,7 +9,8 @@ use crate::numbers::{Numbers, place_of};
 use std::marker::Model;
 use sym_records::SymLine;
 
-/// The records of a file, with their numbers if these are known. Contracts see the list of records.
+/// The records of a file, with their sorted numbers if there are any. Contracts see the list of
+/// records.
 #[derive(Drop)]
 pub(crate) struct Records<'f> {
     lines: &'f [SymLine],
@@ -46,14 +47,14 @@ fn is_origin(line: &SymLine, number: u32) -> bool
     }
 }
 
-/// The first `FILE` of a number, by a scan.
+/// The first `FILE` with a number, by a scan.
 fn first_file(lines: &[SymLine], number: u32) -> Option<&SymLine>
     ensures { option_copied result ≡ find (is_file number) lines.now }
 {
     lines.iter().find(|line| is_file(line, number))
 }
 
-/// The first `INLINE_ORIGIN` of a number, by a scan.
+/// The first `INLINE_ORIGIN` with a number, by a scan.
 fn first_origin(lines: &[SymLine], number: u32) -> Option<&SymLine>
     ensures { option_copied result ≡ find (is_origin number) lines.now }
 {
@@ -70,7 +71,7 @@ fn line_at(lines: &[SymLine], place: Option<usize>) -> Option<&SymLine>
     }
 }
 
-/// The first `FILE` of a number, by the sorted numbers.
+/// The first `FILE` with a number, by the sorted numbers.
 fn numbered_file<'f>(lines: &'f [SymLine], numbers: &Numbers, number: u32) -> Option<&'f SymLine>
     requires { AreNumbersOf lines.now numbers.now }
     ensures { option_copied result ≡ find (is_file number) lines.now }
@@ -78,7 +79,7 @@ fn numbered_file<'f>(lines: &'f [SymLine], numbers: &Numbers, number: u32) -> Op
     line_at(lines, place_of(numbers.files.as_slice(), number))
 }
 
-/// The first `INLINE_ORIGIN` of a number, by the sorted numbers.
+/// The first `INLINE_ORIGIN` with a number, by the sorted numbers.
 fn numbered_origin<'f>(lines: &'f [SymLine], numbers: &Numbers, number: u32) -> Option<&'f SymLine>
     requires { AreNumbersOf lines.now numbers.now }
     ensures { option_copied result ≡ find (is_origin number) lines.now }
@@ -107,7 +108,7 @@ pub(crate) fn origin_name(line: &SymLine) -> &[u8]
 }
 
 impl<'f> Records<'f> {
-    /// Records whose numbers are not known.
+    /// Records without sorted numbers.
     pub(crate) fn of(lines: &'f [SymLine]) -> Records<'f>
         ensures { result ≡ lines.now }
     {
@@ -117,7 +118,7 @@ impl<'f> Records<'f> {
         }
     }
 
-    /// Records with their numbers.
+    /// Records with their sorted numbers.
     pub(crate) fn numbered(lines: &'f [SymLine], numbers: &'f Numbers) -> Records<'f>
         requires { AreNumbersOf lines.now numbers.now }
         ensures { result ≡ lines.now }
@@ -135,7 +136,7 @@ impl<'f> Records<'f> {
         self.lines.get(place)
     }
 
-    /// The first `FILE` of a number.
+    /// The first `FILE` with a number.
     pub(crate) fn file(&self, number: u32) -> Option<&'f SymLine>
         ensures { option_copied result ≡ find (is_file number) self.now }
     {
@@ -145,7 +146,7 @@ impl<'f> Records<'f> {
         }
     }
 
-    /// The first `INLINE_ORIGIN` of a number.
+    /// The first `INLINE_ORIGIN` with a number.
     pub(crate) fn origin(&self, number: u32) -> Option<&'f SymLine>
         ensures { option_copied result ≡ find (is_origin number) self.now }
     {
@@ -155,7 +156,7 @@ impl<'f> Records<'f> {
         }
     }
 
-    /// The name of the first `FILE` of a number.
+    /// The name of the first `FILE` with a number.
     pub(crate) fn path(&self, number: u32) -> Option<&'f [u8]>
         ensures { option_copied result ≡ text_path self.now number }
     {
@@ -165,7 +166,7 @@ impl<'f> Records<'f> {
         }
     }
 
-    /// The name of the first `INLINE_ORIGIN` of a number.
+    /// The name of the first `INLINE_ORIGIN` with a number.
     pub(crate) fn origin_text(&self, number: u32) -> Option<&'f [u8]>
         ensures { option_copied result ≡ text_origin self.now number }
     {

@@ -9,14 +9,15 @@ use std::alloc::Global;
 use sym_edges::OutOfMemory;
 use sym_records::SymLine;
 
-/// The `FILE` and the `INLINE_ORIGIN` records, sorted by their numbers; records with one number stay in their order.
+/// The marks of the `FILE` and of the `INLINE_ORIGIN` records, sorted by number. Records with the
+/// same number stay in their order.
 #[derive(Drop)]
 pub struct Numbers {
     pub files: Vec<Mark>,
     pub origins: Vec<Mark>,
 }
 
-/// The numbers of a list of records.
+/// The sorted numbers of a list of records.
 pub(crate) fn numbers_of(alloc: Global, lines: &[SymLine]) -> Result<Numbers, OutOfMemory>
     requires { length lines.now < 2 ^ 32 }
     ensures { IfOk result (λ numbers. AreNumbersOf lines.now numbers) }
@@ -26,7 +27,7 @@ pub(crate) fn numbers_of(alloc: Global, lines: &[SymLine]) -> Result<Numbers, Ou
     Ok(Numbers { files, origins })
 }
 
-/// The place of the first record of a number.
+/// The place of the first record with a number.
 pub(crate) fn place_of(marks: &[Mark], number: u32) -> Option<usize>
     requires { IsNonDecreasingBy (λ m. m.key) marks.now }
     ensures { result ≡ numbered number (mark_at marks.now number) }

@@ -1,4 +1,4 @@
-//! The plain look-up, by scans.
+//! Looking up an address by scans.
 ghost use Rattle.std.specs.Prelude.{◌≡◌, ℕ, ◌+◌, ◌<◌, ◌≤◌, ◌^◌, if◌then◌else◌, length, drop, replicate, slice_get, None, IfOk, IfSome};
 ghost use Rattle.std.specs.List.{list_any, position, position_from};
 ghost use Rattle.std.specs.Option.{option_map};
@@ -94,7 +94,7 @@ pub(crate) fn under(lines: &[SymLine]) -> &[SymLine]
     lines
 }
 
-/// One more than the level of an `INLINE`; 0 for other records.
+/// One more than the level of an `INLINE`, or 0 for another record.
 fn level_end(line: &SymLine) -> u64
     ensures result { result ≡ level_end line.now }
     ensures small { result < 2 ^ 33 }
@@ -105,7 +105,7 @@ fn level_end(line: &SymLine) -> u64
     }
 }
 
-/// One more than the highest level.
+/// One more than the highest level, or 0 if there is no `INLINE`.
 #[tactic(auto, using(crate::proofs::UnderLemmas::levels_more))]
 pub(crate) fn level_count(records: &[SymLine]) -> u64
     ensures { result ≡ level_count records.now }
@@ -119,7 +119,8 @@ pub(crate) fn level_count(records: &[SymLine]) -> u64
     count
 }
 
-/// The place of the first line record that covers the address; the first of the records has a given place.
+/// The place of the first line record that covers the address. The first record has the place
+/// `first`.
 #[tactic(auto, using(crate::proofs::PlaceLemmas::placed_more, crate::proofs::PlaceLemmas::placed_found, crate::proofs::PlaceLemmas::placed_none))]
 fn line_from(records: &[SymLine], first: usize, address: u64) -> Option<usize>
     requires { first + length records.now < 2 ^ 64 }
@@ -133,7 +134,8 @@ fn line_from(records: &[SymLine], first: usize, address: u64) -> Option<usize>
     None
 }
 
-/// The place of the first `INLINE` of the level that covers the address.
+/// The place of the first `INLINE` of the level that covers the address. The first record has the
+/// place `first`.
 #[tactic(auto, using(crate::proofs::PlaceLemmas::placed_more, crate::proofs::PlaceLemmas::placed_found, crate::proofs::PlaceLemmas::placed_none))]
 fn inline_from(records: &[SymLine], first: usize, level: u64, address: u64) -> Option<usize>
     requires { first + length records.now < 2 ^ 64 }
@@ -147,7 +149,8 @@ fn inline_from(records: &[SymLine], first: usize, level: u64, address: u64) -> O
     None
 }
 
-/// If an `INLINE` covers the address, it becomes the first of its level, if the list has that level.
+/// If the record is an `INLINE` that covers the address, it becomes the first of its level,
+/// provided that the list has this level.
 fn note_inline(firsts: &mut Vec<Option<usize>>, place: usize, line: &SymLine, address: u64)
     ensures { (level : ℕ) → slice_get firsts.new.items level ≡ option_map (sooner level address place line.now) (slice_get firsts.old.items level) }
 {
@@ -163,7 +166,7 @@ fn note_inline(firsts: &mut Vec<Option<usize>>, place: usize, line: &SymLine, ad
     }
 }
 
-/// A list with no place for each level below a number.
+/// A list without a place for each level below `count`.
 fn no_places(alloc: Global, count: usize) -> Result<Vec<Option<usize>>, OutOfMemory>
     ensures { IfOk result (λ places. places.items ≡ replicate count None) }
 {
@@ -174,7 +177,7 @@ fn no_places(alloc: Global, count: usize) -> Result<Vec<Option<usize>>, OutOfMem
     Ok(places)
 }
 
-/// The first `INLINE` that covers the address at each level below a number, in one pass.
+/// For each level below `count`, the first `INLINE` that covers the address, found in one pass.
 fn firsts_at(
     alloc: Global,
     records: &[SymLine],
@@ -192,8 +195,8 @@ fn firsts_at(
     Ok(firsts)
 }
 
-/// The place of the first `INLINE` of a level that covers the address. If each level of the list has one, no record is left for a further level; a
-/// pass over the records checks this.
+/// The place of the first `INLINE` of a level that covers the address. It is in `firsts` if this
+/// list has the level; otherwise the records are scanned.
 fn first_of_level(
     firsts: &[Option<usize>],
     records: &[SymLine],
@@ -211,7 +214,7 @@ fn first_of_level(
     }
 }
 
-/// The first `INLINE` at each level, until a level has none.
+/// The first `INLINE` of each level that covers the address, up to the first level without one.
 #[tactic(auto, using(crate::proofs::PlaceLemmas::chain_more, crate::proofs::PlaceLemmas::chain_stops))]
 fn chain_from(
     alloc: Global,
@@ -262,7 +265,7 @@ pub(crate) fn in_function(
     Ok(Answer::Function { func, chain, line })
 }
 
-/// The first `FUNC` that covers the address.
+/// The place of the first `FUNC` that covers the address.
 #[tactic(auto, unfolding(crate::specs::Answers::func_place))]
 fn func_at(lines: &[SymLine], address: u64) -> Option<usize>
     ensures place { result ≡ func_place lines.now address }
@@ -280,7 +283,8 @@ fn greater(a: u64, other: Option<u64>) -> Option<u64>
     }
 }
 
-/// The greater of `other` and the address of a `PUBLIC`; one above the address looked up does not count.
+/// The greater of `other` and the address of a `PUBLIC`. A `PUBLIC` above the address does not
+/// count.
 fn nearer(line: &SymLine, address: u64, other: Option<u64>) -> Option<u64>
     ensures { result ≡ nearer address line.now other }
 {
@@ -290,7 +294,7 @@ fn nearer(line: &SymLine, address: u64, other: Option<u64>) -> Option<u64>
     }
 }
 
-/// The greatest address of a `PUBLIC` that is not above the address looked up.
+/// The greatest address of a `PUBLIC` at or below the address.
 #[tactic(auto, using(crate::proofs::PublicLemmas::nearest_more, crate::proofs::PublicLemmas::nearest_end, crate::proofs::PublicLemmas::nearest_all))]
 fn nearest_public(lines: &[SymLine], address: u64) -> Option<u64>
     ensures { result ≡ nearest_public lines.now address }
@@ -311,7 +315,7 @@ fn is_public_of(line: &SymLine, a: u64) -> bool
     }
 }
 
-/// Whether the record is a `FUNC` that begins from one address to another.
+/// Whether the record is a `FUNC` that begins at an address from `a` to `last`, both included.
 fn begins_between(line: &SymLine, a: u64, last: u64) -> bool
     ensures { result ≡ begins_between a last line.now }
 {
@@ -321,21 +325,22 @@ fn begins_between(line: &SymLine, a: u64, last: u64) -> bool
     }
 }
 
-/// Whether some `FUNC` begins from one address to another.
+/// Whether some `FUNC` begins at an address from `a` to `last`, both included.
 fn begins(lines: &[SymLine], a: u64, last: u64) -> bool
     ensures { result ≡ list_any (begins_between a last) lines.now }
 {
     lines.iter().any(|line| begins_between(line, a, last))
 }
 
-/// The first `PUBLIC` at an address.
+/// The place of the first `PUBLIC` at an address.
 fn first_public(lines: &[SymLine], a: u64) -> Option<usize>
     ensures { result ≡ position (is_public_of a) lines.now }
 {
     lines.iter().position(|line| is_public_of(line, a))
 }
 
-/// The first `PUBLIC` at an address, unless a `FUNC` begins from there to another address.
+/// The place of the first `PUBLIC` at the address `a`, unless a `FUNC` begins at an address from
+/// there to `address`.
 fn public_from(lines: &[SymLine], a: u64, address: u64) -> Option<usize>
     ensures { result ≡ (if list_any (begins_between a address) lines.now then None else position (is_public_of a) lines.now) }
 {
@@ -345,7 +350,7 @@ fn public_from(lines: &[SymLine], a: u64, address: u64) -> Option<usize>
     first_public(lines, a)
 }
 
-/// The `PUBLIC` before the address.
+/// The place of the `PUBLIC` before the address.
 #[tactic(auto, unfolding(crate::specs::Answers::public_place))]
 fn public_at(lines: &[SymLine], address: u64) -> Option<usize>
     ensures { result ≡ public_place lines.now address }
@@ -356,7 +361,7 @@ fn public_at(lines: &[SymLine], address: u64) -> Option<usize>
     }
 }
 
-/// What a look-up of the address returns.
+/// The answer at an address.
 #[tactic(auto, unfolding(crate::specs::Answers::answer_of))]
 pub fn answer_at(alloc: Global, file: &SymFile, address: u64) -> Result<Answer, OutOfMemory>
     ensures { IfOk result (λ found. found ≡ answer_of file.now address) }

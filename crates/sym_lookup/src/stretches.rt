@@ -17,7 +17,7 @@ use step_maps::{FirstItem, StepMap, Stretch, first_items};
 use sym_edges::OutOfMemory;
 use sym_records::{Extent, SymLine};
 
-/// The kinds of records that have addresses.
+/// The kinds of records that have ranges of addresses.
 #[derive(Clone, Copy)]
 pub enum Kind {
     Functions,
@@ -27,7 +27,7 @@ pub enum Kind {
     Level(u64),
 }
 
-/// Which record is the first at an address.
+/// A map of the first record at each address.
 pub type PlaceMap = StepMap<Option<FirstItem>>;
 
 /// Adds the stretch of a range, if the range is not empty.
@@ -110,7 +110,7 @@ fn push_record(
     }
 }
 
-/// The stretches of records; the first record has a given place.
+/// The stretches of the records of a kind. The first record has the place `first`.
 fn stretches_of(
     alloc: Global,
     kind: Kind,
@@ -128,7 +128,8 @@ fn stretches_of(
     Ok(stretches)
 }
 
-/// Which record of a kind is the first at each address, in n log n turns for n ranges, however they overlap.
+/// The map of the first record of a kind at each address. The time for n ranges is O(n log n),
+/// however they overlap.
 #[tactic(auto, using(step_maps::proofs::StretchLemmas::stretches_push))]
 pub(crate) fn place_map(
     alloc: Global,
@@ -144,7 +145,7 @@ pub(crate) fn place_map(
     Ok(map)
 }
 
-/// An empty list of stretches for each level below a number.
+/// An empty list of stretches for each level below `count`.
 fn no_stretches(alloc: Global, count: usize) -> Result<Vec<Vec<Stretch>>, OutOfMemory>
     ensures { IfOk result (λ leveled. AreEmpty leveled.items) }
 {
@@ -155,7 +156,7 @@ fn no_stretches(alloc: Global, count: usize) -> Result<Vec<Vec<Stretch>>, OutOfM
     Ok(leveled)
 }
 
-/// Adds the stretches of an `INLINE` to those of its level, if the list has that level.
+/// Adds the stretches of an `INLINE` to those of its level, provided that the list has this level.
 fn push_inline(
     leveled: &mut Vec<Vec<Stretch>>,
     index: u32,
@@ -175,7 +176,8 @@ fn push_inline(
     push_extents(&mut leveled[level], index, ranges.as_slice())
 }
 
-/// The stretches of the `INLINE` records of each level below a number; the first record has a given place.
+/// For each level below `count`, the stretches of its `INLINE` records. The first record has the
+/// place `first`.
 pub(crate) fn by_level(
     alloc: Global,
     records: &[SymLine],
@@ -192,7 +194,8 @@ pub(crate) fn by_level(
     Ok(leveled)
 }
 
-/// Which of the `INLINE` records of a level is the first at each address, given their stretches; nothing if there are no stretches.
+/// The map of the first `INLINE` of a level at each address, given the stretches of the level;
+/// `None` if there are no stretches.
 fn stretch_map(alloc: Global, stretches: &[Stretch]) -> Result<Option<PlaceMap>, OutOfMemory>
     requires { AreStretches stretches.now }
     ensures { (level first : ℕ) (records : List SymLine) → stretches.now ≡ stretches_of (kind.Level level) first records → IfOk result (λ map. IsLevelMap level first records map) }
@@ -204,7 +207,7 @@ fn stretch_map(alloc: Global, stretches: &[Stretch]) -> Result<Option<PlaceMap>,
     Ok(Some(map))
 }
 
-/// The same map, by a pass over the records.
+/// The map of the first `INLINE` of a level at each address, made by a scan of the records.
 fn scanned_map(
     alloc: Global,
     level: u64,
@@ -218,8 +221,8 @@ fn scanned_map(
     stretch_map(alloc, stretches.as_slice())
 }
 
-/// Which of the `INLINE` records of a level is the first at each address; nothing if there is none. If the list does not have the level, a pass over
-/// the records finds them.
+/// The map of the first `INLINE` of a level at each address; `None` if there is none. If the list
+/// does not have the level, the records are scanned.
 pub(crate) fn level_map(
     alloc: Global,
     leveled: &[Vec<Stretch>],
@@ -237,7 +240,7 @@ pub(crate) fn level_map(
     }
 }
 
-/// The place of an item.
+/// The place that an item of a map gives.
 #[inline]
 fn place_of(item: Option<FirstItem>) -> Option<usize>
     ensures { result ≡ option_map (λ (i : FirstItem). i.index) item }
@@ -263,7 +266,7 @@ fn stop_at(stops: &[u64], index: usize) -> Option<u64>
     stops.get(index).copied()
 }
 
-/// The place of the first record at an address, and an end up to which it stays the first.
+/// The place of the first record at an address, and an end up to which this record is the first.
 pub(crate) fn run_at(map: &PlaceMap, address: u64) -> PlaceRun
     ensures { IsPlaceRun (place_in map.now) address result }
 {

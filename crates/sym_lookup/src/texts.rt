@@ -1,4 +1,4 @@
-//! The text that shows an answer.
+//! The text of an answer.
 ghost use Rattle.std.specs.Prelude.{◌≡◌, ◌++◌, codes, map, reverse, Some, IfOk, OnOk};
 ghost use Rattle.std.specs.Option.{unwrap_or};
 ghost use Rattle.std.specs.Fmt.{decimal};
@@ -52,7 +52,7 @@ fn add_path_and_line(text: &mut Vec<u8>, path: &[u8], line: u32) -> Result<(), O
     add(text, buffer.format(line).as_bytes())
 }
 
-/// Adds the path of the first `FILE` of a number and a line.
+/// Adds the path of the first `FILE` with a number, and a line.
 fn add_spot(
     text: &mut Vec<u8>,
     lines: &Records<'_>,
@@ -131,7 +131,7 @@ enum Spot {
     OfCall(usize),
 }
 
-/// Adds where a frame is.
+/// Adds the path and line of a frame.
 fn add_spot_shown(text: &mut Vec<u8>, lines: &Records<'_>, spot: Spot) -> Result<(), OutOfMemory>
     ensures { OnOk result (text.new.items ≡ text.old.items ++ spot_shown lines.now spot) }
 {
@@ -141,7 +141,7 @@ fn add_spot_shown(text: &mut Vec<u8>, lines: &Records<'_>, spot: Spot) -> Result
     }
 }
 
-/// Adds the name of the first `INLINE_ORIGIN` of a number.
+/// Adds the name of the first `INLINE_ORIGIN` with a number.
 fn add_origin(text: &mut Vec<u8>, lines: &Records<'_>, number: u32) -> Result<(), OutOfMemory>
     ensures { OnOk result (text.new.items ≡ text.old.items ++ unwrap_or (text_origin lines.now number) (codes "<name omitted>")) }
 {
@@ -151,7 +151,7 @@ fn add_origin(text: &mut Vec<u8>, lines: &Records<'_>, number: u32) -> Result<()
     }
 }
 
-/// Adds the name of the function that an `INLINE` inlines.
+/// Adds the name of the function of an `INLINE`.
 fn add_call_name(
     text: &mut Vec<u8>,
     lines: &Records<'_>,
@@ -165,7 +165,7 @@ fn add_call_name(
     }
 }
 
-/// Adds the name of the function that the `INLINE` at a place inlines.
+/// Adds the name of the function of the `INLINE` at a place.
 fn add_call_name_at(
     text: &mut Vec<u8>,
     lines: &Records<'_>,
@@ -179,7 +179,7 @@ fn add_call_name_at(
     }
 }
 
-/// Adds where a frame is, and ends its line.
+/// Adds the path and line of a frame, and the end of its line.
 fn end_frame(text: &mut Vec<u8>, lines: &Records<'_>, spot: Spot) -> Result<(), OutOfMemory>
     ensures { OnOk result (text.new.items ≡ text.old.items ++ (codes " at " ++ spot_shown lines.now spot ++ codes "\n")) }
 {
@@ -290,7 +290,7 @@ pub(crate) fn shown_text(
     Ok(ByteText::of(text))
 }
 
-/// The number of inlined calls up to which scans find the names of the frames.
+/// With at most this many inlined calls, the names are found by scans.
 const FEW: usize = 8;
 
 /// Whether an answer has more than a few inlined calls.
@@ -301,7 +301,8 @@ fn are_many(answer: &Answer) -> bool {
     }
 }
 
-/// The text that shows an answer: a line `NAME at PATH:LINE` for each frame, the innermost first, `public NAME` or `none`.
+/// The text of an answer: a line `NAME at PATH:LINE` for each frame, the innermost first; or
+/// `public NAME`, or `none`.
 pub fn answer_text(alloc: Global, file: &SymFile, answer: &Answer) -> Result<ByteText, OutOfMemory>
     ensures { IfOk result (λ text. text ≡ answer_text file.now answer.now) }
 {

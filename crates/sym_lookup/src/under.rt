@@ -1,4 +1,4 @@
-//! What is under a `FUNC`, stored so that the records at an address are found by binary search.
+//! The records under a `FUNC`, stored so that those at an address are found by binary search.
 ghost use Rattle.std.specs.Prelude.{◌≡◌, ℕ, ◌+◌, ◌<◌, ◌^◌, nat_le, true, List, length, IfOk, OnOk, IfSome};
 ghost use Rattle.std.specs.List.{sum_by};
 ghost use Rattle.std.specs.Option.{is_some};
@@ -17,16 +17,17 @@ use std::alloc::Global;
 use sym_edges::OutOfMemory;
 use sym_records::SymLine;
 
-/// How the line record at an address is found.
+/// How the line record that covers an address is found.
 #[derive(Drop)]
 pub enum LineFinder {
-    /// By binary search, since the line records from a place up to an end are ascending and disjoint.
+    /// By binary search: the line records from `first` to `end` are ascending and disjoint.
     Rising { first: u32, end: u32 },
     /// By a map of the line records.
     Map { map: PlaceMap },
 }
 
-/// What is under the `FUNC` at a place: a map of the `INLINE` records of each level, and how its line records are found.
+/// The records under the `FUNC` at a place: a map for each level of `INLINE` records, and a way to
+/// find the line records.
 #[derive(Drop)]
 pub struct Under {
     func: u32,
@@ -52,7 +53,7 @@ fn levels_of(alloc: Global, records: &[SymLine], first: usize) -> Result<Vec<Pla
     Ok(levels)
 }
 
-/// The places that the maps have at an address, in order, up to the first map that has none.
+/// The places that the maps give at an address, in order, up to the first map that gives none.
 fn chain_at(alloc: Global, levels: &[PlaceMap], address: u64) -> Result<PlaceList, OutOfMemory>
     ensures { IfOk result (λ chain. chain ≡ chain_in levels.now address) }
 {
@@ -66,7 +67,8 @@ fn chain_at(alloc: Global, levels: &[PlaceMap], address: u64) -> Result<PlaceLis
     Ok(PlaceList::of(chain))
 }
 
-/// How the line records under a `FUNC` are found: by binary search if they are the last under it, ascending and disjoint.
+/// The way to find the line records under a `FUNC`. It is binary search if they are ascending and
+/// disjoint, and only `INLINE` records come before them.
 fn line_finder(alloc: Global, lines: &[SymLine], func: usize) -> Result<LineFinder, OutOfMemory>
     requires within { func < length lines.now }
     requires few { length lines.now < 2 ^ 32 }
@@ -98,7 +100,7 @@ pub(crate) fn line_in(under: &Under, lines: &[SymLine], address: u64) -> Option<
     }
 }
 
-/// What is under the `FUNC` at a place.
+/// Makes the maps and the line finder of the `FUNC` at a place.
 fn under_of(alloc: Global, lines: &[SymLine], func: usize) -> Result<Under, OutOfMemory>
     requires within { func < length lines.now }
     requires few { length lines.now < 2 ^ 32 }
@@ -120,7 +122,7 @@ fn is_func(line: &SymLine) -> bool
     matches!(line, SymLine::Func { .. })
 }
 
-/// The number of ranges under a `FUNC` up to which they are scanned; the index stores nothing of them.
+/// Up to this many ranges under a `FUNC`, the index stores nothing, and they are scanned.
 const FEW: usize = 32;
 
 /// The number of ranges of a record under a `FUNC`, but at least one.
@@ -156,7 +158,8 @@ fn is_held(lines: &[SymLine], func: usize) -> bool
     is_func(&lines[func]) && !are_few(under_func(lines, func))
 }
 
-/// Adds what is under the `FUNC` at a place, the next that has more than a few ranges under it.
+/// Adds the maps and the line finder of the `FUNC` at a place, which is the next that has more than
+/// a few ranges under it.
 #[tactic(auto, using(crate::proofs::UnderOfLemmas::unders_joined, crate::proofs::HeldLemmas::held_joined))]
 fn push_under(
     alloc: Global,
@@ -177,7 +180,8 @@ fn push_under(
     Ok(())
 }
 
-/// What is under each `FUNC` that has more than a few ranges under it, in their order.
+/// The maps and line finders of all `FUNC` records that have more than a few ranges under them, in
+/// order.
 #[tactic(auto, using(crate::proofs::HeldLemmas::held_skipped))]
 pub(crate) fn unders_of(alloc: Global, lines: &[SymLine]) -> Result<Vec<Under>, OutOfMemory>
     requires { length lines.now < 2 ^ 32 }
@@ -194,7 +198,7 @@ pub(crate) fn unders_of(alloc: Global, lines: &[SymLine]) -> Result<Vec<Under>, 
     Ok(unders)
 }
 
-/// What is under the `FUNC` at a place, by binary search.
+/// The stored maps and line finder of the `FUNC` at a place, by binary search.
 #[tactic(auto, using(crate::proofs::UnderOfLemmas::under_there))]
 pub(crate) fn under_at(unders: &[Under], func: usize) -> Option<&Under>
     ensures func { IfSome result (λ under. under.now.func ≡ func) }
@@ -219,7 +223,7 @@ pub(crate) fn level_maps(under: &Under) -> &[PlaceMap]
     under.levels.as_slice()
 }
 
-/// The answer for a `FUNC`, given what is under it.
+/// The answer for a `FUNC`, given its maps and its line finder.
 fn in_under(
     alloc: Global,
     under: &Under,
@@ -238,7 +242,7 @@ fn in_under(
     })
 }
 
-/// The answer for a `FUNC` that covers the address, given what the index has of it.
+/// The answer for a `FUNC` that covers the address, by what the index stores of it, if anything.
 pub(crate) fn held_in_function(
     alloc: Global,
     unders: &[Under],

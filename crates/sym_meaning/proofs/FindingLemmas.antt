@@ -1,4 +1,4 @@
--- Records of other kinds change no finding.
+-- Records of other kinds before a list do not change what a checker finds.
 use Rattle.std.proofs.Common.{◌≡◌, ℕ, Bool, true, false, ◌&&◌, List, [], ◌∷◌, ◌++◌, refl, sym, ap, ◌∙◌, subst, append-nil}
 use Rattle.std.proofs.lemmas.List.Folds.{list_all-append}
 use Rattle.std.specs.List.{list_any, list_all, flat_map}
@@ -9,11 +9,10 @@ use Rattle.sym_meaning.specs.Plain.{IsPlain, ArePlain, HaveNoFile, HaveNoOrigin}
 use Rattle.sym_meaning.specs.TextNames.{is_file, is_origin}
 use Rattle.sym_meaning.specs.Findings.{func_run, AreGivenOnce, has_file, has_origin, EachFunc}
 
--- two lists that pass a test
 pub all_both : {X : Type 0} (q : X → Bool) (xs ys : List X) → list_all q xs ≡ true → list_all q ys ≡ true → list_all q (xs ++ ys) ≡ true
 all_both q xs ys first second = list_all-append q xs ys ∙ ap (λ b. b && list_all q ys) first ∙ second
 
--- plain records name nothing
+-- Plain records refer to nothing.
 plain_all : (q : SymLine → Bool) (lines : List SymLine) → ((s : SymLine) → IsPlain s → q s ≡ true) → ArePlain lines → list_all q lines ≡ true
 plain_all q [] each plain = refl
 plain_all q (s ∷ lines) each plain = ap (λ b. b && list_all q lines) (each s plain.0) ∙ plain_all q lines each plain.1
@@ -36,7 +35,7 @@ plain_origin all s plain = refl
 pub plain_origins : (all lines : List SymLine) → ArePlain lines → list_all (has_origin all) lines ≡ true
 plain_origins all lines plain = plain_all (has_origin all) lines (plain_origin all) plain
 
--- records that are no FILE and no INLINE_ORIGIN give no number
+-- Records without FILE and INLINE_ORIGIN give no number.
 pub once_behind : (front rest : List SymLine) → HaveNoFile front → HaveNoOrigin front → AreGivenOnce rest → AreGivenOnce (front ++ rest)
 once_behind [] rest file origin once = once
 once_behind (File number name ∷ front) rest file origin once = absurd file.0
@@ -56,7 +55,7 @@ no_origin n [] none = refl
 no_origin n (Origin number name ∷ lines) none = absurd none.0
 no_origin n (s ∷ lines) none = no_origin n lines none.1
 
--- plain records have no FUNC
+-- Plain records have no range of a FUNC.
 pub func_runs_behind : (front rest : List SymLine) → ArePlain front → flat_map func_run (front ++ rest) ≡ flat_map func_run rest
 func_runs_behind [] rest plain = refl
 func_runs_behind (Func many address size params name ∷ front) rest plain = absurd plain.0

@@ -1,4 +1,5 @@
--- Records around those of frames, and INITs that are not empty: for the laws on the frame records of a file.
+-- Records around frame records, and INITs that are not empty (for the laws on the frame records of
+-- a file).
 use Rattle.std.proofs.Common.{◌≡◌, ℕ, ◌+◌, ◌-◌, ◌<◌, ◌^◌, Bool, true, false, ◌&&◌, nat_le, nat_lt, cond, List, [], ◌∷◌, ◌++◌, arith, refl, ap, ◌∙◌, count_by}
 use Rattle.std.proofs.lemmas.Bool.{and_parts}
 use Rattle.std.proofs.lemmas.Bool.Decides.{nat_tests}
@@ -10,14 +11,14 @@ use Rattle.sym_meaning.specs.Plain.{ArePlain}
 use Rattle.sym_meaning.specs.Findings.{are_sized}
 use Rattle.sym_meaning.specs.Inits.{init_covers, inits_at, AreNested, is_frameless}
 
--- two lists that say nothing of frames
+-- Two lists without frame records.
 pub both_frameless : (xs ys : List SymLine) → list_all is_frameless xs ≡ true → list_all is_frameless ys ≡ true → list_all is_frameless (xs ++ ys) ≡ true
 both_frameless [] ys first second = second
 both_frameless (x ∷ xs) ys first second =
     let parts = and_parts (is_frameless x) (list_all is_frameless xs) first in
     ap (λ b. b && list_all is_frameless (xs ++ ys)) parts.0 ∙ both_frameless xs ys parts.1 second
 
--- such records cover nothing
+-- Records other than INIT cover no address.
 line_plain : (x : ℕ) (s : SymLine) → is_frameless s ≡ true → init_covers x s ≡ false
 line_plain x (Init address size rules) plain = cc
 line_plain x s plain = refl
@@ -32,14 +33,13 @@ pub covers_after : (x : ℕ) (front rest : List SymLine) → list_all is_framele
 unfolding inits_at
 covers_after x front rest plain = covered_after x front rest plain
 
--- nested records are nested after such ones
+-- Nested frame records stay nested after records without frames.
 pub nested_after : (front rest : List SymLine) → list_all is_frameless front ≡ true → AreNested 0 0 rest → AreNested 0 0 (front ++ rest)
 nested_after [] rest plain nested = nested
 nested_after (Init address size rules ∷ front) rest plain nested = cc
 nested_after (Change address rules ∷ front) rest plain nested = cc
 nested_after (s ∷ front) rest plain nested = nested_after front rest plain nested
 
--- one more in front is counted, where it has the address
 pub counted : (b : Bool) → 0 + cond b 1 0 ≡ cond b 1 0
 counted true = refl
 counted false = refl
@@ -48,14 +48,14 @@ inits_more : (s : SymLine) (lines : List SymLine) (x : ℕ) → inits_at (s ∷ 
 unfolding inits_at
 inits_more s lines x = sum_by-append (λ l. cond (init_covers x l) 1 0) (s ∷ []) lines ∙ ap (λ k. k + inits_at lines x) (counted (init_covers x s))
 
--- an INIT that is not empty covers its last address
+-- An INIT that is not empty covers its last address.
 last_covered : (address size : ℕ) → 0 < size → (nat_le address (address + size - 1) && nat_lt (address + size - 1) (address + size)) ≡ true
 last_covered address size some = grind (arith, nat_tests)
 
 sized_by : (limit address size : ℕ) → 0 < size → address + size < limit → (nat_lt 0 size && nat_lt (address + size) limit) ≡ true
 sized_by limit address size some small = grind (arith, nat_tests)
 
--- where each address that an INIT covers is below the last of 64 bits
+-- For each address that an INIT covers, the next address is below a bound.
 abbrev pub CoverBelow : ℕ → List SymLine → Type 0
 CoverBelow limit lines = (x : ℕ) → 0 < inits_at lines x → x + 1 < limit
 

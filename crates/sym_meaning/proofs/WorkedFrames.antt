@@ -1,11 +1,12 @@
--- Worked rows: a list of records in which a checker finds nothing, and for each finding in frames one that has it.
+-- Worked examples: a list of records in which a checker finds nothing, and lists with each finding
+-- about frames.
 use Rattle.std.proofs.Common.{◌≡◌, ◌+◌, ◌<◌, ◌≤◌, ◌&&◌, nat_le, nat_lt, Bool, true, false, cond, List, [], ◌∷◌, codes, refl, arith, rules}
 use Rattle.sym_records.specs.declared.line.SymLine.{SymLine}
 use Rattle.sym_records.specs.declared.line.SymLine.TheVariants.{File, Func, Line, Init, Change}
 use Rattle.sym_meaning.specs.Findings.{are_sized, HasNoFindings}
 use Rattle.sym_meaning.specs.Inits.{inits_at, AreNested}
 
--- a function with a line, and its frames; the rules say nothing
+-- A function with a line, and its frame records, here without rules.
 abbrev clean : List SymLine
 clean =
     File 0 (codes "a.c")
@@ -36,14 +37,14 @@ nothing_found = record {
   changes_rise = search rules;
 }
 
--- C4: an empty INIT, and one whose end is 2^64
+-- C4: an empty INIT, and one whose end is 2^64.
 empty_init : are_sized (Init 0x10 0 []) ≡ false
 empty_init = refl
 
 behind_last : are_sized (Init 0xfffffffffffffff0 0x10 []) ≡ false
 behind_last = refl
 
--- C8: two INITs that meet, with another between; two that touch do not
+-- C8: INITs that overlap need not be neighbours. Two that touch do not overlap.
 inits_meet : HasNoFindings (Init 0x10 0x10 [] ∷ Init 0x40 0x10 [] ∷ Init 0x1f 8 [] ∷ []) → ⊥
 unfolding inits_at
 inits_meet none = let two : 2 ≤ 1 = none.inits_apart 0x1f in absurd (omega arith)
@@ -52,7 +53,8 @@ inits_touch : inits_at (Init 0x10 0x10 [] ∷ Init 0x20 8 [] ∷ []) 0x20 ≡ 1
 unfolding inits_at
 inits_touch = refl
 
--- C9: at the INIT's own address, at that of the change before it, after the INIT, and with no INIT before it
+-- C9: a STACK CFI at the address of its INIT, at that of the STACK CFI before it, after the INIT's
+-- end, and without an INIT.
 change_at_init : AreNested 0 0 (Init 0x10 0x10 [] ∷ Change 0x10 [] ∷ []) → ⊥
 change_at_init nested = let above : 0x10 < 0x10 = nested.1.0 in absurd (omega arith)
 

@@ -1,10 +1,10 @@
--- Worked rows: the function, the inlined copies and the line of an address in a text.
+-- Worked examples: the function, the inlined copies and the line of an address.
 use Rattle.std.proofs.Common.{◌≡◌, List, [], ◌∷◌, Some, None, codes, true, false, refl}
 use Rattle.sym_records.specs.declared.line.SymLine.{SymLine}
 use Rattle.sym_records.specs.declared.line.SymLine.TheVariants.{File, Origin, Func, Inline, Line, Public}
 use Rattle.sym_meaning.specs.TextNames.{text_owner, text_line, Call, text_chain}
 
--- two functions that overlap, the first with an INLINE and two line records
+-- Two functions that overlap, the first with an INLINE and two line records.
 unfoldable text : List SymLine
 text =
     File 0 (codes "a.c")
@@ -18,7 +18,7 @@ text =
     ∷ Public false 0x50 0 (codes "p")
     ∷ []
 
--- the first FUNC that covers the address; its end is not covered
+-- The first FUNC that covers the address counts. Its end is not covered.
 first_function : text_owner text 0x18 ≡ Some (codes "f")
 unfolding text text_owner
 first_function = refl
@@ -31,17 +31,17 @@ behind_both : text_owner text 0x38 ≡ None
 unfolding text text_owner
 behind_both = refl
 
--- the first FILE of a number counts
+-- The first FILE with a number counts.
 line_of_the_first : text_line text 0x13 ≡ Some (Some (codes "a.c"), 3)
 unfolding text text_line
 line_of_the_first = refl
 
--- a record whose FILE is not there
+-- A line record whose FILE is missing.
 line_without_a_file : text_line text 0x14 ≡ Some (None, 9)
 unfolding text text_line
 line_without_a_file = refl
 
--- the line records of the first FUNC alone are asked, also where another FUNC has one
+-- Only the line records of the first FUNC count, even if another FUNC has one.
 line_of_the_second : text_line text 0x1c ≡ None
 unfolding text text_line
 line_of_the_second = refl
@@ -50,7 +50,8 @@ own_line_of_the_second : text_line text 0x30 ≡ Some (Some (codes "a.c"), 7)
 unfolding text text_line
 own_line_of_the_second = refl
 
--- a function with inlined copies at two levels: two of level 0 that overlap, and copies of level 1 inside and outside of them
+-- A function with inlined copies at two levels: two of level 0 that overlap, and copies of level 1
+-- inside and outside of these.
 unfoldable inlined : List SymLine
 inlined =
     File 0 (codes "a.c")
@@ -72,7 +73,7 @@ first_call = record { name = Some (codes "in"); path = Some (codes "a.c"); line 
 abbrev deep_call : Call
 deep_call = record { name = Some (codes "deep"); path = Some (codes "b.h"); line = 7 }
 
--- the end of a range is not covered
+-- The end of a range is not covered.
 one_level : text_chain inlined 0x17 ≡ first_call ∷ []
 unfolding inlined text_chain
 one_level = refl
@@ -81,27 +82,27 @@ behind_the_range : text_chain inlined 0x18 ≡ []
 unfolding inlined text_chain
 behind_the_range = refl
 
--- the outermost call first
+-- The outermost call is the first.
 two_levels : text_chain inlined 0x22 ≡ first_call ∷ deep_call ∷ []
 unfolding inlined text_chain
 two_levels = refl
 
--- of two at one level that cover the address the first counts
+-- Of two INLINE records of one level that cover the address, the first counts.
 first_of_two : text_chain inlined 0x25 ≡ first_call ∷ deep_call ∷ []
 unfolding inlined text_chain
 first_of_two = refl
 
--- an INLINE whose INLINE_ORIGIN and FILE are not there
+-- An INLINE whose INLINE_ORIGIN and FILE are missing.
 without_names : text_chain inlined 0x2b ≡ record { name = None; path = None; line = 6 } ∷ []
 unfolding inlined text_chain
 without_names = refl
 
--- level 1 covers the address, and level 0 does not
+-- Level 1 covers the address, but level 0 does not.
 level_without_its_outer : text_chain inlined 0x30 ≡ []
 unfolding inlined text_chain
 level_without_its_outer = refl
 
--- the INLINE records of the first FUNC alone are asked
+-- Only the INLINE records of the first FUNC count.
 inlined_in_another : text_chain inlined 0x11 ≡ []
 unfolding inlined text_chain
 inlined_in_another = refl

@@ -13,8 +13,9 @@ init_covers x line = false
 unfoldable pub inits_at : List SymLine → ℕ → ℕ
 inits_at lines x = count_by (init_covers x) lines
 
--- no INIT is empty. Each STACK CFI directly follows an INIT or another STACK CFI, is inside the range of the INIT, and has an address above that of
--- the record before it. The statement is about records that follow a record at the address `last`, in a range that ends at `end`
+-- no INIT is empty. Each STACK CFI directly follows an INIT or another STACK CFI, is inside the
+-- range of the INIT, and has an address above that of the record before it. The records `lines`
+-- follow a frame record at the address `last`, in a range that ends at `end`
 abbrev pub AreNested : ℕ → ℕ → List SymLine → Type 0
 AreNested last end [] = Unit {0}
 AreNested last end (Init address size rules ∷ lines) = (0 < size) × AreNested address (address + size) lines

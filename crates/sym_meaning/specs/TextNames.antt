@@ -1,4 +1,5 @@
--- What a look-up in a symbol file names (Breakpad's symbol_files.md): the function, the inlined copies and the line of an address.
+-- The function, the inlined copies and the line that a symbol file has at an address (Breakpad's
+-- symbol_files.md).
 use Rattle.std.specs.Prelude.{ℕ, zero, suc, ◌+◌, Bool, false, ◌&&◌, ◌==◌, nat_le, nat_lt, max, if◌then◌else◌, map, List, [], ◌∷◌, Option, None, Some}
 use Rattle.std.specs.List.{find, list_any}
 use Rattle.std.specs.Option.{option_map, option_map_or, option_and_then}
@@ -57,7 +58,7 @@ file_name _ = []
 abbrev pub text_path : List SymLine → ℕ → Option (List ℕ)
 text_path lines n = option_map file_name (find (is_file n) lines)
 
--- what a line record says: the path of its FILE, if there is such a FILE, and the line
+-- the path of a line record's FILE, if there is such a FILE, and the record's line
 abbrev pub path_and_line : List SymLine → SymLine → Option (List ℕ) × ℕ
 path_and_line lines (Line address size line file) = (text_path lines file, line)
 path_and_line lines _ = (None, 0)
@@ -93,19 +94,20 @@ pub record Call : Type 0 where
   pub path : Option (List ℕ)
   pub line : ℕ
 
--- what an INLINE says: the name of its INLINE_ORIGIN and the path of its FILE, if there are such records, and the line
+-- the call of an INLINE: the name of its INLINE_ORIGIN and the path of its FILE, if there are such
+-- records, and its line
 abbrev pub call_of : List SymLine → SymLine → Call
 call_of lines (Inline level line file origin ranges) = record { name = text_origin lines origin; path = text_path lines file; line = line }
 call_of lines _ = record { name = None; path = None; line = 0 }
 
--- the number of levels of INLINE records: one more than the highest level
+-- one more than the highest level of INLINE records, or 0 if there are none
 abbrev pub level_count : List SymLine → ℕ
 level_count [] = 0
 level_count (Inline level line file origin ranges ∷ lines) = max (level + 1) (level_count lines)
 level_count (_ ∷ lines) = level_count lines
 
--- for each level from `level` on, the first INLINE record that covers the address; the list ends at a level without one, and has at most `levels`
--- records
+-- for each level from `level` on, the first INLINE of this level that covers the address. The list
+-- ends at the first level without one, and has at most `levels` records
 abbrev pub inlines_from : ℕ → ℕ → ℕ → List SymLine → List SymLine
 inlines_from x level zero records = []
 inlines_from x level (suc levels) records = option_map_or (λ s. s ∷ inlines_from x (level + 1) levels records) (find (is_inline_at level x) records) []
@@ -114,6 +116,7 @@ inlines_from x level (suc levels) records = option_map_or (λ s. s ∷ inlines_f
 abbrev pub inlines_under : ℕ → Found → List SymLine
 inlines_under x f = inlines_from x 0 (level_count (under f.behind)) (under f.behind)
 
--- the calls at the address, the outermost first: what the INLINE records under the first FUNC that covers the address say
+-- the calls at the address, the outermost first, as the INLINE records under the first FUNC that
+-- covers the address give them
 unfoldable pub text_chain : List SymLine → ℕ → List Call
 text_chain lines x = map (call_of lines) (option_map_or (inlines_under x) (text_func lines x) [])

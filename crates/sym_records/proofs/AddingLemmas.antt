@@ -1,4 +1,4 @@
--- Records spelled at the end of a text.
+-- Records that are spelled at the end of a text.
 use Rattle.std.proofs.Common.{◌≡◌, ℕ, ◌+◌, ◌<◌, ◌≤◌, ◌∷◌, ◌++◌, Bool, List, [], length, drop, codes, Result, Ok, Err, OnOk, refl, ap, sym, ◌∙◌, append_assoc, append-nil, arith, take, ◌-◌, length-drop, get_or}
 use Rattle.std.proofs.lemmas.List.{drop_all, take_all}
 use Rattle.std.specs.List.{flat_map}
@@ -11,16 +11,14 @@ use Rattle.sym_records.specs.Fields.{hex, mark, spelled_range}
 use Rattle.sym_records.specs.declared.line.Extent.{Extent}
 use Rattle.sym_records.specs.declared.line.SymLine.TheVariants as line
 
--- one more piece of a list
 pub adds_piece : {X : Type 0} (f : X → List ℕ) (xs : List X) (i : ℕ) (d : X) (old text new : List ℕ) → i < length xs → d ≡ get_or xs i d → text ≡ old ++ flat_map f (take i xs) → new ≡ text ++ f d → new ≡ old ++ flat_map f (take (i + 1) xs)
 adds_piece f xs i d old text new within is first second =
     second ∙ ap (λ l. l ++ f d) first ∙ append_assoc old (flat_map f (take i xs)) (f d) ∙ ap (λ l. old ++ l) (sym (pieces_more f xs i d within is))
 
--- all pieces
 pub adds_all : {X : Type 0} (f : X → List ℕ) (xs : List X) (i : ℕ) (old text : List ℕ) → length xs ≤ i → text ≡ old ++ flat_map f (take i xs) → text ≡ old ++ flat_map f xs
 adds_all f xs i old text past is = is ∙ ap (λ l. old ++ flat_map f l) (take_all i xs past)
 
--- pieces that were written one in front of another
+-- Two pieces that were written one before the other.
 two_before : (a b old behind now : List ℕ) → behind ≡ b ++ old → now ≡ a ++ behind → now ≡ (a ++ b) ++ old
 two_before a b old behind now p q = q ∙ ap (λ l. a ++ l) p ∙ sym (append_assoc a b old)
 
@@ -33,7 +31,6 @@ unfolding init_front
 init_before address size old behind middle now p q r =
     two_before (codes "STACK CFI INIT") ((32 ∷ hex address) ++ (32 ∷ hex size)) old middle now (two_before (32 ∷ hex address) (32 ∷ hex size) old behind middle p q) r
 
--- what was written into a line of its own is added
 alone : (line before : List ℕ) (end : ℕ) → length before ≤ end → line ++ drop end before ≡ line
 alone line before end past = ap (λ l. line ++ l) (drop_all end before past) ∙ append-nil line
 
@@ -42,7 +39,7 @@ unfolding spelled_range
 adds_range range old new a b before end past p q r =
     r ∙ ap (λ l. old ++ l) (two_before (32 ∷ hex range.address) (32 ∷ hex range.size) (drop end before) a b p q ∙ alone ((32 ∷ hex range.address) ++ (32 ∷ hex range.size)) before end past)
 
--- what was added piece by piece is the line: its words, its fields and its end
+-- The pieces that were added are the line: its words, its fields and its end.
 one : (o w a z : List ℕ) → ((o ++ w) ++ a) ++ z ≡ o ++ ((w ++ a) ++ z)
 one o w a z = simp append_assoc refl
 
@@ -105,7 +102,7 @@ unfolding canon body
 adds_line address size number file old a b c d e f p0 p1 p2 p3 p4 p5 =
     rw (p5, p4, p3, p2, p1, p0) (numbered old (hex address) (32 ∷ hex size) (32 ∷ decimal number) (32 ∷ decimal file) (10 ∷ []))
 
--- the line of a frame record: its front, its rules and its end
+-- The line of a frame record: its front, its rules and LF.
 pub init_line : (address size : ℕ) (rules : List RuleText) → init_front address size ++ (spelled_rules rules ++ 10 ∷ []) ≡ canon (line.Init address size rules)
 unfolding canon body init_front
 init_line address size rules = simp append_assoc refl
@@ -114,11 +111,10 @@ pub change_line : (address : ℕ) (rules : List RuleText) → change_front addre
 unfolding canon body change_front
 change_line address rules = simp append_assoc refl
 
--- what stands in a line from a place on
+-- The part of the line that was written is added to the text.
 pub tail_added : (old line text : List ℕ) (size at : ℕ) → length line ≤ size → text ≡ old ++ take (size - at) (drop at line) → text ≡ old ++ drop at line
 tail_added old line text size at short is = is ∙ ap (λ l. old ++ l) (take_all (size - at) (drop at line) (omega (arith, length-drop at line)))
 
--- a fact that follows where a call ended well
 pub on_ok : {A F : Type 0} {P Q : Type 0} (r : Result A F) → (P → Q) → OnOk r P → OnOk r Q
 on_ok (Ok x) then is = then is
 on_ok (Err e) then is = tt

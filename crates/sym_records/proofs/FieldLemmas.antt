@@ -1,4 +1,4 @@
--- Fields are read from their spelling.
+-- Each field is read from its own spelling.
 use Rattle.std.proofs.Common.{◌≡◌, ℕ, ◌^◌, ◌<◌, ◌≤◌, ◌==◌, ◌&&◌, ◌||◌, cond, Bool, true, false, List, [], ◌∷◌, ◌++◌, length, codes, Some, None, Ok, nat_lt, refl, sym, ◌∙◌, ap, arith, subst, append_assoc, append-nil}
 use Rattle.std.specs.List.{list_all, flat_map}
 use Rattle.std.specs.Fmt.{decimal}
@@ -26,12 +26,12 @@ use Rattle.sym_rules.specs.Rules.{spelled_rule, spelled_rules}
 use Rattle.sym_rules.specs.declared.rules.RuleText.{RuleText}
 use Rattle.sym_records.specs.declared.line.Extent.{Extent}
 
--- a field ends here
+-- A field ends before these bytes.
 abbrev pub Parted : List ℕ → Type 0
 Parted [] = Unit {0}
 Parted (x ∷ xs) = (x == 32) ≡ true
 
--- and another follows
+-- Another field begins with these bytes, or the line ends.
 abbrev pub Opened : List ℕ → Type 0
 Opened [] = ⊥
 Opened (x ∷ xs) = (x == 32) ≡ true
@@ -57,7 +57,7 @@ from_parted [] (x ∷ rest) all parted = ap (λ t. cond t (x ∷ rest) (from 32 
 from_parted (x ∷ w) rest all parted =
     ap (λ t. cond t (x ∷ (w ++ rest)) (from 32 (w ++ rest))) (not_space x (and_true all).0) ∙ from_parted w rest (and_true all).1 parted
 
--- a word
+-- A word is read from its spelling.
 word_back : (w rest : List ℕ) → is_field w ≡ true → Parted rest → word_at (32 ∷ (w ++ rest)) ≡ Ok (w, rest)
 unfolding word_at is_field
 word_back [] rest is parted = cc
@@ -66,7 +66,7 @@ word_back (x ∷ w) rest is parted =
     ∙ ap (λ l. Ok (l, from 32 ((x ∷ w) ++ rest))) (before_parted (x ∷ w) rest (and_true is).1 parted)
     ∙ ap (λ l. Ok (x ∷ w, l)) (from_parted (x ∷ w) rest (and_true is).1 parted)
 
--- a hexadecimal number
+-- A hexadecimal number is read from its spelling.
 hex_back : (n : ℕ) (rest : List ℕ) → n < 2 ^ 64 → Parted rest → hex_at (32 ∷ (hex n ++ rest)) ≡ Ok (n, rest)
 unfolding hex_at
 hex_back n rest small parted = rw (word_back (hex n) rest (hex_field n small) parted, hex_value_is n small) refl
@@ -78,7 +78,7 @@ all_digits (d ∷ ds) all = both (let below : digit_value d < 16 = all.0 in grin
 pub hex_digits : (n : ℕ) → n < 2 ^ 64 → list_all (λ b. nat_lt (digit_value b) 16) (hex n) ≡ true
 hex_digits n small = all_digits (hex n) (digits_is_IsNumeral 16 false (omega arith) (omega arith) n (wide n small)).0.1
 
--- a word with another byte than hexadecimal digits is none
+-- A word with a byte that is not a hexadecimal digit is not the spelling of a number.
 pub hex_not : (n : ℕ) (w : List ℕ) → n < 2 ^ 64 → list_all (λ b. nat_lt (digit_value b) 16) w ≡ false → bytes_eq (hex n) w ≡ false
 hex_not n w small other =
     elim_bool (bytes_eq (hex n) w) (λ t. t ≡ false)
@@ -90,7 +90,7 @@ unfolding is_field
 next_hex n rest small parted =
     ap (before 32) (skip_one (hex n ++ rest) ∙ skip_all (hex n) rest (hex_field n small)) ∙ before_parted (hex n) rest (and_true (hex_field n small)).1 parted
 
--- a number with a mark, or without
+-- An optional mark is read from its spelling.
 mark_back : (many : Bool) (n : ℕ) (rest : List ℕ) → n < 2 ^ 64 → Parted rest → mark_at (mark many ++ 32 ∷ (hex n ++ rest)) ≡ (many, 32 ∷ (hex n ++ rest))
 unfolding mark_at before from skip
 mark_back true n rest small parted = refl
@@ -103,7 +103,7 @@ unfolding marked_at
 marked_back many n rest small parted =
     rw (append_assoc (mark many) (32 ∷ hex n) rest, mark_back many n rest small parted, hex_back n rest small parted) refl
 
--- a decimal number
+-- A decimal number is read from its spelling.
 below_32 : {n : ℕ} → nat_lt n (2 ^ 32) ≡ true → n ≤ 2 ^ 63
 below_32 is = grind (arith, nat_tests)
 
@@ -125,14 +125,14 @@ decimal_back : (n : ℕ) (rest : List ℕ) → nat_lt n (2 ^ 32) ≡ true → Pa
 unfolding decimal_at
 decimal_back n rest small parted = rw (word_back (decimal n) rest (decimal_field n small) parted, decimal_value_is n small) refl
 
--- a field in the middle
+-- A middle field is read from its spelling.
 pub middle_back : (m : Middle) (x : Held m) (rest : List ℕ) → fits_middle m x ≡ true → Parted rest → middle_at m (spelled_middle m x ++ rest) ≡ Ok (x, rest)
 middle_back Word w rest fits parted = word_back w rest fits parted
 middle_back Hex n rest fits parted = hex_back n rest (below fits) parted
 middle_back Marked x rest fits parted = marked_back x.0 x.1 rest (below fits) parted
 middle_back Decimal n rest fits parted = decimal_back n rest fits parted
 
--- ranges
+-- Ranges are read from their spelling.
 pub ranges_spelled : (ranges : List Extent) → parted (flat_map range_words ranges) ≡ flat_map spelled_range ranges
 unfolding spelled_range
 ranges_spelled [] = refl
@@ -186,7 +186,7 @@ last_back n small =
     ∙ ap (λ r. r >>= λ x. at_end x.0 (skip is_space x.1)) (decimal_back n [] small tt)
     ∙ ap (at_end n) skip_nothing
 
--- fields begin with a space
+-- The spelling of fields begins with a space.
 opened_behind : (xs ys : List ℕ) → Opened xs → Opened (xs ++ ys)
 opened_behind [] ys is = absurd is
 opened_behind (x ∷ xs) ys is = is
@@ -215,7 +215,7 @@ opened Ranges ranges fits = ranges_opened ranges fits
 opened Last n fits = refl
 opened (Then m rest) v fits = opened_behind (spelled_middle m v.0) (spelled rest v.1) (middle_opened m v.0)
 
--- all fields
+-- All fields are read from their spelling.
 pub values_back : (shape : Shape) (v : Values shape) → fit shape v ≡ true → values_at shape (spelled shape v) ≡ Ok v
 values_back Name name fits = name_is name (name_parts name fits)
 values_back Rules rules fits = rules_back rules fits
@@ -241,7 +241,7 @@ no_space h = omega (arith, h)
 no_cr : digit_value 13 < 16 → ⊥
 no_cr h = omega (arith, h)
 
--- a hexadecimal digit is no margin
+-- A hexadecimal digit is neither a space nor CR.
 pub digit_inner : (d : ℕ) → nat_lt (digit_value d) 16 ≡ true → is_margin d ≡ false
 digit_inner d is = none_of (d == 32) (d == 13)
     (elim_bool (d == 32) (λ t. t ≡ false) (λ same. absurd (no_space (subst (λ (x : ℕ). digit_value x < 16) (eqb-true d 32 same) (digit_below d is)))) (λ _. refl))
@@ -290,7 +290,7 @@ name_ends : (name : List ℕ) → NameParts name → last_is is_cr (32 ∷ name)
 name_ends [] parts = absurd (omega (arith, parts.some))
 name_ends (x ∷ name) parts = last_later is_cr 32 x name ∙ ends_at x name ∙ parts.ends
 
--- the last byte is one that counts
+-- The last byte of a spelling is not ignored.
 pub shape_ends : (shape : Shape) (v : Values shape) → fit shape v ≡ true → last_is (is_end shape) (spelled shape v) ≡ false
 shape_ends Name name fits = name_ends name (name_parts name fits)
 shape_ends Rules rules fits = rules_end rules fits
@@ -307,7 +307,7 @@ end_cr false xs is = cr_none xs is
 pub ends_cr : (shape : Shape) (xs : List ℕ) → last_is (is_end shape) xs ≡ false → last_is is_cr xs ≡ false
 ends_cr shape xs is = end_cr (is_named shape) xs is
 
--- the fields after a keyword
+-- The fields after a keyword are read from their spelling.
 pub fields_back : (shape : Shape) (v : Values shape) → fit shape v ≡ true → fields_at shape (spelled shape v) ≡ Ok v
 unfolding fields_at
 fields_back shape v fits = ap (values_at shape) (trim_kept (is_end shape) (spelled shape v) (shape_ends shape v fits)) ∙ values_back shape v fits

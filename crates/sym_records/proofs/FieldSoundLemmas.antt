@@ -1,4 +1,4 @@
--- What is read as fields of one line is what a line can carry.
+-- A line can carry the fields that were read from it.
 use Rattle.std.proofs.Common.{◌≡◌, ℕ, ◌+◌, ◌-◌, ◌*◌, ◌^◌, ◌<◌, ◌≤◌, ◌==◌, ◌&&◌, cond, Bool, true, false, not, List, [], ◌∷◌, length, get_or, codes, Option, Some, None, ok_or, Result, Ok, nat_lt, refl, sym, ◌∙◌, ap, arith, subst, ⊎_elim}
 use Rattle.std.specs.List.{list_all}
 use Rattle.std.specs.Option.{option_and_then}
@@ -20,14 +20,13 @@ use Rattle.sym_rules.specs.declared.text_fault.TextKind.{TextKind}
 use Rattle.sym_rules.specs.declared.text_fault.TextKind.TheVariants as fault
 use Rattle.sym_records.specs.declared.line.Extent.{Extent}
 
--- a reading that gave a value
 abbrev gives : {A : Type 0} → A → Result A TextKind
 gives x = Ok x
 
 pub ok_is : {A : Type 0} (x y : A) → gives x ≡ gives y → x ≡ y
 ok_is x y is = cc
 
--- bytes that are left of others: what holds of all bytes, and what the last is not, is kept
+-- Facts about the bytes that are left of others.
 pub record Behind (bytes rest : List ℕ) : Type 0 where
   pub all : (p : ℕ → Bool) → list_all p bytes ≡ true → list_all p rest ≡ true
   pub ends : (p : ℕ → Bool) → last_is p bytes ≡ false → last_is p rest ≡ false
@@ -44,7 +43,7 @@ behind_word bytes = record {
 pub behind_both : (a b c : List ℕ) → Behind a b → Behind b c → Behind a c
 behind_both a b c first second = record { all = λ p all. second.all p (first.all p all); ends = λ p ends. second.ends p (first.ends p ends) }
 
--- a field that was read
+-- Facts about a field that was read.
 record Taken (bytes : List ℕ) (x : List ℕ × List ℕ) : Type 0 where
   some : 0 < length x.0
   word : x.0 ≡ before 32 (skip is_space bytes)
@@ -75,7 +74,7 @@ before_within (x ∷ xs) all =
     elim_bool (x == 32) (λ t. (x == 32) ≡ t → list_all is_within_field (cond t [] (x ∷ before 32 xs)) ≡ true)
     (λ _ _. refl) (λ _ other. both (both (not_false other) (and_true all).0) (before_within xs (and_true all).1)) refl
 
--- a field that was read, and what is left
+-- Facts about a middle field that was read, and about the bytes after it.
 pub record Good (m : Middle) (bytes : List ℕ) (x : Held m × List ℕ) : Type 0 where
   pub fits : fits_middle m x.0 ≡ true
   pub rest : Behind bytes x.1
@@ -159,14 +158,14 @@ decimal_good bytes x is =
     subst (λ (y : ℕ × List ℕ). Good Decimal bytes y) (ok_is _ x value.2)
     (record { fits = decimal_sound word.0.0 value.0 (or_some (decimal_value word.0.0) fault.Decimal value.0 value.1); rest = left_behind bytes word.0 (word_taken bytes word.0 word.1) })
 
--- a field in the middle
+-- A middle field that was read.
 pub middle_good : (m : Middle) (bytes : List ℕ) (x : Held m × List ℕ) → list_all is_within_line bytes ≡ true → middle_at m bytes ≡ Ok x → Good m bytes x
 middle_good Word bytes x line is = word_good bytes x line is
 middle_good Hex bytes x line is = hex_good bytes x is
 middle_good Marked bytes x line is = marked_good bytes x is
 middle_good Decimal bytes x line is = decimal_good bytes x is
 
--- a name
+-- A name that was read.
 name_fits : (z name : List ℕ) → Begins z → list_all is_within_line z ≡ true → last_is is_cr z ≡ false → name_of z ≡ Ok name → is_name name ≡ true
 unfolding is_name
 name_fits [] name begins line ends is = cc
@@ -178,7 +177,7 @@ name_good : (bytes name : List ℕ) → list_all is_within_line bytes ≡ true �
 unfolding name_at
 name_good bytes name line ends is = name_fits (skip is_space bytes) name (begins_skip bytes) (all_skip is_within_line is_space bytes line) (skip_ends is_cr is_space bytes ends) is
 
--- ranges
+-- Ranges that were read.
 abbrev AllRanges : List Extent → Type 0
 AllRanges ranges = list_all is_range ranges ≡ true
 
@@ -206,7 +205,6 @@ ranges_good bytes ranges is =
     let pairs = bind_ok (pairs_of (words bytes)) some_ranges ranges is in
     some_good pairs.0 ranges (pairs_good (words bytes) pairs.0 pairs.1) pairs.2
 
--- the last number
 end_is : (n : ℕ) (z : List ℕ) (m : ℕ) → at_end n z ≡ gives m → n ≡ m
 end_is n [] m is = ok_is n m is
 end_is n (b ∷ z) m is = cc
@@ -217,7 +215,7 @@ last_good bytes n is =
     let first = bind_ok (decimal_at bytes) _ n is in
     ap (λ v. nat_lt v (2 ^ 32)) (sym (end_is first.0.0 (skip is_space first.0.1) n first.2)) ∙ (decimal_good bytes first.0 first.1).fits
 
--- all fields
+-- All fields that were read.
 pub values_good : (shape : Shape) (bytes : List ℕ) (v : Values shape) → list_all is_within_line bytes ≡ true → last_is (is_end shape) bytes ≡ false → values_at shape bytes ≡ Ok v → fit shape v ≡ true
 values_good Name bytes name line ends is = name_good bytes name line ends is
 values_good Rules bytes rules line ends is = rules_sound bytes rules line ends is

@@ -15,12 +15,12 @@ good_here : (i : ℕ) (place : Place) (s : SymLine) (lines : List SymLine) → (
 unfolding first_bad_from
 good_here i place s lines good = ap (λ b. cond b (first_bad_from (i + 1) (leads place s) lines) (Some i)) good
 
--- the search ends at a bad record
+-- The search for a bad record ends at one.
 pub bad_at : (place : Place) (lines : List SymLine) (i : ℕ) (s : SymLine) → i < length lines → s ≡ get_or lines i s → (fits place s && fields_fit s) ≡ false → first_bad_from i place (drop i lines) ≡ Some i
 bad_at place lines i s within is bad =
     at_drop_more (first_bad_from i place) lines i s within ∙ ap (λ x. first_bad_from i place (x ∷ drop (i + 1) lines)) (sym is) ∙ bad_here i place s (drop (i + 1) lines) bad
 
--- and goes on after a good one
+-- The search goes on after a good record.
 pub good_at : (place : Place) (lines : List SymLine) (i : ℕ) (s : SymLine) → i < length lines → s ≡ get_or lines i s → (fits place s && fields_fit s) ≡ true → first_bad_from (i + 1) (leads place s) (drop (i + 1) lines) ≡ first_bad_from i place (drop i lines)
 good_at place lines i s within is good =
     sym (at_drop_more (first_bad_from i place) lines i s within ∙ ap (λ x. first_bad_from i place (x ∷ drop (i + 1) lines)) (sym is) ∙ good_here i place s (drop (i + 1) lines) good)
@@ -32,7 +32,6 @@ none_left i place = refl
 drop_past : {A : Type 0} (xs : List A) (i : ℕ) → length xs ≤ i → drop i xs ≡ []
 drop_past xs i past = grind (arith, common_steps)
 
--- there is none after the last record
 pub none_left_at : (place : Place) (lines : List SymLine) (i : ℕ) → length lines ≤ i → first_bad_from i place (drop i lines) ≡ None
 none_left_at place lines i past = ap (first_bad_from i place) (drop_past lines i past) ∙ none_left i place
 

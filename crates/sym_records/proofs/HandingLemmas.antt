@@ -1,4 +1,4 @@
--- Records, as they are handed on.
+-- Records that are put into a buffer.
 use Rattle.std.proofs.Common.{◌≡◌, ℕ, ◌+◌, ◌<◌, zero, suc, arith, take, get_or, List, [], ◌∷◌, ◌++◌, Option, Result, Ok, Err, length, refl, ◌∙◌, ap, subst, append-nil}
 use Rattle.std.specs.List.{flat_map}
 use Rattle.std.specs.Fmt.{decimal}
@@ -12,7 +12,7 @@ use Rattle.sym_records.specs.declared.line.Extent.{Extent}
 use Rattle.sym_records.specs.declared.line.SymLine.{SymLine}
 use Rattle.sym_records.specs.declared.line.SymLine.TheVariants as line
 
--- two pieces that are one thing
+-- Two pieces that together spell one thing.
 pub one_hands : {A F : Type 0} (p q all : List ℕ) (x : A) (end : Result A F) (a b c : Option (List ℕ)) (f g h : ℕ) (w v u : List ℕ) → p ++ q ≡ all → Hands {A = A} {F = F} (Ok x) a f w p b g v → Hands end b g v q c h u → Hands end a f w all c h u
 one_hands p q all x end a b c f g h w v u is first second = subst (λ (l : List ℕ). Hands end a f w l c h u) is (hands_both x end a b c f g h w p v q u first second)
 
@@ -27,7 +27,7 @@ pub record_is : (s : SymLine) → body s ++ 10 ∷ [] ≡ canon s
 unfolding canon
 record_is s = refl
 
--- a line record: its first number, and the other fields
+-- A line record: its first number, and then the other fields.
 pub line_is : (address size number file : ℕ) (start : List ℕ) → start ≡ hex address → start ++ flat_map (λ f. spelled_field (said f)) (held.Hex size ∷ held.Decimal number ∷ held.Decimal file ∷ []) ≡ body (line.Line address size number file)
 unfolding body
 line_is address size number file start is =
@@ -39,7 +39,7 @@ read_at [] i d e within = absurd (omega arith)
 read_at (x ∷ xs) zero d e within = refl
 read_at (x ∷ xs) (suc i) d e within = read_at xs i d e (omega arith)
 
--- pieces of a list that are read by their places
+-- The next piece of a list, found by its place.
 pub piece_at : {A F X : Type 0} (spelled : X → List ℕ) (xs : List X) (i : ℕ) (e : X) (x : A) (a b c : Option (List ℕ)) (f g h : ℕ) (w v u : List ℕ) → i < length xs
     → Handed a f w (flat_map spelled (take i xs)) b g v → Hands {A = A} {F = F} (Ok x) b g v (spelled (get_or xs i e)) c h u → Handed a f w (flat_map spelled (take (i + 1) xs)) c h u
 piece_at spelled xs i e x a b c f g h w v u within first second = hands_piece spelled xs i (get_or xs i e) x a b c f g h w v u within (read_at xs i e (get_or xs i e) within) first second
@@ -48,7 +48,6 @@ pub broken_at : {A F X : Type 0} (spelled : X → List ℕ) (xs : List X) (i : �
     → Handed a f w (flat_map spelled (take i xs)) b g v → Hands {A = A} {F = F} (Err d) b g v (spelled (get_or xs i e)) c h u → Hands {A = A} {F = F} (Err k) a f w (flat_map spelled xs) c h t
 broken_at spelled xs i e d k a b c f g h w v u t within first second = hands_broken spelled xs i (get_or xs i e) d k a b c f g h w v u t within (read_at xs i e (get_or xs i e) within) first second
 
--- a piece that was handed on by its bytes
 pub same_piece : {A F X : Type 0} (spelled : X → List ℕ) (xs : List X) (i : ℕ) (d : X) (bytes : List ℕ) (x : A) (a b c : Option (List ℕ)) (f g h : ℕ) (w v u : List ℕ) → i < length xs → d ≡ get_or xs i d → bytes ≡ spelled d
     → Handed a f w (flat_map spelled (take i xs)) b g v → Hands {A = A} {F = F} (Ok x) b g v bytes c h u → Handed a f w (flat_map spelled (take (i + 1) xs)) c h u
 same_piece {A = A} {F = F} spelled xs i d bytes x a b c f g h w v u within at is first second =

@@ -1,4 +1,4 @@
--- How long the line of a record is.
+-- The length of the line of a record.
 use Rattle.std.proofs.Common.{◌≡◌, ℕ, ◌+◌, ◌-◌, ◌^◌, ◌<◌, Bool, true, false, cond, min, List, [], ◌∷◌, ◌++◌, length, drop, map, nat_le, ◌∙◌, ap, arith, length-append}
 use Rattle.std.specs.List.{flat_map}
 use Rattle.std.proofs.lemmas.Bool.Decides.{nat_tests}
@@ -41,7 +41,7 @@ short s fs list words count limit small first second third is =
     = omega (arith, body_length s, ap length third, ap length (spelled_said fs ∙ ap (flat_map spelled_field) (second ∙ first))) in
     grind (arith, nat_tests)
 
--- the lines of the records that are made: their keywords, their spaces and their fields
+-- The length of each record: its keyword, its spaces and its fields.
 pub length_module : (binary : Binary) → length (body (line.Module binary)) ≡ 10 + length binary.os + length binary.arch + length binary.id + length binary.name
 unfolding body
 length_module b = omega (arith, length-append (32 ∷ b.os) ((32 ∷ b.arch) ++ ((32 ∷ b.id) ++ 32 ∷ b.name)), length-append (32 ∷ b.arch) ((32 ∷ b.id) ++ 32 ∷ b.name), length-append (32 ∷ b.id) (32 ∷ b.name))

@@ -1,4 +1,4 @@
--- Fields by shape and fields as a list are the same.
+-- The fields of a record by their kinds are the same as those in the list.
 use Rattle.std.proofs.Common.{◌≡◌, ℕ, ◌&&◌, Bool, true, false, List, [], ◌∷◌, ◌++◌, length, drop, map, refl, sym, ◌∙◌, ap, subst, arith, append-nil, ◌<◌}
 use Rattle.std.specs.List.{list_all, flat_map}
 use Rattle.sym_records.specs.Canon.{body}
@@ -11,7 +11,7 @@ use Rattle.sym_records.specs.declared.keyword.Keyword.{Keyword}
 use Rattle.sym_records.specs.declared.line.SymLine.{SymLine}
 use Rattle.sym_records.proofs.RecordLemmas.{made_back}
 
--- a record's fields are those of its keyword
+-- The fields of a record are those of its keyword.
 parts_listed : (p : Parts) → fields_in p ≡ listed (layout (keyword_in p)) (values_in p)
 parts_listed (after k v) = refl
 
@@ -48,11 +48,11 @@ listed_fits Ranges rs = and_end _
 listed_fits Last n = and_end _
 listed_fits (Then m rest) v = ap (λ b. b && list_all fits_field (listed rest v.1)) (middle_fits m v.0) ∙ ap (λ b. fits_middle m v.0 && b) (listed_fits rest v.1)
 
--- the test goes over the fields
+-- The test of a record tests each field of the list.
 pub fields_test : (s : SymLine) → list_all fits_field (fields s) ≡ has_fields s
 fields_test s = ap (list_all fits_field) (fields_listed s) ∙ listed_fits (layout (keyword s)) (values s)
 
--- and so does the spelling
+-- The spelling of a record spells each field of the list.
 pub fields_spell : (s : SymLine) → drop 1 (headed (keyword s) ++ flat_map spelled_field (fields s)) ≡ body s
 unfolding body
 fields_spell s = ap (λ l. drop 1 (headed (keyword s) ++ l)) (ap (flat_map spelled_field) (fields_listed s) ∙ listed_spelled (layout (keyword s)) (values s))
@@ -61,7 +61,7 @@ fits_said : (fs : List Field) → list_all (λ f. fits_field (said f)) fs ≡ li
 fits_said [] = refl
 fits_said (f ∷ fs) = ap (λ b. fits_field (said f) && b) (fits_said fs)
 
--- the test of the fields that code has
+-- The test of a record tests each field in the code's list.
 pub fit_test : (s : SymLine) (fs : List Field) (list : List Said) → list ≡ fields s → map said fs ≡ list → list_all (λ f. fits_field (said f)) fs ≡ has_fields s
 fit_test s fs list first second = fits_said fs ∙ ap (list_all fits_field) (second ∙ first) ∙ fields_test s
 
@@ -69,7 +69,6 @@ pub spelled_said : (fs : List Field) → flat_map (λ f. spelled_field (said f))
 spelled_said [] = refl
 spelled_said (f ∷ fs) = ap (λ b. spelled_field (said f) ++ b) (spelled_said fs)
 
--- a record with a keyword is its words and its fields
 behind_head : (h x : List ℕ) → 0 < length h → drop 1 (h ++ x) ≡ drop 1 h ++ x
 behind_head [] x some = absurd (omega (arith, some))
 behind_head (b ∷ h) x some = refl
@@ -80,7 +79,7 @@ worded_body s fs list head some is first second =
     ap (λ l. l ++ flat_map (λ f. spelled_field (said f)) fs) is ∙ ap (λ l. drop 1 (headed (keyword s)) ++ l) spelling
     ∙ sym (behind_head (headed (keyword s)) (flat_map spelled_field (fields s)) some) ∙ fields_spell s
 
--- fields of one shape that say the same are the same
+-- Fields of one kind with the same value are equal.
 middle_tells : (m : Middle) (x y : Held m) → middle_said m x ≡ middle_said m y → x ≡ y
 middle_tells Word w v is = cc
 middle_tells Hex n k is = cc
@@ -100,7 +99,7 @@ listed_tells (Then m rest) v w is =
     let q : v.1 ≡ w.1 = listed_tells rest v.1 w.1 cc in
     ap (λ x. (x, v.1)) p ∙ ap (λ xs. (w.0, xs)) q
 
--- records of one keyword and the same fields are the same
+-- Records of one keyword with the same fields are equal.
 made_of : (a : SymLine) (k : Keyword) → keyword a ≡ k → (v : Values (layout k)) → fields a ≡ listed (layout k) v → a ≡ made k v
 made_of a k is = subst (λ k. (v : Values (layout k)) → fields a ≡ listed (layout k) v → a ≡ made k v) is
     (λ v same. sym (made_back a) ∙ ap (made (keyword a)) (listed_tells (layout (keyword a)) (values a) v (sym (fields_listed a) ∙ same)))

@@ -1,4 +1,4 @@
--- For who makes records: which fields fit. Which lists are valid stands in JoiningLemmas.
+-- Which records pass the test, for code that makes them. `JoiningLemmas` has the lemmas on lists.
 pub use Rattle.sym_records.proofs.JoiningLemmas.{first_fits, push_fits, join_fits, join_behind, push_behind, behind_pushed, frame_fits}
 use Rattle.std.proofs.Common.{◌≡◌, ℕ, ◌+◌, ◌-◌, ◌*◌, ◌^◌, ◌<◌, ◌≤◌, ◌==◌, cond, Bool, true, false, List, [], ◌∷◌, ◌++◌, length, get_or, codes, nat_lt, nat_le, refl, ap, arith, subst, length-append}
 use Rattle.std.specs.List.{list_all, flat_map}
@@ -25,7 +25,7 @@ use Rattle.sym_records.specs.declared.line.Extent.{Extent}
 use Rattle.sym_records.specs.declared.line.SymLine.{SymLine}
 use Rattle.sym_records.specs.declared.line.SymLine.TheVariants.{Module, Info, File, Origin, Func, Inline, Line, Public, Init, Change}
 
--- a record fits whose fields fit and whose line is short
+-- A record passes the test if its fields fit and its line is short.
 fits_both : (s : SymLine) → has_fields s ≡ true → length (body s) ≤ 2 ^ 20 → fields_fit s ≡ true
 unfolding fields_fit
 fits_both s fits short = both fits (le-leb (length (body s)) (2 ^ 20) short)
@@ -36,7 +36,7 @@ small n is = lt-ltb n (2 ^ 64) is
 little : (n : ℕ) → n < 2 ^ 32 → nat_lt n (2 ^ 32) ≡ true
 little n is = lt-ltb n (2 ^ 32) is
 
--- a decimal number below 2^32 has at most 10 digits
+-- A decimal number below 2^32 has at most 10 digits.
 length_decimal : (n : ℕ) → n < 2 ^ 32 → length (decimal n) ≤ 10
 length_decimal n is = length-decimal-le 10 n (omega arith) (omega (arith, is)) (omega (arith, is))
 
@@ -44,16 +44,16 @@ length_mark : (many : Bool) → length (mark many) ≤ 2
 length_mark true = omega arith
 length_mark false = omega arith
 
--- MODULE of three fields and a name
+-- MODULE with three fields and a name.
 pub module_fits : (binary : Binary) → is_field binary.os ≡ true → is_field binary.arch ≡ true → is_field binary.id ≡ true → is_name binary.name ≡ true → 10 + length binary.os + length binary.arch + length binary.id + length binary.name ≤ 2 ^ 20 → fields_fit (Module binary) ≡ true
 module_fits binary first second third last short =
     fits_both (Module binary) (both first (both second (both third last))) (omega (arith, length_module binary))
 
--- INFO of a text that is a name
+-- INFO with a text that is a name.
 pub info_fits : (text : List ℕ) → is_name text ≡ true → 5 + length text ≤ 2 ^ 20 → fields_fit (Info text) ≡ true
 info_fits text last short = fits_both (Info text) last (omega (arith, length_info text))
 
--- FILE and INLINE_ORIGIN of a number and a name: their other bytes are 25 at most
+-- FILE and INLINE_ORIGIN with a number and a name: all other bytes are at most 25.
 pub file_fits : (number : ℕ) (name : List ℕ) → number < 2 ^ 32 → is_name name ≡ true → 25 + length name ≤ 2 ^ 20 → fields_fit (File number name) ≡ true
 file_fits number name first last short =
     fits_both (File number name) (both (little number first) last) (omega (arith, length_file number name, length_decimal number first))
@@ -62,7 +62,7 @@ pub origin_fits : (number : ℕ) (name : List ℕ) → number < 2 ^ 32 → is_na
 origin_fits number name first last short =
     fits_both (Origin number name) (both (little number first) last) (omega (arith, length_origin number name, length_decimal number first))
 
--- FUNC of three numbers and a name: its other bytes are 58 at most
+-- FUNC with three numbers and a name: all other bytes are at most 58.
 pub func_fits : (many : Bool) (address size params : ℕ) (name : List ℕ) → address < 2 ^ 64 → size < 2 ^ 64 → params < 2 ^ 64 → is_name name ≡ true → 58 + length name ≤ 2 ^ 20 → fields_fit (Func many address size params name) ≡ true
 func_fits many address size params name first second third last short =
     fits_both (Func many address size params name) (both (small address first) (both (small size second) (both (small params third) last)))
@@ -84,31 +84,31 @@ ranges_are : (ranges : List Extent) → list_all is_range ranges ≡ true → 0 
 unfolding are_ranges
 ranges_are ranges all some = both (lt-ltb 0 (length ranges) some) all
 
--- INLINE of four numbers and of one to 30,000 ranges
+-- INLINE with four numbers and one to 30,000 ranges.
 pub inline_fits : (level call_line call_file origin : ℕ) (ranges : List Extent) → level < 2 ^ 32 → call_line < 2 ^ 32 → call_file < 2 ^ 32 → origin < 2 ^ 32 → list_all is_range ranges ≡ true → 0 < length ranges → length ranges ≤ 30000 → fields_fit (Inline level call_line call_file origin ranges) ≡ true
 inline_fits level call_line call_file origin ranges first second third fourth all some few =
     fits_both (Inline level call_line call_file origin ranges)
     (both (little level first) (both (little call_line second) (both (little call_file third) (both (little origin fourth) (ranges_are ranges all some)))))
     (omega (arith, length_inline level call_line call_file origin ranges, length_decimal level first, length_decimal call_line second, length_decimal call_file third, length_decimal origin fourth, ranges_short ranges all))
 
--- a line record of four numbers
+-- A line record with four numbers.
 pub line_fits : (address size number file : ℕ) → address < 2 ^ 64 → size < 2 ^ 64 → number < 2 ^ 32 → file < 2 ^ 32 → fields_fit (Line address size number file) ≡ true
 line_fits address size number file first second third fourth =
     fits_both (Line address size number file) (both (small address first) (both (small size second) (both (little number third) (little file fourth))))
     (omega (arith, length_line address size number file, length_hex address first, length_hex size second, length_decimal number third, length_decimal file fourth))
 
--- PUBLIC of two numbers and a name: its other bytes are 43 at most
+-- PUBLIC with two numbers and a name: all other bytes are at most 43.
 pub public_fits : (many : Bool) (address params : ℕ) (name : List ℕ) → address < 2 ^ 64 → params < 2 ^ 64 → is_name name ≡ true → 43 + length name ≤ 2 ^ 20 → fields_fit (Public many address params name) ≡ true
 public_fits many address params name first second last short =
     fits_both (Public many address params name) (both (small address first) (both (small params second) last))
     (omega (arith, length_public many address params name, length_mark many, length_hex address first, length_hex params second))
 
--- hexadecimal digits, in either case, are a field
+-- Hexadecimal digits in either case are a field.
 pub digits_field : (ds : List ℕ) → 0 < length ds → AllDigits 16 ds → is_field ds ≡ true
 unfolding is_field
 digits_field ds some all = both (lt-ltb 0 (length ds) some) (digits_within ds all)
 
--- printable bytes with no space in front are a name
+-- Printable bytes without a space in front are a name.
 pub shown_name : (x : ℕ) (xs : List ℕ) → (x == 32) ≡ false → list_all is_shown (x ∷ xs) ≡ true → is_name (x ∷ xs) ≡ true
 shown_name x xs begins all = named (x ∷ xs) all begins
 
@@ -129,22 +129,21 @@ digits_shown : (ds : List ℕ) → AllDigits 16 ds → list_all is_shown ds ≡ 
 digits_shown [] all = refl
 digits_shown (d ∷ ds) all = both (digit_shown d all.0) (digits_shown ds all.1)
 
--- `CODE_ID ` and hexadecimal digits are a name
+-- `CODE_ID ` and hexadecimal digits are a name.
 pub code_id_name : (ds : List ℕ) → AllDigits 16 ds → is_name (codes "CODE_ID " ++ ds) ≡ true
 code_id_name ds all = named (codes "CODE_ID " ++ ds) (digits_shown ds all) refl
 
--- the digits of hexadecimal in upper case are digits
 pub upper_digit : (d : ℕ) → d < 16 → digit_value (get_or (codes "0123456789ABCDEF") d 0) < 16
 unfolding is_digit
 upper_digit d below = digit_true (get_or (codes "0123456789ABCDEF") d 0) (and_at (list_all is_digit) is_digit refl (λ _ _. refl) (codes "0123456789ABCDEF") d 0 below refl)
 
--- STACK CFI INIT with one to 18 rules that have no names of their own
+-- STACK CFI INIT with one to 18 rules without `Other` names.
 pub init_fits : (address size : ℕ) (rules : List RuleText) → address < 2 ^ 64 → size < 2 ^ 64 → list_all is_plain_rule rules ≡ true → 0 < length rules → length rules ≤ 18 → fields_fit (Init address size rules) ≡ true
 init_fits address size rules first second all some few =
     fits_both (Init address size rules) (both (small address first) (both (small size second) (rules_are rules all some)))
     (omega (arith, length_init address size rules, length_hex address first, length_hex size second, rules_short rules all))
 
--- and STACK CFI
+-- STACK CFI with one to 18 rules without `Other` names.
 pub change_fits : (address : ℕ) (rules : List RuleText) → address < 2 ^ 64 → list_all is_plain_rule rules ≡ true → 0 < length rules → length rules ≤ 18 → fields_fit (Change address rules) ≡ true
 change_fits address rules first all some few =
     fits_both (Change address rules) (both (small address first) (rules_are rules all some)) (omega (arith, length_change address rules, length_hex address first, rules_short rules all))

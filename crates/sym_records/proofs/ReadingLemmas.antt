@@ -23,7 +23,7 @@ use Rattle.sym_records.specs.declared.place.Place.{Place}
 use Rattle.sym_records.specs.declared.place.Place.TheVariants.{Start, Inside, Function, Frame}
 use Rattle.sym_rules.specs.declared.text_fault.TextKind.TheVariants.{LongLine, NoModule, Misplaced}
 
--- bytes without LF, and an LF after them, are the first line
+-- Bytes without LF that are followed by LF are the first line.
 split_first : (xs ys : List ℕ) → list_all is_within_line xs ≡ true → split_lines (xs ++ 10 ∷ ys) ≡ xs ∷ split_lines ys
 unfolding split_lines
 split_first [] ys all = refl
@@ -35,11 +35,11 @@ canon_first : (s : SymLine) (lines : List SymLine) → canon_text (s ∷ lines) 
 unfolding canon_text canon
 canon_first s lines = append_assoc (body s) (10 ∷ []) (canon_text lines)
 
--- a record joins what was seen
+-- The state of reading with one more record.
 added : Seen → SymLine → Seen
 added seen s = record { records = seen.records ++ s ∷ []; place = leads seen.place s; number = next_number seen.number }
 
--- records join it, and the end of the text counts as a line
+-- The state of reading with more records; the bytes after the last LF count as a line.
 all_added : Seen → List SymLine → Seen
 all_added seen [] = record seen { number = next_number seen.number }
 all_added seen (s ∷ lines) = all_added (added seen s) lines
@@ -58,7 +58,7 @@ and_none : (b : Bool) → (b && false) ≡ false
 and_none true = refl
 and_none false = refl
 
--- a record that may stand first is a MODULE
+-- A record that may be first is MODULE.
 has_module : (place : Place) (s : SymLine) → has_fields s ≡ true → fits place s ≡ true → lacks_module place (body s) ≡ false
 unfolding lacks_module
 has_module Start (line.Module binary) fit stands =

@@ -1,4 +1,4 @@
--- A record whose fields fit is read from its canonical spelling.
+-- A record with good fields is read from its canonical spelling.
 use Rattle.std.proofs.Common.{◌≡◌, ℕ, ◌^◌, ◌<◌, ◌==◌, ◌&&◌, ◌||◌, cond, Bool, true, false, List, [], ◌∷◌, ◌++◌, drop, codes, Some, None, Ok, Result, nat_lt, refl, sym, ◌∙◌, ap, subst}
 use Rattle.std.specs.List.{list_all}
 use Rattle.std.specs.Str.{bytes_eq}
@@ -20,12 +20,12 @@ use Rattle.sym_records.specs.declared.line.SymLine.TheVariants as line
 use Rattle.sym_records.specs.declared.keyword.Keyword.{Keyword}
 use Rattle.sym_records.specs.declared.keyword.Keyword.TheVariants as key
 
--- a record is made of its keyword and its fields
+-- A record is made from its own keyword and fields.
 pub made_back : (s : SymLine) → made (keyword s) (values s) ≡ s
 made_back (line.Module binary) = refl
 made_back s = refl
 
--- a line that begins and ends with bytes that count
+-- The first byte of a line is not ignored.
 abbrev pub Starts : List ℕ → Type 0
 Starts [] = ⊥
 Starts (c ∷ rest) = is_margin c ≡ false
@@ -33,7 +33,7 @@ Starts (c ∷ rest) = is_margin c ≡ false
 abbrev pub found_record : Keyword × List ℕ → Result SymLine TextKind
 found_record found = record_of found.0 found.1
 
--- what is known of a line
+-- Facts about the line of a record.
 pub record LineParts (s : SymLine) (line : List ℕ) : Type 0 where
   pub starts : Starts line
   pub ends : ends_in_cr line ≡ false
@@ -50,7 +50,7 @@ line_kept s (c ∷ rest) parts =
     ∙ ap (λ l. (key_at l >>= found_record) >>= λ x. Ok (Some x)) (ap (skip is_space) (trim_kept is_cr (c ∷ rest) parts.ends) ∙ skip_field c rest (no_margin c parts.starts))
     ∙ ap (λ r. r >>= λ x. Ok (Some x)) parts.reads
 
--- the fields after a keyword that was found
+-- The record with a keyword is read from its fields.
 found_back : (k : Keyword) (v : Values (layout k)) → fit (layout k) v ≡ true → record_of k (spelled (layout k) v) ≡ Ok (made k v)
 found_back k v fits = ap (λ r. r >>= λ x. Ok (made k x)) (fields_back (layout k) v fits)
 
@@ -61,7 +61,7 @@ opened_is : (P : List ℕ → Type 0) (xs : List ℕ) → Opened xs → ((rest :
 opened_is P [] is all = absurd is
 opened_is P (x ∷ xs) is all = subst (λ (y : ℕ). P (y ∷ xs)) (sym (eq_32 x is)) (all xs)
 
--- a line with a keyword
+-- A line with a keyword.
 worded : (k : Keyword) (c : ℕ) (word : List ℕ) (v : Values (layout k)) → headed k ≡ 32 ∷ c ∷ word → is_margin c ≡ false
     → key_at (c ∷ (word ++ spelled (layout k) v)) ≡ Ok (k, spelled (layout k) v) → fit (layout k) v ≡ true → Line k v
 worded k c word v head first found fits =
@@ -76,7 +76,7 @@ plain : (k : Keyword) (c : ℕ) (word : List ℕ) (v : Values (layout k)) → he
 plain k c word v head first found fits =
     worded k c word v head first (opened_is (λ l. key_at (c ∷ (word ++ l)) ≡ Ok (k, l)) (spelled (layout k) v) (opened (layout k) v fits) found) fits
 
--- a number is not INIT
+-- A number after STACK CFI is not INIT.
 change_key : (n : ℕ) (rest : List ℕ) → n < 2 ^ 64 → Opened rest → key_at (codes "STACK CFI" ++ (32 ∷ (hex n ++ rest))) ≡ Ok (key.Change, 32 ∷ (hex n ++ rest))
 unfolding key_at keyed worded_key stack_key cfi_key before from skip
 change_key n rest small parted =
@@ -84,7 +84,7 @@ change_key n rest small parted =
     ap (λ w. Ok (cond (bytes_eq w (codes "INIT")) (key.Init, behind_word given) (key.Change, given))) (next_hex n rest small (opened_parted rest parted))
     ∙ ap (λ t. Ok (cond t (key.Init, behind_word given) (key.Change, given))) (hex_not n (codes "INIT") small refl)
 
--- a line record
+-- A line record.
 unspaced : (n : ℕ) (rest : List ℕ) → values_at (layout key.Line) (32 ∷ rest) ≡ values_at (layout key.Line) rest
 unfolding hex_at word_at skip
 unspaced n rest = refl
@@ -129,14 +129,14 @@ change_line v fits =
     let later = (and_true {a = nat_lt v.0 (2 ^ 64)} fits).1 in
     worded key.Change 83 (codes "TACK CFI") v refl refl (change_key v.0 (spelled Rules v.1) small (opened Rules v.1 later)) fits
 
--- each keyword is found again
+-- Each keyword is found in its line.
 pub line_parts : (k : Keyword) (v : Values (layout k)) → fit (layout k) v ≡ true → Line k v
 unfolding key_at keyed worded_key stack_key cfi_key before from skip
 line_parts key.Line v fits = line_line v fits
 line_parts key.Change v fits = change_line v fits
 line_parts k v fits = plain k _ _ v refl refl (λ rest. refl) fits
 
--- a record whose fields fit is read from its line
+-- A record with good fields is read from its line.
 pub line_back : (s : SymLine) → has_fields s ≡ true → line_read (body s) ≡ Ok (Some s)
 unfolding body
 line_back s fits =

@@ -1,4 +1,4 @@
--- A record is valid exactly where its fields fit and its line is short.
+-- A record is valid exactly if its fields are good and its line is short.
 use Rattle.std.proofs.Common.{◌≡◌, ℕ, ◌^◌, ◌↔◌, cond, Bool, true, false, List, [], ◌∷◌, ◌++◌, length, drop, codes, Option, Some, None, Result, Ok, Err, nat_lt, IsTrue, refl, sym, ◌∙◌, ap, subst, ⊎_elim}
 use Rattle.std.specs.List.{list_all, flat_map}
 use Rattle.std.specs.Fmt.{decimal}
@@ -32,7 +32,7 @@ use Rattle.sym_records.specs.declared.line.SymLine.{SymLine}
 use Rattle.sym_records.specs.declared.keyword.Keyword.{Keyword}
 use Rattle.sym_records.specs.declared.keyword.Keyword.TheVariants as key
 
--- a record has the fields that it was made of
+-- A record has the fields from which it was made.
 made_fits : (k : Keyword) (v : Values (layout k)) → has_fields (made k v) ≡ fit (layout k) v
 made_fits key.Module v = refl
 made_fits k v = refl
@@ -46,7 +46,7 @@ record_good k bytes s line is =
     let read = bind_ok (fields_at (layout k) bytes) _ s is in
     ap has_fields (sym (ok_is (made k read.0) s read.2)) ∙ made_fits k read.0 ∙ fields_good (layout k) bytes read.0 line read.1
 
--- what stands after a keyword is left of the line
+-- The bytes after a keyword are the rest of the line.
 abbrev IfFound : List ℕ → Result (Keyword × List ℕ) TextKind → Type 0
 IfFound line (Ok found) = Behind line found.1
 IfFound line (Err kind) = Unit {0}
@@ -99,7 +99,7 @@ found_of found = record_of found.0 found.1
 none_some : {P : Type 0} (s : SymLine) → nothing_read ≡ some_read s → P
 none_some s is = cc
 
--- what a line holds has fields that a line can carry
+-- A line can carry the fields of the record that was read from it.
 pub line_good : (line : List ℕ) (s : SymLine) → list_all is_within_line line ≡ true → line_read line ≡ Ok (Some s) → has_fields s ≡ true
 unfolding line_read record_at
 line_good line s whole is =
@@ -201,6 +201,6 @@ gives_some s = Ok (Some s)
 some_is : (s t : SymLine) → gives_some s ≡ gives_some t → s ≡ t
 some_is s t is = cc
 
--- two valid records with one spelling are one
+-- Two valid records with the same spelling are equal.
 pub one_record : (s t : SymLine) → IsValid s → IsValid t → body s ≡ body t → s ≡ t
 one_record s t first second same = some_is s t (sym first.reads ∙ ap line_read same ∙ second.reads)

@@ -1,4 +1,4 @@
--- Words, names and numbers as they stand in a line.
+-- Words, names and numbers in a line.
 use Rattle.std.proofs.Common.{◌≡◌, ℕ, ◌+◌, ◌-◌, ◌*◌, ◌^◌, ◌<◌, ◌==◌, cond, true, false, List, [], ◌∷◌, ◌++◌, length, get_or, Some, None, Ok, nat_lt, refl, ◌∙◌, ap, arith, subst}
 use Rattle.std.specs.List.{list_all}
 use Rattle.std.specs.Option.{option_and_then}
@@ -28,7 +28,7 @@ pub skip_one : (rest : List ℕ) → skip is_space (32 ∷ rest) ≡ skip is_spa
 unfolding skip
 skip_one rest = refl
 
--- what is_name says
+-- Facts about a name.
 pub record NameParts (name : List ℕ) : Type 0 where
   pub some : 0 < length name
   pub begins : (get_or name 0 0 == 32) ≡ false
@@ -44,7 +44,7 @@ name_parts name is = record {
   one_line = (and_true is).1;
 }
 
--- a name is read
+-- A name is read from its spelling.
 pub name_is : (name : List ℕ) → NameParts name → name_at (32 ∷ name) ≡ Ok name
 unfolding name_at
 name_is [] parts = absurd (omega (arith, parts.some))
@@ -68,7 +68,7 @@ unfolding hex_onto
 hex_onto_is n [] all = refl
 hex_onto_is n (d ∷ ds) all = ap (option_and_then (λ v. hex_onto (n * 16 + v) ds)) (digit_is d all.0) ∙ hex_onto_is (n * 16 + digit_value d) ds all.1
 
--- a number is the value of its digits
+-- The value of a number's digits is the number.
 pub hex_value_is : (n : ℕ) → n < 2 ^ 64 → hex_value (hex n) ≡ Some n
 unfolding hex_value
 hex_value_is n small =

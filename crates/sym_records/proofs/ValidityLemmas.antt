@@ -1,4 +1,4 @@
--- A list has no bad record exactly where it is valid.
+-- A list has no bad record exactly if it is valid.
 use Rattle.std.proofs.Common.{◌≡◌, ℕ, ◌+◌, ◌-◌, ◌≤◌, ◌&&◌, cond, zero, suc, List, [], ◌∷◌, Some, None, refl, ◌∙◌, ap, arith, subst}
 use Rattle.sym_rules.proofs.BoolLemmas.{and_true, both, elim_bool, false_true}
 use Rattle.sym_records.proofs.RecordSoundLemmas.{fits_valid, valid_fits}
@@ -8,7 +8,7 @@ use Rattle.sym_records.specs.declared.line.SymLine.{SymLine}
 use Rattle.sym_records.specs.declared.place.Place.{Place}
 use Rattle.sym_records.specs.declared.place.Place.TheVariants.{Start}
 
--- no bad record: all are valid
+-- If no record is bad, all are valid.
 none_from : (i : ℕ) (place : Place) (lines : List SymLine) → first_bad_from i place lines ≡ None → AreValidFrom place lines
 unfolding first_bad_from
 none_from i place [] none = tt
@@ -29,13 +29,13 @@ valid_from i place [] valid = refl
 valid_from i place (s ∷ lines) valid =
     ap (λ t. cond t (first_bad_from (i + 1) (leads place s) lines) (Some i)) (both valid.0.1 (valid_fits s valid.0.0)) ∙ valid_from (i + 1) (leads place s) lines valid.1
 
--- and where all are valid there is no bad record
+-- If all records are valid, no record is bad.
 pub valid_none : (lines : List SymLine) → AreValid lines → first_bad lines ≡ None
 unfolding first_bad
 valid_none [] valid = absurd valid
 valid_none (s ∷ lines) valid = valid_from 0 Start (s ∷ lines) valid
 
--- the first bad record
+-- The record that is found is the first bad one.
 some_from : (i k : ℕ) (place : Place) (lines : List SymLine) → first_bad_from i place lines ≡ Some k → (i ≤ k) × IsFirstBadFrom place lines (k - i)
 unfolding first_bad_from
 some_from i k place [] some = cc

@@ -1,4 +1,5 @@
--- Worked lines (Breakpad's symbol_files.md): how records are spelled, and how lines are read.
+-- Worked examples of lines (Breakpad's symbol_files.md): how records are spelled, and how lines are
+-- read.
 use Rattle.std.proofs.Common.{◌≡◌, pos, true, false, [], ◌∷◌, codes, Option, Some, None, Result, Ok, Err, refl}
 use Prim.Native.String.{String}
 use Rattle.sym_edges.proofs.Shown.{shown}
@@ -12,15 +13,15 @@ use Rattle.sym_rules.specs.declared.rules.Token.TheVariants as token
 use Rattle.sym_rules.specs.declared.text_fault.TextKind.{TextKind}
 use Rattle.sym_rules.specs.declared.text_fault.TextKind.TheVariants as fault
 
--- a record as text
+-- The spelling of a record as a text.
 spells : SymLine → String
 spells s = shown (canon s)
 
--- what a line holds
+-- What is read from a line.
 abbrev reads : String → Result (Option SymLine) TextKind
 reads text = line_read (codes text)
 
--- each record
+-- Each kind of record.
 module_spelled : spells (line.Module (record { os = codes "Linux"; arch = codes "x86_64"; id = codes "030201000504070608090A0B0C0D0E0F0"; name = codes "a.out" })) ≡ "MODULE Linux x86_64 030201000504070608090A0B0C0D0E0F0 a.out\n"
 unfolding sym_records_computes shown spells
 module_spelled = refl
@@ -125,7 +126,7 @@ change_read : reads "STACK CFI 1009 $rbp: $rbp" ≡ Ok (Some (line.Change 4105 (
 unfolding sym_records_computes
 change_read = refl
 
--- the least and the greatest numbers
+-- The least and the greatest numbers.
 file_least_spelled : spells (line.File 0 (codes "a")) ≡ "FILE 0 a\n"
 unfolding sym_records_computes shown spells
 file_least_spelled = refl
@@ -158,7 +159,7 @@ line_least_read : reads "0 0 0 0" ≡ Ok (Some (line.Line 0 0 0 0))
 unfolding sym_records_computes
 line_least_read = refl
 
--- a name with spaces and CRs inside and spaces at the end
+-- A name with spaces and CRs inside and spaces at its end.
 name_kept_spelled : spells (line.Public false 0 0 (codes "\ra\r b ")) ≡ "PUBLIC 0 0 \ra\r b \n"
 unfolding sym_records_computes shown spells
 name_kept_spelled = refl
@@ -167,7 +168,7 @@ name_kept_read : reads "PUBLIC 0 0 \ra\r b " ≡ Ok (Some (line.Public false 0 0
 unfolding sym_records_computes
 name_kept_read = refl
 
--- spaces in front, between and after, and CRs after
+-- Additional spaces, and CRs at the end.
 lenient_func : reads "  FUNC   m  1000 2f  0  main of  \r" ≡ Ok (Some (line.Func true 4096 47 0 (codes "main of  ")))
 unfolding sym_records_computes
 lenient_func = refl
@@ -180,32 +181,32 @@ lenient_inline : reads "INLINE 0 4 0 0 1004 8 \r" ≡ Ok (Some (line.Inline 0 4 
 unfolding sym_records_computes
 lenient_inline = refl
 
--- CR after a name and spaces after it are of the name
+-- CRs and spaces after a name that other bytes follow belong to the name.
 name_with_cr : reads "FILE 1 a\r " ≡ Ok (Some (line.File 1 (codes "a\r ")))
 unfolding sym_records_computes
 name_with_cr = refl
 
--- hexadecimal in either case, of 16 digits
+-- Hexadecimal digits in either case, sixteen of them.
 sixteen_digits : reads "PUBLIC 00000000DeadBEEF 0 a" ≡ Ok (Some (line.Public false 3735928559 0 (codes "a")))
 unfolding sym_records_computes
 sixteen_digits = refl
 
--- decimal of 20 digits
+-- Twenty decimal digits.
 twenty_digits : reads "FILE 00000000000000000001 a" ≡ Ok (Some (line.File 1 (codes "a")))
 unfolding sym_records_computes
 twenty_digits = refl
 
--- a first field of hexadecimal digits is a line record's
+-- A line whose first word has only hexadecimal digits is a line record.
 hexadecimal_word : reads "FADE 1 2 3" ≡ Ok (Some (line.Line 64222 1 2 3))
 unfolding sym_records_computes
 hexadecimal_word = refl
 
--- blank lines hold no record
+-- A blank line has no record.
 blank : reads " \r \r" ≡ Ok None
 unfolding sym_records_computes
 blank = refl
 
--- no such keyword
+-- Unknown keywords.
 unknown : reads "FUNCTION 0 1 0 a" ≡ Err fault.Unknown
 unfolding sym_records_computes
 unknown = refl
@@ -218,7 +219,7 @@ stack_alone : reads "STACK" ≡ Err fault.Unknown
 unfolding sym_records_computes
 stack_alone = refl
 
--- CR after a keyword is of the keyword
+-- CR directly after a keyword belongs to its word.
 file_cr : reads "FILE\r " ≡ Err fault.Unknown
 unfolding sym_records_computes
 file_cr = refl
@@ -227,17 +228,17 @@ change_cr : reads "STACK CFI\r " ≡ Err fault.Unknown
 unfolding sym_records_computes
 change_cr = refl
 
--- CR in the place of a number
+-- CR instead of a number.
 init_cr : reads "STACK CFI INIT\r " ≡ Err fault.Hex
 unfolding sym_records_computes
 init_cr = refl
 
--- a record of Windows
+-- A frame record of Windows.
 windows : reads "STACK WIN 4" ≡ Err fault.Windows
 unfolding sym_records_computes
 windows = refl
 
--- the first field that is wrong decides
+-- The first wrong field decides the fault.
 func_hex : reads "FUNC x" ≡ Err fault.Hex
 unfolding sym_records_computes
 func_hex = refl
@@ -266,7 +267,7 @@ file_fields : reads "FILE 1" ≡ Err fault.Fields
 unfolding sym_records_computes
 file_fields = refl
 
--- an INLINE of no range, of half a range and of a bad one
+-- An INLINE without a range, with half a range, and with a bad one.
 inline_none : reads "INLINE 0 4 0 0" ≡ Err fault.Fields
 unfolding sym_records_computes
 inline_none = refl
@@ -279,7 +280,7 @@ inline_hex : reads "INLINE 0 4 0 0 1004 8 x" ≡ Err fault.Hex
 unfolding sym_records_computes
 inline_hex = refl
 
--- a line record of a field less, of one more, and of a bad one
+-- A line record with too few fields, too many, and a bad one.
 line_few : reads "1000 10 5" ≡ Err fault.Fields
 unfolding sym_records_computes
 line_few = refl
@@ -296,7 +297,7 @@ line_decimal : reads "1000 10 5 a" ≡ Err fault.Decimal
 unfolding sym_records_computes
 line_decimal = refl
 
--- 17 digits
+-- Seventeen hexadecimal digits.
 seventeen_digits : reads "12345678901234567 1 1 1" ≡ Err fault.Hex
 unfolding sym_records_computes
 seventeen_digits = refl
@@ -305,7 +306,7 @@ seventeen_zeros : reads "PUBLIC 00000000000000000 0 a" ≡ Err fault.Hex
 unfolding sym_records_computes
 seventeen_zeros = refl
 
--- decimal of 2^32, and of 21 digits
+-- A decimal number of 2^32, and one of 21 digits.
 past_u32 : reads "FILE 4294967296 a" ≡ Err fault.Decimal
 unfolding sym_records_computes
 past_u32 = refl
@@ -318,12 +319,12 @@ many_digits : reads "FILE 000000000000000000001 a" ≡ Err fault.Decimal
 unfolding sym_records_computes
 many_digits = refl
 
--- a sign
+-- A number with a sign.
 with_sign : reads "FILE +1 a" ≡ Err fault.Decimal
 unfolding sym_records_computes
 with_sign = refl
 
--- a missing address or size, and missing or bad rules
+-- A missing address or size, and missing or bad rules.
 no_address : reads "STACK CFI" ≡ Err fault.Fields
 unfolding sym_records_computes
 no_address = refl

@@ -1,4 +1,5 @@
--- Worked lists (Breakpad's symbol_files.md): which records may stand where, which texts and names records may carry.
+-- Worked examples of lists (Breakpad's symbol_files.md): which records may follow which, and which
+-- fields and names records may carry.
 use Rattle.std.proofs.Common.{◌≡◌, true, false, [], ◌∷◌, codes, Some, None, refl}
 use Rattle.sym_records.proofs.Computing.{sym_records_computes}
 use Rattle.sym_records.specs.Fields.{is_field, is_name}
@@ -8,7 +9,7 @@ use Rattle.sym_records.specs.declared.line.SymLine.TheVariants as line
 use Rattle.sym_rules.specs.declared.rules.Target.TheVariants as target
 use Rattle.sym_rules.specs.declared.rules.Token.TheVariants as token
 
--- a record of each kind
+-- A record of each kind.
 abbrev binary : SymLine
 binary = line.Module (record { os = codes "a"; arch = codes "b"; id = codes "c"; name = codes "d" })
 
@@ -45,17 +46,17 @@ empty_init = line.Init 4096 32 []
 abbrev bad_public : SymLine
 bad_public = line.Public false 0 0 (codes "a\r")
 
--- each record after MODULE
+-- Each kind of record after MODULE.
 all_records : first_bad (binary ∷ info ∷ file ∷ origin ∷ func ∷ inline ∷ line_record ∷ line_record ∷ inline ∷ public ∷ init ∷ change ∷ []) ≡ None
 unfolding sym_records_computes
 all_records = refl
 
--- the empty list
+-- The empty list.
 nothing : first_bad ([]) ≡ Some 0
 unfolding sym_records_computes
 nothing = refl
 
--- each record first
+-- Each other kind of record as the first one.
 info_first : first_bad (info ∷ []) ≡ Some 0
 unfolding sym_records_computes
 info_first = refl
@@ -92,7 +93,7 @@ change_first : first_bad (change ∷ []) ≡ Some 0
 unfolding sym_records_computes
 change_first = refl
 
--- MODULE after each kind
+-- MODULE after each kind of record.
 module_again : first_bad (binary ∷ binary ∷ []) ≡ Some 1
 unfolding sym_records_computes
 module_again = refl
@@ -113,7 +114,7 @@ module_behind_change : first_bad (binary ∷ init ∷ change ∷ binary ∷ []) 
 unfolding sym_records_computes
 module_behind_change = refl
 
--- a line record or an INLINE where the last record before it that is neither is no FUNC
+-- A line record or an INLINE that is not under a FUNC.
 line_behind_module : first_bad (binary ∷ line_record ∷ []) ≡ Some 1
 unfolding sym_records_computes
 line_behind_module = refl
@@ -150,7 +151,7 @@ inline_behind_info : first_bad (binary ∷ func ∷ info ∷ inline ∷ []) ≡ 
 unfolding sym_records_computes
 inline_behind_info = refl
 
--- and where it is
+-- A line record or an INLINE under a FUNC.
 line_behind_inline : first_bad (binary ∷ func ∷ inline ∷ line_record ∷ inline ∷ line_record ∷ []) ≡ None
 unfolding sym_records_computes
 line_behind_inline = refl
@@ -159,7 +160,7 @@ line_behind_second_func : first_bad (binary ∷ func ∷ func ∷ line_record �
 unfolding sym_records_computes
 line_behind_second_func = refl
 
--- a change where the record before it is of no frame
+-- A STACK CFI that does not follow a frame record.
 change_behind_module : first_bad (binary ∷ change ∷ []) ≡ Some 1
 unfolding sym_records_computes
 change_behind_module = refl
@@ -184,7 +185,7 @@ change_behind_info : first_bad (binary ∷ init ∷ info ∷ change ∷ []) ≡ 
 unfolding sym_records_computes
 change_behind_info = refl
 
--- and where it is
+-- A STACK CFI that follows a frame record.
 change_behind_init : first_bad (binary ∷ init ∷ change ∷ []) ≡ None
 unfolding sym_records_computes
 change_behind_init = refl
@@ -193,12 +194,12 @@ changes : first_bad (binary ∷ init ∷ change ∷ change ∷ init ∷ change �
 unfolding sym_records_computes
 changes = refl
 
--- frames of a function between others
+-- Frame records between others.
 frames_between : first_bad (binary ∷ public ∷ init ∷ change ∷ public ∷ func ∷ init ∷ file ∷ []) ≡ None
 unfolding sym_records_computes
 frames_between = refl
 
--- a record that no text spells
+-- A record that no text can spell.
 no_rules : first_bad (binary ∷ empty_init ∷ []) ≡ Some 1
 unfolding sym_records_computes
 no_rules = refl
@@ -207,7 +208,7 @@ cr_at_end : first_bad (binary ∷ public ∷ bad_public ∷ []) ≡ Some 2
 unfolding sym_records_computes
 cr_at_end = refl
 
--- a name
+-- Names.
 name_plain : is_name (codes "a b ") ≡ true
 unfolding sym_records_computes
 name_plain = refl
@@ -216,7 +217,7 @@ name_crs : is_name (codes "\ra\r ") ≡ true
 unfolding sym_records_computes
 name_crs = refl
 
--- an end of the line, a space in front, nothing, CR at the end
+-- No name: LF, a space in front, no bytes, and CR at the end.
 name_lf : is_name (codes "a\nb") ≡ false
 unfolding sym_records_computes
 name_lf = refl
@@ -237,7 +238,7 @@ name_spaces : is_name (codes " ") ≡ false
 unfolding sym_records_computes
 name_spaces = refl
 
--- a field
+-- A field.
 field_plain : is_field (codes "Linux") ≡ true
 unfolding sym_records_computes
 field_plain = refl

@@ -1,5 +1,6 @@
--- The canonical spelling of a record (Breakpad's symbol_files.md): a keyword, its fields with one space before each, and LF at the end. Numbers are
--- in lower-case hexadecimal or in decimal, both without leading zeros.
+-- The canonical spelling of a record (Breakpad's symbol_files.md): a keyword, its fields with one
+-- space before each, and LF at the end. Numbers are in lower-case hexadecimal or in decimal, in
+-- both cases without leading zeros.
 use Rattle.std.specs.Prelude.{ℕ, List, [], ◌∷◌, ◌++◌, drop, codes}
 use Rattle.std.specs.List.{flat_map}
 use Rattle.sym_records.specs.Fields.{spelled, hex}
@@ -10,7 +11,7 @@ use Rattle.sym_records.specs.declared.line.SymLine.{SymLine}
 abbrev pub spaced : List ℕ → List (List ℕ) → List ℕ
 spaced word rest = word ++ flat_map (λ field. 32 ∷ field) rest
 
--- a record without the end of its line; the space before its first word is left out
+-- a record without LF; the space before its first word is left out
 unfoldable pub body : SymLine → List ℕ
 body s = drop 1 (headed (keyword s) ++ spelled (layout (keyword s)) (values s))
 

@@ -1,6 +1,7 @@
--- The fields of a line, read from left to right (Breakpad's symbol_files.md). One or more spaces come before each field. The last field may be a
--- name, which is the rest of the line. If a line has no name, the spaces and CRs after its last field do not count. The first wrong field decides the
--- kind of fault.
+-- The fields of a line, read from left to right (Breakpad's symbol_files.md). One or more spaces
+-- come before each field. The last field may be a name, which is the rest of the line. If a line
+-- has no name, the spaces and CRs after its last field are ignored. The first wrong field decides
+-- the kind of fault.
 use Rattle.std.specs.Prelude.{ℕ, ◌+◌, ◌*◌, ◌^◌, ◌&&◌, Bool, true, false, nat_lt, if◌then◌else◌, List, [], ◌∷◌, length, codes, Option, Some, None, ok_or, option_and_then, Result, Ok, Err}
 use Rattle.std.specs.Char.{digit_value}
 use Rattle.std.specs.Str.{bytes_eq}
@@ -13,7 +14,7 @@ use Rattle.sym_rules.specs.declared.text_fault.TextKind.TheVariants as fault
 use Rattle.sym_records.specs.declared.line.Extent.{Extent}
 use Rattle.sym_records.specs.Fields.{Middle, Word, Hex, Marked, Decimal, Shape, Name, Rules, Ranges, Last, Then, Held, Values}
 
--- the field with which bytes begin, and the bytes after it
+-- the field at the start of the bytes, and the bytes after it
 abbrev pub field_of : List ℕ → Result (List ℕ × List ℕ) TextKind
 field_of [] = Err fault.Fields
 field_of (b ∷ bytes) = Ok (before 32 (b ∷ bytes), from 32 (b ∷ bytes))
@@ -35,7 +36,7 @@ name_at bytes = name_of (skip is_space bytes)
 unfoldable pub hex_digit : ℕ → Option ℕ
 hex_digit d = if nat_lt (digit_value d) 16 then Some (digit_value d) else None
 
--- the number whose hexadecimal digits are those of n and then these digits
+-- n followed by these hexadecimal digits, as one number
 unfoldable pub hex_onto : ℕ → List ℕ → Option ℕ
 hex_onto n [] = Some n
 hex_onto n (d ∷ ds) = option_and_then (λ v. hex_onto (n * 16 + v) ds) (hex_digit d)
@@ -51,7 +52,7 @@ hex_at bytes = do
   n ← ok_or (hex_value word.0) fault.Hex
   Ok (n, word.1)
 
--- whether the next field is `m`; if it is, the bytes after it, otherwise all bytes
+-- whether the next field is `m`, and the bytes after it; if it is not, all bytes
 unfoldable pub mark_at : List ℕ → Bool × List ℕ
 mark_at bytes = if bytes_eq (before 32 (skip is_space bytes)) (codes "m") then (true, from 32 (skip is_space bytes)) else (false, bytes)
 
@@ -83,7 +84,8 @@ middle_at Decimal bytes = decimal_at bytes
 abbrev pub hex_of : List ℕ → Result ℕ TextKind
 hex_of word = ok_or (hex_value word) fault.Hex
 
--- pairs of words as ranges; a wrong number is found before a missing one
+-- pairs of words as ranges; the words are read in order, so a bad number may be found before a
+-- missing one
 unfoldable pub pairs_of : List (List ℕ) → Result (List Extent) TextKind
 pairs_of [] = Ok []
 pairs_of (a ∷ []) = hex_of a >>= λ x. Err fault.Fields
@@ -93,7 +95,7 @@ pairs_of (a ∷ b ∷ later) = do
   ranges ← pairs_of later
   Ok (record { address = address; size = size } ∷ ranges)
 
--- ranges, at least one; no range is a fault
+-- the ranges, or a fault if there is none
 abbrev pub some_ranges : List Extent → Result (List Extent) TextKind
 some_ranges [] = Err fault.Fields
 some_ranges (r ∷ ranges) = Ok (r ∷ ranges)
@@ -132,10 +134,11 @@ is_named Ranges = false
 is_named Last = false
 is_named (Then m rest) = is_named rest
 
--- the bytes that do not count at the end of a line: CRs, and without a name spaces too
+-- the bytes that are ignored at the end of a line: CRs, and spaces too if the last field is not a
+-- name
 abbrev pub is_end : Shape → ℕ → Bool
 is_end shape b = if is_named shape then is_cr b else is_margin b
 
--- the fields of a line, after the bytes that do not count at its end are dropped
+-- the fields of a line, without the bytes that are ignored at its end
 unfoldable pub fields_at : (shape : Shape) → List ℕ → Result (Values shape) TextKind
 fields_at shape bytes = values_at shape (trim_end (is_end shape) bytes)

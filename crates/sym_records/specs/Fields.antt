@@ -1,4 +1,5 @@
--- What follows the keyword in a line (Breakpad's symbol_files.md): middle fields, then one last field. One space comes before each.
+-- The fields after the keyword of a line (Breakpad's symbol_files.md): middle fields, then one last
+-- field, with one space before each.
 use Rattle.std.specs.Prelude.{ℕ, ◌^◌, ◌&&◌, Bool, true, false, nat_lt, List, [], ◌∷◌, ◌++◌, length, codes}
 use Rattle.std.specs.List.{list_all, flat_map}
 use Rattle.std.specs.Fmt.{decimal, digits}
@@ -45,7 +46,7 @@ Values (Then m rest) = Held m × Values rest
 abbrev pub hex : ℕ → List ℕ
 hex n = digits 16 false n
 
--- `m`, if symbols with other names have the address too
+-- `m`, if symbols with different names have this address
 abbrev pub mark : Bool → List ℕ
 mark true = codes " m"
 mark false = []
@@ -73,9 +74,9 @@ spelled Ranges ranges = flat_map spelled_range ranges
 spelled Last n = 32 ∷ decimal n
 spelled (Then m rest) v = spelled_middle m v.0 ++ spelled rest v.1
 
--- What a line can carry.
+-- Which fields a line can carry.
 
--- a field: not empty, without spaces and without LFs
+-- a field that is not empty and has neither a space nor LF
 unfoldable pub is_field : List ℕ → Bool
 is_field bytes = nat_lt 0 (length bytes) && list_all is_within_field bytes
 

@@ -1,4 +1,4 @@
--- The fields of a record as a list: what follows its keyword, field by field.
+-- The fields of a record as a list.
 use Rattle.std.specs.Prelude.{ℕ, ◌^◌, Bool, nat_lt, List, [], ◌∷◌, ◌++◌}
 use Rattle.std.specs.List.{flat_map}
 use Rattle.std.specs.Fmt.{decimal}
@@ -14,7 +14,7 @@ use Rattle.sym_records.specs.declared.field.Field.{Field}
 use Rattle.sym_records.specs.declared.field.Field.TheVariants as held
 use Rattle.sym_records.specs.Fields.{Middle, Word, Hex, Marked, Decimal, Shape, Name, Rules, Ranges, Last, Then, Held, Values, mark, spelled_range, are_ranges}
 
--- a field with its value
+-- the value of a field, by its kind
 pub data Said : Type 0 where
   word : List ℕ → Said
   name : List ℕ → Said
@@ -24,7 +24,7 @@ pub data Said : Type 0 where
   ranges : List Extent → Said
   rules : List RuleText → Said
 
--- a field of the code with its value
+-- the value of a field, as the specs see it
 abbrev pub said : Field → Said
 said (held.Word w) = word w.now
 said (held.Name n) = name n.now

@@ -3,8 +3,8 @@ use Rattle.std.specs.Prelude.{Bool, true, false}
 use Rattle.sym_records.specs.declared.place.Place.{Place}
 use Rattle.sym_records.specs.declared.place.Place.TheVariants.{Start, Inside, Function, Frame}
 
--- the role of a record among its neighbours: the first of all, a record that belongs to no other, a function, a part of a function, a frame record,
--- or a change of a frame record
+-- the role of a record among its neighbours: the first of all (`MODULE`), a record of its own, a
+-- function, a part of a function, a frame record, or a change of a frame record
 pub data Role : Type 0 where
   First : Role
   Own : Role
@@ -13,8 +13,8 @@ pub data Role : Type 0 where
   Frames : Role
   Changes : Role
 
--- which records may be at a place: the first record only at the start, a part of a function only in a function, and a change only after a frame
--- record or another change
+-- which records may be at a place: the first record only at the start, a part of a function only in
+-- a function, and a change only after a frame record or another change
 abbrev pub may_stand : Place → Role → Bool
 may_stand Start First = true
 may_stand Start role = false

@@ -41,18 +41,18 @@ is_start Inside = false
 is_start Function = false
 is_start Frame = false
 
--- no record was read yet, and the line is not blank and does not begin with the word MODULE
+-- no record was read yet, and the line is neither blank nor begins with the word MODULE
 unfoldable pub lacks_module : Place → List ℕ → Bool
 lacks_module place line = is_start place && not (is_blank line) && not (bytes_eq (key_of line) (codes "MODULE"))
 
--- what was seen, with the record of one more line, if the line has a record
+-- what was read, with the record of one more line, if the line has one
 abbrev pub with_record : Seen → Option SymLine → Result Seen TextKind
 with_record seen None = Ok (record seen { number = next_number seen.number })
 with_record seen (Some s) =
     if fits seen.place s then Ok (record { records = seen.records ++ s ∷ []; place = leads seen.place s; number = next_number seen.number })
     else Err Misplaced
 
--- what was seen, after one more line; faults are looked for in the order below
+-- what was read, with one more line; faults are looked for in the order below
 unfoldable pub with_text : ℕ → Seen → List ℕ → Result Seen TextKind
 with_text limit seen line =
     if nat_lt limit (length line) then Err LongLine
@@ -68,7 +68,7 @@ unfoldable pub with_lines : ℕ → Seen → List (List ℕ) → Result Seen Tex
 with_lines limit seen [] = Ok seen
 with_lines limit seen (line ∷ lines) = numbered (next_number seen.number) (with_text limit seen line) >>= λ after. with_lines limit after lines
 
--- a text has at least one record; otherwise it is a fault
+-- the records, or a fault if there is none
 abbrev pub some_records : List SymLine → Result (List SymLine) TextFault
 some_records [] = Err (record { kind = Empty; line = 1 })
 some_records (s ∷ records) = Ok (s ∷ records)

@@ -7,8 +7,8 @@ use Rattle.sym_records.specs.declared.line.SymLine.TheVariants as line
 use Rattle.sym_records.specs.declared.keyword.Keyword.{Keyword}
 use Rattle.sym_records.specs.declared.keyword.Keyword.TheVariants as key
 
--- the properties of a keyword: its words, with one space before each; the kinds of the fields after it; the role of its records among their
--- neighbours; and the record with given values of the fields
+-- the properties of a keyword: its words, with one space before each; the kinds of its fields; the
+-- role of its records; and how a record is made from the values of its fields
 pub record Row : Type 0 where
   pub words : List ℕ
   pub layout : Shape

@@ -1,4 +1,4 @@
--- The records of a canonical text.
+-- Texts that are the canonical text of valid records.
 use Rattle.std.specs.Prelude.{◌≡◌, ℕ, List, [], ◌++◌, None, Result, Ok, Err}
 use Rattle.std.specs.List.{flat_map}
 use Rattle.sym_records.specs.Canon.{canon_text}
@@ -12,12 +12,12 @@ use Rattle.sym_rules.specs.declared.text_fault.TextFault.{TextFault}
 abbrev pub text_bytes : TextPieces → List ℕ
 text_bytes text = flat_map (λ piece. piece) text.full.items ++ text.last.items
 
--- the records that a reading gave; none if it failed
+-- the records that a reading gave, or none if it failed
 abbrev pub records_or_none : Result (List SymLine) TextFault → List SymLine
 records_or_none (Ok lines) = lines
 records_or_none (Err fault) = []
 
--- the records of a text
+-- the records of a text, or none if it cannot be read
 unfoldable pub records_in : List ℕ → List SymLine
 records_in bytes = records_or_none (reading bytes)
 

@@ -1,4 +1,5 @@
--- A line of a symbol file (Breakpad's symbol_files.md): its first words say which record it is, and the fields follow them.
+-- The reading of a line of a symbol file (Breakpad's symbol_files.md): its first words say which
+-- record it is, and the fields follow them.
 use Rattle.std.specs.Prelude.{ℕ, Bool, nat_lt, if◌then◌else◌, List, codes, Option, Some, None, Result, Ok, Err}
 use Rattle.std.specs.List.{list_all}
 use Rattle.std.specs.Char.{digit_value}
@@ -24,7 +25,7 @@ behind_word bytes = from 32 (skip is_space bytes)
 abbrev pub is_blank : List ℕ → Bool
 is_blank line = list_all is_margin line
 
--- a line without the CRs at its end and without its leading spaces
+-- a line without the CRs at its end and the spaces at its start
 abbrev pub trimmed : List ℕ → List ℕ
 trimmed line = skip is_space (trim_end is_cr line)
 
@@ -36,18 +37,19 @@ key_of line = before 32 (trimmed line)
 abbrev pub is_hex_digit : ℕ → Bool
 is_hex_digit b = nat_lt (digit_value b) 16
 
--- after STACK CFI: the third word may be INIT
+-- the keyword after STACK CFI, which is INIT or has no more words; and the bytes after it
 unfoldable pub cfi_key : List ℕ → Keyword × List ℕ
 cfi_key bytes = if bytes_eq (next_word bytes) (codes "INIT") then (key.Init, behind_word bytes) else (key.Change, bytes)
 
--- after STACK: the second word decides
+-- the keyword after STACK, by the second word; and the bytes after it
 unfoldable pub stack_key : List ℕ → Result (Keyword × List ℕ) TextKind
 stack_key bytes =
     if bytes_eq (next_word bytes) (codes "CFI") then Ok (cfi_key (behind_word bytes))
     else if bytes_eq (next_word bytes) (codes "WIN") then Err fault.Windows
     else Err fault.Unknown
 
--- the keyword that begins with a word, and the bytes after the keyword
+-- the keyword, given the first word of a line and the bytes after this word; and the bytes after
+-- the keyword
 unfoldable pub worded_key : List ℕ → List ℕ → Result (Keyword × List ℕ) TextKind
 worded_key word rest =
     if bytes_eq word (codes "FUNC") then Ok (key.Func, rest)
@@ -60,7 +62,8 @@ worded_key word rest =
     else if bytes_eq word (codes "MODULE") then Ok (key.Module, rest)
     else Err fault.Unknown
 
--- the keyword of a line, given its first word; if that word has only hexadecimal digits, the line is a line record, which has no keyword
+-- the keyword of a line, given its first word, and the bytes after the keyword. If the word has
+-- only hexadecimal digits, the line is a line record, which has no keyword
 unfoldable pub keyed : List ℕ → List ℕ → List ℕ → Result (Keyword × List ℕ) TextKind
 keyed word rest whole = if list_all is_hex_digit word then Ok (key.Line, whole) else worded_key word rest
 

@@ -22,7 +22,7 @@ pub record IsValid (s : SymLine) : Type 0 where
 abbrev pub Stands : Place → SymLine → Type 0
 Stands place s = IsValid s × (fits place s ≡ true)
 
--- each record is valid, and may follow the place and the records before it
+-- each record is valid, and may be at the place to which the records before it lead
 abbrev pub AreValidFrom : Place → List SymLine → Type 0
 AreValidFrom place [] = Unit {0}
 AreValidFrom place (s ∷ lines) = Stands place s × AreValidFrom (leads place s) lines
@@ -38,7 +38,7 @@ IsFirstBadFrom place [] i = ⊥
 IsFirstBadFrom place (s ∷ lines) zero = ¬ Stands place s
 IsFirstBadFrom place (s ∷ lines) (suc i) = Stands place s × IsFirstBadFrom (leads place s) lines i
 
--- the index of the first bad record; 0 for the empty list
+-- the index is that of the first bad record, or 0 for the empty list
 abbrev pub IsFirstBad : List SymLine → ℕ → Type 0
 IsFirstBad [] i = i ≡ 0
 IsFirstBad (s ∷ lines) i = IsFirstBadFrom Start (s ∷ lines) i
@@ -47,16 +47,18 @@ IsFirstBad (s ∷ lines) i = IsFirstBadFrom Start (s ∷ lines) i
 abbrev pub has_fields : SymLine → Bool
 has_fields s = fit (layout (keyword s)) (values s)
 
--- the test of a record by its fields and its length: it is true exactly if the record is valid
+-- whether a record passes the test of its fields and its length; this is true exactly if the record
+-- is valid
 unfoldable pub fields_fit : SymLine → Bool
 fields_fit s = has_fields s && nat_le (length (body s)) (2 ^ 20)
 
--- the index of the first bad record after a place, as the test finds it; the first of these records has the index i
+-- the index of the first record that fails the test or may not be at its place. The first of
+-- `lines` has the index i
 unfoldable pub first_bad_from : ℕ → Place → List SymLine → Option ℕ
 first_bad_from i place [] = None
 first_bad_from i place (s ∷ lines) = if fits place s && fields_fit s then first_bad_from (i + 1) (leads place s) lines else Some i
 
--- the place after records
+-- the place after some records
 unfoldable pub place_behind : Place → List SymLine → Place
 place_behind place [] = place
 place_behind place (s ∷ lines) = place_behind (leads place s) lines
@@ -65,7 +67,7 @@ place_behind place (s ∷ lines) = place_behind (leads place s) lines
 abbrev pub is_change : SymLine → Bool
 is_change s = is_change_role (role (keyword s))
 
--- the index of the first bad record, if there is one; 0 for the empty list
+-- the index of the first bad record, if there is one; `Some 0` for the empty list
 unfoldable pub first_bad : List SymLine → Option ℕ
 first_bad [] = Some 0
 first_bad (s ∷ lines) = first_bad_from 0 Start (s ∷ lines)

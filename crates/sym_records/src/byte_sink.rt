@@ -1,4 +1,4 @@
-//! A sink that keeps the bytes it takes, for spelling into memory.
+//! A sink that collects bytes in memory.
 ghost use Rattle.std.specs.Prelude.{◌≡◌, ◌≤◌, ◌<◌, ◌++◌, [], length, take, Some, Ok, IfOk, OnErr};
 ghost use Rattle.sym_edges.specs.Outside.{append_told, Rose};
 
@@ -6,7 +6,7 @@ use std::alloc::Global;
 use sym_edges::{Failed, OutOfMemory, Sink};
 use sym_rules::{ByteText, Waiting, hand_on};
 
-/// A sink that keeps the bytes it takes. It fails if memory runs out.
+/// A sink that collects the bytes that it takes. It fails if memory runs out.
 #[derive(Drop)]
 pub struct ByteSink {
     pub bytes: Vec<u8>,
@@ -24,7 +24,7 @@ impl ByteSink {
         }
     }
 
-    /// The bytes that were taken, and after them the bytes that wait.
+    /// The bytes that were taken, followed by those that wait in a buffer.
     pub(crate) fn into_text<const N: usize>(
         self,
         waiting: &mut Waiting<N>,

@@ -6,7 +6,8 @@ ghost use Rattle.sym_records.specs.Fields.{hex};
 use std::marker::Model;
 use sym_rules::write_hex;
 
-/// A number in lower-case hexadecimal without leading zeros, which contracts see as its digits. Allocates no memory.
+/// A number in lower-case hexadecimal without leading zeros; contracts see its digits. Allocates no
+/// memory.
 #[derive(Drop)]
 pub struct HexText {
     digits: [u8; 16],

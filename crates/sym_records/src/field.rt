@@ -15,7 +15,7 @@ pub enum Field<'a> {
     Marked(bool, u64),
     /// A decimal number.
     Decimal(u32),
-    /// Addresses and sizes.
+    /// Ranges: addresses and sizes.
     Ranges(&'a [Extent]),
     /// Frame rules.
     Rules(&'a [RuleText]),

@@ -1,4 +1,4 @@
-//! Whether a record's fields can be in a line.
+//! Which bytes may be a field or a name in a line.
 ghost use Rattle.std.specs.Prelude.{◌≡◌};
 ghost use Rattle.std.specs.List.{list_all};
 ghost use Rattle.sym_rules.specs.Cuts.{is_within_line};

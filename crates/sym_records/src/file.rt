@@ -1,4 +1,4 @@
-//! Lists of records that a text can spell.
+//! Valid lists of records.
 ghost use Rattle.std.specs.Prelude.{◌≡◌, Ok, Some, None, MatchResult, length, slice_get};
 ghost use Rattle.std.specs.Option.{option_copied};
 ghost use Rattle.sym_records.specs.Canon.{canon_text};
@@ -10,8 +10,8 @@ use crate::place::Place;
 use crate::validity::is_valid;
 use std::marker::Model;
 
-/// A list of records that a text can spell: `MODULE` first, and each record valid. `file_of` tests a list, and `file_of_valid` takes a list that is
-/// known to be valid.
+/// A valid list of records: `MODULE` is first, a text can spell each record, and each may be at its
+/// place. `file_of` tests a list, and `file_of_valid` takes one that is known to be valid.
 #[derive(Debug, Drop)]
 pub struct SymFile {
     lines: Vec<SymLine>,
@@ -35,8 +35,8 @@ pub struct NotValid {
     pub index: usize,
 }
 
-/// Whether the record may be at the place: `MODULE` only at the start, lines and inlines only in a function, and a change of frame rules only after a
-/// frame record or another change.
+/// Whether the record may be at the place. `MODULE` may be only at the start, line records and
+/// `INLINE` only in a function, and `STACK CFI` only after `STACK CFI INIT` or `STACK CFI`.
 pub fn fits(place: Place, line: &SymLine) -> bool
     ensures { result ≡ fits place line.now }
 {
@@ -49,7 +49,7 @@ pub fn fits(place: Place, line: &SymLine) -> bool
     }
 }
 
-/// The place after the record.
+/// The place after a record that follows `place`.
 pub fn leads(place: Place, line: &SymLine) -> Place
     ensures { result ≡ leads place line.now }
 {
@@ -61,7 +61,7 @@ pub fn leads(place: Place, line: &SymLine) -> Place
     }
 }
 
-/// The index of the first bad record, if the list is not empty.
+/// The index of the first bad record, if there is one; `None` for the empty list.
 #[tactic(auto, using(crate::proofs::FileLemmas::bad_at, crate::proofs::FileLemmas::good_at, crate::proofs::FileLemmas::none_left_at))]
 fn first_bad_line(lines: &[SymLine]) -> Option<usize>
     ensures { result ≡ first_bad_from 0 Place.Start lines.now }
@@ -76,7 +76,7 @@ fn first_bad_line(lines: &[SymLine]) -> Option<usize>
     None
 }
 
-/// The index of the first bad record, if there is one; 0 for the empty list.
+/// The index of the first bad record, if there is one; `Some(0)` for the empty list.
 #[tactic(auto, using(crate::proofs::FileLemmas::first_bad_of_none, crate::proofs::FileLemmas::first_bad_of_some))]
 fn first_bad(lines: &[SymLine]) -> Option<usize>
     ensures { result ≡ first_bad lines.now }
@@ -87,7 +87,8 @@ fn first_bad(lines: &[SymLine]) -> Option<usize>
     first_bad_line(lines)
 }
 
-/// A symbol file of these records. A refused list is dropped. Allocates no memory.
+/// A symbol file of these records, or the index of the first bad one; then the list is dropped.
+/// Allocates no memory.
 #[tactic(auto, using(crate::proofs::ValidityLemmas::none_valid, crate::proofs::ValidityLemmas::some_first))]
 pub fn file_of(lines: Vec<SymLine>) -> Result<SymFile, NotValid>
     ensures exact { MatchResult result
@@ -103,7 +104,8 @@ pub fn file_of(lines: Vec<SymLine>) -> Result<SymFile, NotValid>
     }
 }
 
-/// A symbol file of records that are known to be valid, such as those that a reader took from a text. Allocates no memory.
+/// A symbol file of records that are known to be valid, for example because they were read from a
+/// text. Allocates no memory.
 pub fn file_of_valid(lines: Vec<SymLine>) -> SymFile
     requires { first_bad lines.items ≡ None }
     ensures { result ≡ lines.items }
@@ -124,7 +126,7 @@ impl SymFile {
         self.lines.get(i)
     }
 
-    /// Allocates no memory.
+    /// The records. Allocates no memory.
     pub fn into_vec(self) -> Vec<SymLine>
         ensures { result.items ≡ self }
     {

@@ -1,4 +1,4 @@
-//! Writing records into a sink.
+//! Writing all records of a file into a sink.
 ghost use Rattle.std.specs.Prelude.{◌≡◌, ◌≤◌, Ok, OnOk, OnErr};
 ghost use Rattle.sym_edges.specs.Outside.{append_told, AddsFront, Rose};
 ghost use Rattle.sym_records.specs.Canon.{canon_text};
@@ -11,7 +11,7 @@ use crate::line_speller::put_record;
 use sym_edges::{Failed, Sink};
 use sym_rules::{Waiting, hand_on};
 
-/// Puts the canonical spelling of records.
+/// Puts the canonical spelling of records into the buffer.
 fn put_records<O: Sink, const N: usize>(
     sink: &mut O,
     waiting: &mut Waiting<N>,

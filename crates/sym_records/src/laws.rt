@@ -22,7 +22,7 @@ pub fn canonical_text_reads_back()
     ensures { (lines : List SymLine) → AreValid lines → reading (canon_text lines) ≡ Ok lines }
 {}
 
-/// The tests of a record and of a list are true exactly if it is valid.
+/// A record or a list passes its test exactly if it is valid.
 #[tactic(auto, using(crate::proofs::RecordSoundLemmas::fits_valid, crate::proofs::RecordSoundLemmas::valid_fits, crate::proofs::ValidityLemmas::none_valid, crate::proofs::ValidityLemmas::valid_none))]
 pub fn tests_say_validity()
     ensures record_passes { (s : SymLine) → fields_fit s ≡ true → IsValid s }
@@ -37,14 +37,15 @@ pub fn keyword_and_fields_tell()
     ensures { (a b : SymLine) → keyword a ≡ keyword b → fields a ≡ fields b → a ≡ b }
 {}
 
-/// A frame record of at most 18 rules passes the test, if each rule has one to four tokens and no `Other` name.
+/// A frame record passes the test if it has at most 18 rules, each with one to four tokens and no
+/// `Other` name.
 #[tactic(auto, using(crate::proofs::MakingLemmas::init_fits, crate::proofs::MakingLemmas::change_fits))]
 pub fn plain_rules_fit()
     ensures init { (address size : ℕ) (rules : List RuleText) → address < 2 ^ 64 → size < 2 ^ 64 → list_all is_plain_rule rules ≡ true → 0 < length rules → length rules ≤ 18 → fields_fit (SymLine.Init address size rules) ≡ true }
     ensures change { (address : ℕ) (rules : List RuleText) → address < 2 ^ 64 → list_all is_plain_rule rules ≡ true → 0 < length rules → length rules ≤ 18 → fields_fit (SymLine.Change address rules) ≡ true }
 {}
 
-/// Lists of good records, joined one after another, are a list of good records.
+/// A valid list stays valid if records are added that may follow any record.
 #[tactic(auto, using(crate::proofs::JoiningLemmas::join_fits, crate::proofs::JoiningLemmas::join_behind, crate::proofs::JoiningLemmas::push_behind, crate::proofs::JoiningLemmas::behind_pushed, crate::proofs::JoiningLemmas::frame_fits))]
 pub fn good_lists_are_joined()
     ensures whole { (xs ys : List SymLine) → first_bad xs ≡ None → first_bad_from 0 Place.Inside ys ≡ None → first_bad (xs ++ ys) ≡ None }
@@ -54,7 +55,8 @@ pub fn good_lists_are_joined()
     ensures frame { (address size : ℕ) (rules : List RuleText) (changes : List SymLine) → fields_fit (SymLine.Init address size rules) ≡ true → list_all is_change changes ≡ true → list_all fields_fit changes ≡ true → first_bad_from 0 Place.Inside (SymLine.Init address size rules ∷ changes) ≡ None }
 {}
 
-/// Records pass the test if their numbers are in range, their names have at most 2^16 bytes, and an inline has at most 30,000 ranges.
+/// Records pass the test if their numbers are in range, their names have at most 2^16 bytes, and an
+/// INLINE has at most 30,000 ranges.
 #[tactic(auto, using(crate::proofs::MakingLemmas::file_fits, crate::proofs::MakingLemmas::origin_fits, crate::proofs::MakingLemmas::func_fits, crate::proofs::MakingLemmas::inline_fits, crate::proofs::MakingLemmas::line_fits))]
 pub fn records_of_functions_fit()
     ensures file { (number : ℕ) (name : List ℕ) → number < 2 ^ 32 → is_name name ≡ true → length name ≤ 2 ^ 16 → fields_fit (SymLine.File number name) ≡ true }
@@ -64,7 +66,8 @@ pub fn records_of_functions_fit()
     ensures line { (address size number file : ℕ) → address < 2 ^ 64 → size < 2 ^ 64 → number < 2 ^ 32 → file < 2 ^ 32 → fields_fit (SymLine.Line address size number file) ≡ true }
 {}
 
-/// A text that is spelled from valid records is the canonical text of these records. One more record adds its own spelling to the text.
+/// The canonical spelling of valid records is the canonical text of these records. One more record
+/// adds its own spelling to the text.
 #[tactic(auto, using(crate::proofs::SpelledLemmas::spelled, crate::proofs::SpelledLemmas::spelled_records, crate::proofs::SpelledLemmas::text_pushed))]
 pub fn spelled_texts_are_canonical()
     ensures spelled { (lines : List SymLine) (bytes : List ℕ) → first_bad lines ≡ None → bytes ≡ canon_text lines → IsSpelled bytes }

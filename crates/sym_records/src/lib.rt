@@ -1,12 +1,15 @@
 //! The records of a Breakpad symbol file, their canonical spelling, and the reading of a text of records.
 //!
-//! A symbol file is a text of lines, each a record (Breakpad's symbol_files.md): a keyword and its fields. A table says which fields follow each
-//! keyword; spelling, length, validity and reading use this table. A `SymFile` is a list of records that a text can spell. `file_of` makes it, or
-//! names the first record that no text can spell or that may not be at its place; `file_of_valid` makes it of records that are known to be valid.
-//! `render` spells one record and `write_file` all of them, with one space between fields. What is written reads back as the same records. The `add_`
-//! calls spell a record at the end of a text without making the record first; `write_init` and `write_change` write a frame record up to its rules
-//! into a line, for a caller that writes the rules. A `SymText` is the canonical text of a symbol file, which contracts see as its records. `clean`
-//! makes of any bytes a name that a record may carry.
+//! A symbol file is a text of lines, each a record (Breakpad's symbol_files.md): a keyword and its
+//! fields. A table says which fields follow each keyword; spelling, length, validity and reading
+//! use this table. A `SymFile` is a valid list of records. `file_of` makes it, or gives the index
+//! of the first record that no text can spell or that may not be at its place. `file_of_valid`
+//! makes it from records that are known to be valid. `render` spells one record and `write_file`
+//! all of them, with one space between fields. What is written reads back as the same records. The
+//! `add_` calls spell a record at the end of a text without making the record first; `write_init`
+//! and `write_change` write a frame record up to its rules; the caller writes the rules. A
+//! `SymText` is the canonical text of a symbol file; contracts see its records. `clean` makes a
+//! name that a record may carry out of any bytes.
 #![tactic(auto)]
 
 // The records, and the places where they may be.

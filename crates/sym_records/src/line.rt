@@ -6,14 +6,14 @@ use std::marker::Model;
 use sym_edges::{ListOf, OutOfMemory};
 use sym_rules::{ByteText, Rules};
 
-/// A run of addresses, relative to the binary's base.
+/// A range of addresses, relative to the binary's base.
 #[derive(Clone, Copy, Debug, PartialEq, Eq)]
 pub struct Extent {
     pub address: u64,
     pub size: u64,
 }
 
-/// Runs of addresses in order.
+/// Ranges of addresses, in order.
 pub type Extents = ListOf<Extent>;
 
 /// What `MODULE` says about the binary.
@@ -25,7 +25,7 @@ pub struct Binary {
     pub name: ByteText,
 }
 
-/// The same as one pointer, since a file has only one and a record should stay small.
+/// A `Binary` behind one pointer. A file has only one, and records stay small in this way.
 #[derive(Debug, Drop)]
 pub struct BoxedBinary {
     kept: Box<Binary>,
@@ -66,18 +66,19 @@ pub enum SymLine {
     Info {
         text: ByteText,
     },
-    /// `FILE number name`: a source file, with the number by which line records and `INLINE` name it.
+    /// `FILE number name`: a source file, and the number that line records and `INLINE` use for it.
     File {
         number: u32,
         name: ByteText,
     },
-    /// `INLINE_ORIGIN number name`: a function that is inlined, with the number by which `INLINE` names it.
+    /// `INLINE_ORIGIN number name`: a function that is inlined, and the number that `INLINE` uses
+    /// for it.
     Origin {
         number: u32,
         name: ByteText,
     },
-    /// `FUNC [m] address size params name`: a function, and the size of its parameters on the stack. `m` says that symbols with other names have the
-    /// address too.
+    /// `FUNC [m] address size params name`: a function, and the size of its parameters on the
+    /// stack. `m` says that symbols with different names have this address.
     Func {
         many: bool,
         address: u64,
@@ -101,8 +102,8 @@ pub enum SymLine {
         line: u32,
         file: u32,
     },
-    /// `PUBLIC [m] address params name`: a symbol's address, and the size of its parameters on the stack. `m` says that symbols with other names have
-    /// the address too.
+    /// `PUBLIC [m] address params name`: a symbol's address, and the size of its parameters on the
+    /// stack. `m` says that symbols with different names have this address.
     Public {
         many: bool,
         address: u64,
@@ -115,7 +116,8 @@ pub enum SymLine {
         size: u64,
         rules: Rules,
     },
-    /// `STACK CFI address rules`: the frame rules of the last `Init` before it that change at an address.
+    /// `STACK CFI address rules`: the frame rules that change at an address, relative to the last
+    /// `Init` before it.
     Change {
         address: u64,
         rules: Rules,

@@ -1,4 +1,4 @@
-//! Spelling a record that is in memory into a sink, forward, through a buffer.
+//! Putting a record into a buffer in front of a sink.
 ghost use Rattle.std.specs.Prelude.{◌≡◌, ◌<◌, ◌∷◌, ◌++◌, length};
 ghost use Rattle.std.specs.Fmt.{decimal};
 ghost use Rattle.std.specs.List.{flat_map};
@@ -16,7 +16,7 @@ use itoa::Buffer;
 use sym_edges::{Failed, Sink};
 use sym_rules::{Waiting, put, put_rules, put_word};
 
-/// Puts a hexadecimal number after one space.
+/// Puts a space and a hexadecimal number.
 fn put_hex<O: Sink, const N: usize>(
     sink: &mut O,
     waiting: &mut Waiting<N>,
@@ -28,7 +28,7 @@ fn put_hex<O: Sink, const N: usize>(
     put_word(sink, waiting, digits.as_slice())
 }
 
-/// Puts a decimal number after one space.
+/// Puts a space and a decimal number.
 fn put_decimal<O: Sink, const N: usize>(
     sink: &mut O,
     waiting: &mut Waiting<N>,
@@ -40,7 +40,7 @@ fn put_decimal<O: Sink, const N: usize>(
     put_word(sink, waiting, buffer.format(number).as_bytes())
 }
 
-/// Puts `m` after one space, if `many`.
+/// Puts a space and `m`, if `many`.
 fn put_mark<O: Sink, const N: usize>(
     sink: &mut O,
     waiting: &mut Waiting<N>,
@@ -55,7 +55,7 @@ fn put_mark<O: Sink, const N: usize>(
     }
 }
 
-/// Puts a hexadecimal number, and `m` before it if `many`.
+/// Puts ` m` if `many`, then a space and a hexadecimal number.
 fn put_marked<O: Sink, const N: usize>(
     sink: &mut O,
     waiting: &mut Waiting<N>,
@@ -102,7 +102,7 @@ fn put_ranges<O: Sink, const N: usize>(
     Ok(())
 }
 
-/// Puts a field after one space.
+/// Puts a space and a field.
 fn put_field<O: Sink, const N: usize>(
     sink: &mut O,
     waiting: &mut Waiting<N>,
@@ -138,7 +138,7 @@ fn put_fields<O: Sink, const N: usize>(
     Ok(())
 }
 
-/// Puts a record that has a keyword, without the end of its line.
+/// Puts a record that has a keyword, without LF.
 fn put_worded<O: Sink, const N: usize>(
     sink: &mut O,
     waiting: &mut Waiting<N>,
@@ -157,7 +157,7 @@ fn put_worded<O: Sink, const N: usize>(
     put_fields(sink, waiting, fields)
 }
 
-/// Puts a hexadecimal number, and fields after it with one space before each.
+/// Puts a hexadecimal number, and then fields with one space before each.
 fn put_numbered<O: Sink, const N: usize>(
     sink: &mut O,
     waiting: &mut Waiting<N>,
@@ -174,7 +174,7 @@ fn put_numbered<O: Sink, const N: usize>(
     put_fields(sink, waiting, fields)
 }
 
-/// Puts a record without the end of its line.
+/// Puts a record without LF.
 fn put_body<O: Sink, const N: usize>(
     sink: &mut O,
     waiting: &mut Waiting<N>,

@@ -1,4 +1,4 @@
-//! The fields of a record as a short list.
+//! The fields of a record as a list.
 ghost use Rattle.std.specs.Prelude.{◌≡◌, ◌<◌, ◌^◌, [], ◌∷◌, ◌++◌, ◌≤◌, map, length, take};
 ghost use Rattle.sym_records.specs.Listed.{said};
 

@@ -7,14 +7,15 @@ use std::mem::replace;
 use sym_edges::OutOfMemory;
 use sym_rules::ByteText;
 
-/// A piece with this many bytes or more gets no more lines.
+/// A piece with at least this many bytes is full: no more lines are added to it.
 const PIECE: usize = 1 << 20;
 
-/// Room for the line that makes a piece full. If that line is longer, the piece grows.
+/// Memory beyond `PIECE` for the line that makes a piece full. If this line is longer, the piece
+/// grows.
 const SPARE: usize = 1 << 17;
 
-/// A text in pieces: lines are added to the last piece, and `turn` is called between lines. A long text is never copied as a whole, and little of its
-/// memory stays empty.
+/// A text in pieces. Lines are added to the last piece, and `turn` is called between lines. A long
+/// text is never copied as a whole, and little of its memory stays unused.
 #[derive(Debug, Drop)]
 pub struct TextPieces {
     pub full: Vec<ByteText>,
@@ -31,7 +32,7 @@ impl TextPieces {
         }
     }
 
-    /// Begins another piece if the last is full. The text stays the same.
+    /// Begins another piece if the last one is full. The text stays the same.
     #[tactic(auto, using(crate::proofs::SpelledLemmas::turned))]
     pub fn turn(&mut self, alloc: Global) -> Result<(), OutOfMemory>
         ensures { OnOk result (text_bytes self.new ≡ text_bytes self.old) }
@@ -45,7 +46,7 @@ impl TextPieces {
         Ok(())
     }
 
-    /// Adds another text, whose pieces are kept as they are.
+    /// Adds another text at the end. Its pieces are moved, not copied.
     #[tactic(auto, using(crate::proofs::SpelledLemmas::joined))]
     pub fn append(&mut self, text: TextPieces) -> Result<(), OutOfMemory>
         ensures { OnOk result (text_bytes self.new ≡ text_bytes self.old ++ text_bytes text) }

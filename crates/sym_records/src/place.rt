@@ -1,13 +1,14 @@
-//! The places in a file that differ in which records may follow.
+//! The places in a file, by what may follow there.
 
-/// What comes before a line of a symbol file, as far as it decides which records may follow.
+/// The place of a line in a symbol file, by what comes before it. It decides which records may
+/// follow.
 #[derive(Clone, Copy, Debug, PartialEq, Eq)]
 pub enum Place {
-    /// No record.
+    /// There is no record before.
     Start,
     /// `MODULE`, or another record that belongs neither to a function nor to a frame.
     Inside,
-    /// `FUNC`, perhaps with its lines and inlines.
+    /// A `FUNC`, perhaps followed by its line records and `INLINE`.
     Function,
     /// `STACK CFI INIT` or `STACK CFI`.
     Frame,

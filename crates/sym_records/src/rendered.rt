@@ -1,4 +1,4 @@
-//! The spelling of a record or of rules in memory, as a separate text.
+//! The spelling of a record or of rules as a text in memory.
 ghost use Rattle.std.specs.Prelude.{◌≡◌, IfOk};
 ghost use Rattle.sym_rules.specs.Rules.{spelled_rules};
 ghost use Rattle.sym_records.specs.Canon.{canon};

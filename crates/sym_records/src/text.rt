@@ -1,4 +1,4 @@
-//! Texts of symbol files, which contracts see as their records.
+//! The canonical texts of symbol files.
 ghost use Rattle.std.specs.Prelude.{◌≡◌, ◌≤◌, Ok, OnOk, OnErr};
 ghost use Rattle.std.specs.List.{flat_map};
 ghost use Rattle.sym_edges.specs.Outside.{append_told, AddsFront, Rose};
@@ -12,7 +12,7 @@ use std::marker::Model;
 use sym_edges::{Failed, Sink};
 use sym_rules::{ByteText, Waiting, hand_on, put};
 
-/// The canonical text of a symbol file, which contracts see as its records. No record is kept in memory.
+/// The canonical text of a symbol file. Contracts see its records, but only the text is stored.
 #[derive(Debug, Drop)]
 pub struct SymText {
     text: TextPieces,
@@ -30,7 +30,7 @@ impl Model for SymText {
     ghost invariant = { λ t. IsSpelled (text_bytes t.text) };
 }
 
-/// Puts the pieces of a text.
+/// Puts the pieces of a text into the buffer.
 fn put_pieces<O: Sink, const N: usize>(
     sink: &mut O,
     waiting: &mut Waiting<N>,
@@ -47,7 +47,7 @@ fn put_pieces<O: Sink, const N: usize>(
     Ok(())
 }
 
-/// Puts a text.
+/// Puts a text into the buffer.
 fn put_text<O: Sink, const N: usize>(
     sink: &mut O,
     waiting: &mut Waiting<N>,
@@ -63,7 +63,7 @@ fn put_text<O: Sink, const N: usize>(
 }
 
 impl SymText {
-    /// A text that is the canonical text of its records. Allocates no memory.
+    /// A text, which must be the canonical text of its records. Allocates no memory.
     pub fn of(text: TextPieces) -> SymText
         requires { IsSpelled (text_bytes text) }
         ensures { result ≡ records_in (text_bytes text) }
@@ -71,7 +71,8 @@ impl SymText {
         SymText { text }
     }
 
-    /// Writes the text. If it fails, a prefix of the text was added. What was written reads back as the records. Allocates no memory.
+    /// Writes the text into a sink. If it fails, a prefix of the text was written. What was written
+    /// reads back as the records. Allocates no memory.
     #[tactic(auto, using(crate::proofs::SpelledLemmas::wrote_all, crate::proofs::SpelledLemmas::wrote_front, crate::proofs::SpelledLemmas::wrote_not_on, crate::proofs::SpelledLemmas::spelled_reads))]
     pub fn write<O: Sink>(&self, sink: &mut O) -> Result<(), Failed>
         ensures written { OnOk result (O.taken sink.new ≡ append_told (O.taken sink.old) (canon_text self.now)) }

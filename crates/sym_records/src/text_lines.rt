@@ -1,4 +1,5 @@
-//! Adding records to a text without making the records first: numbers are written backward, into a line that has room for them.
+//! Adding records to a text without making them first. Numbers are written backward, into a line
+//! that has room for them.
 ghost use Rattle.std.specs.Prelude.{◌≡◌, ◌+◌, ◌≤◌, [], ◌∷◌, ◌++◌, length, drop, OnOk};
 ghost use Rattle.std.specs.Fmt.{decimal};
 ghost use Rattle.std.specs.List.{flat_map};
@@ -12,10 +13,10 @@ use clean_names::add_cleaned;
 use sym_edges::OutOfMemory;
 use sym_rules::{write_byte, write_bytes, write_decimal, write_hex, write_last};
 
-/// Room for the numbers of a line, with their spaces and the line's first words.
+/// Room for the first words and the numbers of a line, with a space before each number.
 const LINE: usize = 64;
 
-/// The same, with the line's end and the text that replaces an empty name.
+/// Room for these, for LF, and for the text that replaces an empty name.
 const ROOM: usize = 80;
 
 /// Writes a hexadecimal number after one space.
@@ -59,7 +60,8 @@ fn write_mark(many: bool, line: &mut [u8], end: usize) -> usize
     end
 }
 
-/// Adds the first words of a line, and makes room for `room` bytes after them and for its end.
+/// Adds the first words of a line, and makes room for `room` more bytes and for the end of the
+/// line.
 #[inline]
 fn begin(text: &mut Vec<u8>, words: &[u8], room: usize) -> Result<(), OutOfMemory>
     ensures { OnOk result (text.new.items ≡ text.old.items ++ words.now) }
@@ -78,7 +80,7 @@ fn add_word(text: &mut Vec<u8>, word: &[u8]) -> Result<(), OutOfMemory>
     Ok(())
 }
 
-/// Adds the end of a line.
+/// Adds LF.
 #[inline]
 fn end(text: &mut Vec<u8>) -> Result<(), OutOfMemory>
     ensures { OnOk result (text.new.items ≡ text.old.items ++ 10 ∷ []) }
@@ -87,7 +89,7 @@ fn end(text: &mut Vec<u8>) -> Result<(), OutOfMemory>
     Ok(())
 }
 
-/// Adds a name, cleaned, and the end of its line; the space before the name is already there.
+/// Adds a cleaned name and LF. The space before the name is already there.
 fn end_with_name(text: &mut Vec<u8>, name: &[u8]) -> Result<(), OutOfMemory>
     ensures { OnOk result (text.new.items ≡ text.old.items ++ cleaned name.now ++ 10 ∷ []) }
 {
@@ -95,7 +97,7 @@ fn end_with_name(text: &mut Vec<u8>, name: &[u8]) -> Result<(), OutOfMemory>
     end(text)
 }
 
-/// Writes `STACK CFI INIT` and its numbers, before its rules.
+/// Writes the start of a `STACK CFI INIT` record up to its rules.
 #[tactic(auto, using(crate::proofs::AddingLemmas::init_before))]
 pub fn write_init(address: u64, size: u64, line: &mut [u8], end: usize) -> usize
     requires room { 48 ≤ end }
@@ -109,7 +111,7 @@ pub fn write_init(address: u64, size: u64, line: &mut [u8], end: usize) -> usize
     write_bytes(b"STACK CFI INIT", line, at)
 }
 
-/// Writes `STACK CFI` and its number, before its rules.
+/// Writes the start of a `STACK CFI` record up to its rules.
 #[tactic(auto, using(crate::proofs::AddingLemmas::change_before))]
 pub fn write_change(address: u64, line: &mut [u8], end: usize) -> usize
     requires room { 26 ≤ end }
@@ -163,7 +165,7 @@ pub fn add_module(
     end_with_name(text, name)
 }
 
-/// Adds `INFO` with these words as they are.
+/// Adds `INFO` with this text, which is not cleaned.
 #[tactic(auto, using(crate::proofs::AddingLemmas::adds_info))]
 pub fn add_info(text: &mut Vec<u8>, words: &[u8]) -> Result<(), OutOfMemory>
     ensures { OnOk result (text.new.items ≡ text.old.items ++ canon (line.Info words.now)) }

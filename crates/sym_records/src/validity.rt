@@ -1,4 +1,4 @@
-//! Whether a line can spell a record.
+//! Which records a text can spell.
 ghost use Rattle.std.specs.Prelude.{◌≡◌, ◌^◌, ◌↔◌, IsTrue};
 ghost use Rattle.std.specs.List.{list_all};
 ghost use Rattle.sym_records.specs.Fields.{is_range, are_ranges};
@@ -56,7 +56,7 @@ fn fit(fields: &[Field<'_>]) -> bool
     fields.iter().all(|field| fits_field(*field))
 }
 
-/// Whether the record's line can carry each field.
+/// Whether a line can carry each field of the record.
 fn has_fields(line: &SymLine) -> bool
     ensures { result ≡ has_fields line.now }
 {
@@ -64,7 +64,7 @@ fn has_fields(line: &SymLine) -> bool
     fit(list.as_slice())
 }
 
-/// The test of a record by its fields and its length.
+/// Whether a record passes the test of its fields and its length.
 #[tactic(auto, unfolding(crate::specs::Validity::fields_fit))]
 fn fields_fit(line: &SymLine) -> bool
     ensures { result ≡ fields_fit line.now }

@@ -31,8 +31,9 @@ const MAIN: &[u8] = b"MODULE Linux x86_64 030201000504070608090A0B0C0D0E0F0 a.ou
 
 type AnswerRow = (&'static str, &'static [u8], u64, &'static [usize]);
 
-/// A text, an address, and the answer there: for a function its place, that of the line counted from 1 (or 0), and those of the copies; for a symbol
-/// its place alone; or nothing.
+/// A text, an address, and the numbers that the answer must have. For a function these are its
+/// place, the place of the line counted from 1 (or 0 without a line), and the places of the copies.
+/// For a symbol it is only its place. There are none if nothing is found.
 const ANSWERS: [AnswerRow; 8] = [
     ("main", MAIN, 0x1000, &[2]),
     ("in a copy", INLINED, 0x1005, &[3, 7, 4]),
@@ -135,7 +136,7 @@ fn answered(alloc: Global, file: &SymFile) -> Result<u64, OutOfMemory>
     Ok(answered)
 }
 
-/// A look-up by scans would not finish here.
+/// With so many functions a look-up by scans would take too long.
 #[test]
 fn each_of_many_functions_is_looked_up(rt: HostRuntime) -> Result<(), Fail> {
     let alloc = rt.alloc();

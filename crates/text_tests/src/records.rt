@@ -134,7 +134,8 @@ fn write(
 
 type WriteRow = (&'static str, (usize, usize, u64), usize);
 
-/// The room of a sink, how many bytes it takes in one call, and the number of the call that fails; then how many bytes of `WHOLE` it takes.
+/// The room of a sink, how many bytes it takes in one call, and the number of the call that fails;
+/// then how many bytes of `WHOLE` it must take.
 const WRITES: [WriteRow; 6] = [
     ("in one piece", (500, 500, 0), 252),
     ("byte by byte", (500, 1, 0), 252),

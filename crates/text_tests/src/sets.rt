@@ -11,7 +11,8 @@ const _: () = prove!(size_of::<RangeSet>() == 32);
 
 const _: () = prove!(size_of::<Span>() == 16);
 
-/// A thousand spans from `from` to `to` after each tenth address, in ascending or descending order.
+/// A thousand spans, each from `from` to `to` after a multiple of ten, in ascending or descending
+/// order.
 fn thousand(alloc: Global, from: u64, to: u64, rising: bool) -> Result<Vec<Span>, AllocError> {
     let mut spans = Vec::new(alloc);
     for k in 0..1000 {
@@ -25,7 +26,7 @@ fn thousand(alloc: Global, from: u64, to: u64, rising: bool) -> Result<Vec<Span>
     Ok(spans)
 }
 
-/// The starts and ends of spans, in turn.
+/// The starts and ends of spans, alternating.
 fn ends_of(alloc: Global, spans: &[Span]) -> Result<Vec<u64>, AllocError> {
     let mut ends = Vec::new(alloc);
     for span in spans {
@@ -44,7 +45,8 @@ enum Form {
     Joined,
 }
 
-/// The spans from 0 to 4 after each tenth address, with those from 2 to 6.
+/// The set of the spans from 0 to 4 after each multiple of ten, alone, or combined with those from
+/// 2 to 6.
 fn set_by(alloc: Global, form: Form) -> Result<RangeSet, OutOfMemory> {
     let low = of_ranges(alloc, thousand(alloc, 0, 4, false)?.as_slice())?;
     if let Form::Alone = form {
@@ -58,7 +60,7 @@ fn set_by(alloc: Global, form: Form) -> Result<RangeSet, OutOfMemory> {
     }
 }
 
-/// A form, and where its spans begin and end after each tenth address.
+/// A form, and where the spans of the set begin and end after each multiple of ten.
 const SETS: [(&str, Form, u64, u64); 4] = [
     ("of_ranges", Form::Alone, 0, 4),
     ("meet", Form::Met, 2, 4),
@@ -103,7 +105,8 @@ fn set_of(alloc: Global, ends: &[(u64, u64)]) -> Result<RangeSet, OutOfMemory> {
     of_ranges(alloc, spans_of(alloc, ends)?.as_slice())
 }
 
-/// A set of spans that touch, given in no order; the rest of it without a hole; a part of the rest; and the rest joined with the hole.
+/// A set of spans that touch, given in no order; this set without a hole; a part of that; and that
+/// set joined with the hole.
 fn four_sets(alloc: Global) -> Result<[RangeSet; 4], OutOfMemory> {
     let whole = set_of(alloc, &[(5, 9), (1, 3), (3, 5)])?;
     let hole = set_of(alloc, &[(4, 6)])?;

@@ -10,7 +10,8 @@ use sym_edges::OutOfMemory;
 use test_rows::{Holding, Recording};
 use unit_workers::{Gate, NoGate, UnitJob, open_tickets, run_all};
 
-/// The square of a number. Each worker keeps a list of the numbers that it read. One number may find no memory.
+/// The square of a number. Each worker keeps a list of the numbers that it read. For one number the
+/// call may end as if memory ran out.
 #[derive(Drop)]
 struct Squares {
     short: Option<usize>,
@@ -36,7 +37,7 @@ impl UnitJob for Squares {
     }
 }
 
-/// The squares of a number of numbers, by a number of workers.
+/// The squares of the numbers below `count`, by several workers.
 fn squares_by<R: Threads + Sync, G: Gate + Sync>(
     rt: &R,
     alloc: Global,
@@ -66,7 +67,7 @@ const COUNTS: [(&str, (usize, usize)); 7] = [
     ("64 workers", (1000, 64)),
 ];
 
-/// Which of a hundred units finds no memory, and how many workers there are.
+/// For which of a hundred units memory runs out, and how many workers there are.
 const SHORT: [(&str, usize, usize); 4] = [
     ("first unit, one worker", 0, 1),
     ("first unit, four workers", 0, 4),
@@ -120,7 +121,7 @@ fn each_unit_is_reached_once_and_holds_up_no_other(rt: HostRuntime) -> Result<()
     Ok(())
 }
 
-/// What two hands draw if there is no ticket.
+/// What two hands draw if there is no number.
 fn draws_of_none(alloc: Global) -> Result<[Option<usize>; 2], OutOfMemory> {
     let (tickets, mut hand) = open_tickets(alloc, 0, 2)?;
     let mut other = hand.split(&tickets);
@@ -134,7 +135,7 @@ fn draws_of_none(alloc: Global) -> Result<[Option<usize>; 2], OutOfMemory> {
     Ok([first, second])
 }
 
-/// What one hand draws if there is one ticket.
+/// What one hand draws if there is one number.
 fn draws_of_one(alloc: Global) -> Result<[Option<usize>; 2], OutOfMemory> {
     let (tickets, mut hand) = open_tickets(alloc, 1, 1)?;
     let Some(first) = hand.draw(&tickets) else {

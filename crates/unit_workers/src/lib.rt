@@ -4,7 +4,8 @@
 //! for a number. [`run_all`] runs a job for each number below a count, by some workers, and returns
 //! the list of results. It has as many members as the count says, and member k is right for the
 //! number k. The list does not say which worker drew which number. A [`Crew`] has the workers,
-//! their threads and their memory in one value.
+//! their threads and their memory in one value; it can also make two calls at the same time, and
+//! sort a list.
 //!
 //! The workers share one word, and their only step on it is an addition of 1, which draws the
 //! number of the next unit. No lock is taken and no call waits. [`open_tickets`] makes the word

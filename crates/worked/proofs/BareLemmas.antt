@@ -1,4 +1,4 @@
--- What is said of entries and their addresses is said of the units without their line tables.
+-- What is said of entries and their addresses does not depend on the line tables of their units.
 use Rattle.std.proofs.Common.{◌≡◌, ℕ, ◌+◌, ◌==◌, ◌&&◌, not, false, map, List, [], ◌∷◌, ◌++◌, Option, None, Some, refl, sym, ap, ◌∙◌}
 use Rattle.std.specs.List.{find, slice_get, list_any}
 use Rattle.std.specs.Option.{option_map, option_map_or}
@@ -21,7 +21,7 @@ use Rattle.debug_read.specs.Each.{Match}
 use Rattle.line_program.specs.LineMaps.{no_lines}
 use Rattle.debug_read.specs.SameUnits.{SameUnit}
 
--- the unit without its line table
+-- The unit without its line table.
 abbrev pub bare : UnitRead → UnitRead
 bare u = record { die = u.die; spans = u.spans; lines = no_lines }
 
@@ -34,7 +34,7 @@ same_bares [] (w ∷ ws) same = absurd same
 same_bares (u ∷ us) [] same = absurd same
 same_bares (u ∷ us) (w ∷ ws) same = (let later : bares us ≡ bares ws = same_bares us ws same.1 in λ i. record { die = same.0.die i; spans = same.0.spans i; lines = no_lines } ∷ later i)
 
--- names are those of the entries alone, which are the same
+-- Names depend on the entries alone, and these are the same.
 alone_bares : (us : List UnitRead) → alone (bares us) ≡ alone us
 alone_bares [] = refl
 alone_bares (u ∷ us) = ap (λ ws. entries_alone u ∷ ws) (alone_bares us)
@@ -50,7 +50,7 @@ entry_bare us unit entry = in_bare unit entry (slice_get us unit) ∙ ap (entry_
 pub name_bare : (us : List UnitRead) (unit entry : ℕ) → entry_name us unit entry ≡ entry_name (bares us) unit entry
 name_bare us unit entry = name_alone us unit entry ∙ ap (λ ws. entry_name ws unit entry) (sym (alone_bares us)) ∙ sym (name_alone (bares us) unit entry)
 
--- owners
+-- Owners.
 covering_bare : (unit : ℕ) (us : List UnitRead) → covering_from unit us ≡ covering_from unit (bares us)
 covering_bare unit [] = refl
 covering_bare unit (u ∷ us) = ap (λ l. unit_covering unit 0 u.die.dies u.spans ++ l) (covering_bare (unit + 1) us)
@@ -78,7 +78,7 @@ marked_bare us (p ∷ pieces) marked = (marked.0 ∙ many_bare us p.start, marke
 pub pieces_bare : (us : List UnitRead) (pieces : List Piece) → ArePieces us pieces → ArePieces (bares us) pieces
 pieces_bare us pieces are = record { runs = record { apart = are.runs.apart; values = λ a. are.runs.values a ∙ place_bare us a }; marks = marked_bare us pieces are.marks }
 
--- chains
+-- Chains.
 by_bare : (unit entry a : ℕ) (o : Option UnitRead) → chain_by unit entry a o ≡ chain_by unit entry a (option_map bare o)
 by_bare unit entry a None = refl
 by_bare unit entry a (Some part) = refl

@@ -1,4 +1,4 @@
--- What a row unfolds to compute the verdict of a file.
+-- The definitions that a worked example unfolds to compute the verdict on a file.
 use Rattle.std.specs.Prelude.{⊤}
 use Rattle.debug_read.proofs.Computing.{debug_read_computes}
 use Rattle.func_flatten.proofs.Computing.{func_flatten_computes}

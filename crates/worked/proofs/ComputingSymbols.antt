@@ -1,4 +1,5 @@
--- What a row unfolds to compute the verdict of a command over symbol files.
+-- The definitions that a worked example unfolds to compute the verdict of a command on symbol
+-- files.
 use Rattle.std.specs.Prelude.{⊤}
 use Rattle.sym_edges.proofs.Shown.{shown}
 use Rattle.sym_lookup.proofs.Computing.{sym_lookup_computes}

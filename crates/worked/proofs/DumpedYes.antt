@@ -1,4 +1,4 @@
--- What `dump` writes gets a yes of `judge`.
+-- What `dump` writes gets a yes from `judge`.
 use Rattle.std.proofs.Common.{◌≡◌, ℕ, zero, suc, ◌<◌, ◌≤◌, Bool, true, false, cond, nat_lt, List, [], length, take, ◌^◌, Option, Some, Result, Ok, Err, refl, sym, ap, subst, ◌∙◌, arith}
 use Rattle.std.proofs.lemmas.Bool.Decides.{nat_tests}
 use Rattle.sym_edges.specs.Outside.{Files, Tells, append_told}
@@ -23,7 +23,7 @@ use Rattle.worked.specs.DumpedJudged.{JudgesWhatWasDumped, AnswersYes}
 use Rattle.worked.proofs.OneVerdict.{one_source, one_ruling}
 use Rattle.worked.proofs.OneRun.{whole_by, judging_by}
 
--- the reading of a file that is not too long is that of its text
+-- The reading of a file that is not too long is the reading of its text.
 short_by : (long : Bool) (bytes : List ℕ) → long ≡ false → cond long (front_reading (decided (2 ^ 20) nothing (take LIMIT bytes))) (whole_reading (reading bytes)) ≡ whole_reading (reading bytes)
 short_by false bytes is = refl
 short_by true bytes is = absurd (cc)
@@ -32,7 +32,7 @@ short_reading : (bytes : List ℕ) → length bytes ≤ LIMIT → file_reading L
 unfolding file_reading
 short_reading bytes few = let no : nat_lt LIMIT (length bytes) ≡ false = grind (arith, nat_tests) in short_by (nat_lt LIMIT (length bytes)) bytes no
 
--- the verdict on the records of a text and that text
+-- The verdict on the records of a text and that text.
 read_yes : (own : List SymLine) (read : Result (List SymLine) SymRefusal) (v : Verdict) → read ≡ Ok own → IsReadVerdict own read v → v ≡ ruling_verdict Yes
 read_yes own (Ok other) v same is =
     let records : own ≡ other = cc in
@@ -53,7 +53,7 @@ dumped_yes source name files dumped v first zero_is few kept is =
     text_yes source.full name dumped.status dumped v zero_is few
     (subst (λ (bytes : Option (List ℕ)). IsDumpedVerdict source.full name dumped.status dumped bytes v) kept (subst (λ (d : Verdict). IsDumpedVerdict source.full name d.status d (files name) v) same is.is))
 
--- runs
+-- Runs.
 verdict_of : (run : Run) (asked : Asked) (files : Files) → run.store.files ≡ Some files → command run ≡ Some asked → (judged : WasJudged run) → IsVerdict (Some asked) files judged.missed (judgement_verdict judged.judgement)
 verdict_of run asked files tells asks judged =
     subst (λ (c : Option Asked). IsVerdict c files judged.missed (judgement_verdict judged.judgement)) asks

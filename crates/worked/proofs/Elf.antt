@@ -9,7 +9,7 @@ use Rattle.sym_edges.proofs.Hex.{bytes, little}
 unfoldable pub hex : String → List ℕ
 hex digits = bytes (codes digits)
 
--- a section: sh_type, sh_flags, sh_addr and sh_link, its name and its bytes
+-- A section: sh_type, sh_flags, sh_addr and sh_link, its name and its bytes.
 pub record Section : Type 0 where
   pub name : List ℕ
   pub kind : ℕ
@@ -18,14 +18,14 @@ pub record Section : Type 0 where
   pub link : ℕ
   pub content : List ℕ
 
--- a symbol: st_info, st_shndx and st_value, and its name
+-- A symbol: st_info, st_shndx and st_value, and its name.
 pub record Symbol : Type 0 where
   pub name : List ℕ
   pub info : ℕ
   pub section : ℕ
   pub address : ℕ
 
--- a program header: p_type and p_vaddr
+-- A program header: p_type and p_vaddr.
 pub record Program : Type 0 where
   pub kind : ℕ
   pub address : ℕ
@@ -33,7 +33,7 @@ pub record Program : Type 0 where
 abbrev pub program : ℕ → ℕ → Program
 program kind address = record { kind = kind; address = address }
 
--- a segment that is loaded at an address
+-- A segment that is loaded at an address.
 abbrev pub loaded : ℕ → Program
 loaded address = program 1 address
 
@@ -43,36 +43,36 @@ linked name kind link content = record { name = codes name; kind = kind; flags =
 abbrev pub plain : String → ℕ → List ℕ → Section
 plain name kind content = linked name kind 0 content
 
--- section 0
+-- Section 0.
 abbrev pub null : Section
 null = plain "" 0 []
 
--- bytes that are part of the program
+-- A section of type SHT_PROGBITS that is not loaded.
 abbrev pub progbits : String → List ℕ → Section
 progbits name content = plain name 1 content
 
--- what is loaded and executed
+-- Bytes that are loaded and executed.
 abbrev pub code_named : String → ℕ → List ℕ → Section
 code_named name address content = record { name = codes name; kind = 1; flags = 6; address = address; link = 0; content = content }
 
 abbrev pub code : ℕ → List ℕ → Section
 code address content = code_named ".text" address content
 
--- the same with another type or other flags
+-- The same section with another type and other flags.
 abbrev pub of_kind : ℕ → ℕ → Section → Section
 of_kind kind flags s = record { name = s.name; kind = kind; flags = flags; address = s.address; link = s.link; content = s.content }
 
 abbrev pub symbol : String → ℕ → ℕ → ℕ → Symbol
 symbol name info section address = record { name = codes name; info = info; section = section; address = address }
 
--- a global function, defined in section 2
+-- A global function that is defined in section 2.
 abbrev pub function : String → ℕ → Symbol
 function name address = symbol name 0x12 2 address
 
 unfoldable pub has_symbols : Section → Bool
 has_symbols s = s.kind == 2 || s.kind == 11
 
--- a section header, by the places of the name and of the bytes
+-- A section header, given the places of the name and of the bytes.
 unfoldable pub header : Section → ℕ → ℕ → List ℕ
 header s name place =
     little 4 name ++ little 4 s.kind ++ little 8 s.flags ++ little 8 s.address ++ little 8 place ++ little 8 (length s.content)
@@ -92,7 +92,7 @@ unfoldable pub program_headers : List Program → List ℕ
 program_headers ps =
     flat_map (λ p. little 4 p.kind ++ little 4 5 ++ little 8 0 ++ little 8 p.address ++ little 8 p.address ++ little 8 0 ++ little 8 0 ++ little 8 4096) ps
 
--- a shared object whose last section holds the names
+-- A shared object whose last section has the names.
 unfoldable pub whole_file : List Program → List Section → List ℕ
 whole_file ps ss =
     hex "7f 45 4c 46 02 01 01 00 00000000 00000000" ++ little 2 3 ++ little 2 62 ++ little 4 1 ++ little 8 0 ++ little 8 64
@@ -103,7 +103,7 @@ whole_file ps ss =
 unfoldable pub file_of : List Program → List Section → List ℕ
 file_of ps ss = whole_file ps (ss ++ plain ".shstrtab" 3 (names ss ++ codes ".shstrtab" ++ 0 ∷ []) ∷ [])
 
--- the entries of a symbol table after the usual first one, by the place of the next name
+-- The entries of a symbol table after the null entry, given the place of the next name.
 unfoldable pub entries_from : ℕ → List Symbol → List ℕ
 entries_from name [] = []
 entries_from name (s ∷ ss) =
@@ -112,26 +112,27 @@ entries_from name (s ∷ ss) =
 unfoldable pub entries : List Symbol → List ℕ
 entries ss = little 8 0 ++ little 8 0 ++ little 8 0 ++ entries_from 1 ss
 
--- their names
+-- The names of the symbols.
 unfoldable pub strings : List Symbol → List ℕ
 strings ss = 0 ∷ flat_map (λ s. s.name ++ 0 ∷ []) ss
 
--- a note of a build id, without padding after it
+-- A note of a build id, without padding after it.
 unfoldable pub id_note : List ℕ → List ℕ
 id_note id = little 4 4 ++ little 4 (length id) ++ little 4 3 ++ hex "474e5500" ++ id
 
--- other bytes at a place of the file
+-- Other bytes at a place of the file.
 unfoldable pub put : ℕ → List ℕ → List ℕ → List ℕ
 put place new file = take place file ++ new ++ drop (place + length new) file
 
 unfoldable pub in_file : ℕ → String → List ℕ → List ℕ
 in_file place new file = put place (hex new) file
 
--- other bytes in the header of a section: at a field of it, after the place of the section headers (e_shoff)
+-- Other bytes at a field of a section's header. The place of the section headers is read from
+-- e_shoff.
 unfoldable pub in_section : ℕ → ℕ → String → List ℕ → List ℕ
 in_section number field new file = put (slice_index file 40 + 256 * slice_index file 41 + 64 * number + field) (hex new) file
 
--- changes one after the other
+-- Changes, one after the other.
 unfoldable pub changed : List (List ℕ → List ℕ) → List ℕ → List ℕ
 changed [] file = file
 changed (change ∷ changes) file = changed changes (change file)

@@ -1,4 +1,4 @@
--- Lemmas on a symbol file for which `judge` answers yes.
+-- Lemmas about a symbol file for which `judge` answers yes.
 use Rattle.std.proofs.Common.{◌≡◌, inl, inr, ℕ, ◌-◌, List, [], ◌∷◌, map, Option, None, Some, Result, Ok, Err, refl, sym, ap, subst, ◌∙◌, arith}
 use Rattle.std.specs.List.{AllByRecursion}
 use Rattle.sym_edges.specs.Outside.{Files}
@@ -30,7 +30,7 @@ use Rattle.dumpsyms_cmd.specs.ElfInput.{ElfSource}
 use Rattle.dumpsyms_cmd.specs.commands.Judge.{ruling_verdict, IsReadVerdict, JudgePromises}
 use Rattle.worked.specs.Judged.{NamesAsFile, KeepsRowsOfWords, KeepsFramesOfWords, SaysAsFile}
 
--- a verdict of status 0 on records says that the ruling is yes
+-- If the verdict on records has status 0, the ruling is yes.
 yes_of : (own other : List SymLine) (v : Verdict) (ruling : Ruling) → IsRuling own other ruling → v ≡ ruling_verdict ruling → v.status ≡ 0 → IsRuling own other Yes
 yes_of own other v Yes is verdict zero = is
 yes_of own other v (No address aspect) is verdict zero = let one : v.status ≡ 1 = ap (λ (w : Verdict). w.status) verdict in absurd (omega arith)
@@ -51,7 +51,7 @@ names_too base units own other x names same = record {
   line = sym same.line ∙ names.line;
 }
 
--- a frame that is known
+-- A frame whose CFA is known.
 row_too : (row : Row) (meant : Frame) (mine theirs : Option Frame) → SaysFrame row meant mine → IsKnown meant.cfa → ((f : Frame) → IsKnown f.cfa → mine ≡ Some f → theirs ≡ Some f) → SaysFrame row meant theirs
 row_too row meant None theirs says known same = absurd says
 row_too row meant (Some f) theirs says known same = subst (SaysFrame row meant) (sym (same f (subst IsKnown (sym says.cfa) known) refl)) says

@@ -1,4 +1,4 @@
--- The records of the functions of a file: units that say the same have one list.
+-- The records of functions: units that say the same have the same records.
 use Rattle.std.proofs.Common.{◌≡◌, ℕ, zero, suc, ◌-◌, ◌<◌, ◌≤◌, ◌^◌, ◌&&◌, ◌||◌, cond, Bool, true, false, nat_le, nat_lt, map, List, [], ◌∷◌, ◌++◌, Option, None, unwrap_or, option_and_then, refl, sym, ap, subst, ◌∙◌}
 use Rattle.std.specs.List.{slice_get, list_any}
 use Rattle.std.specs.Option.{option_map_or}
@@ -29,7 +29,7 @@ use Rattle.debug_read.specs.SameUnits.{SameUnit}
 use Rattle.worked.proofs.OneTexts.{one_texts}
 use Rattle.worked.proofs.BareLemmas.{bares, same_bares, entry_bare, name_bare, pieces_bare, runs_bare}
 
--- entries, names, files and lines are the same
+-- Entries, names, files and lines are the same.
 same_entry : (us ws : List UnitRead) → Match SameUnit us ws → (unit entry : ℕ) → entry_of us unit entry ≡ entry_of ws unit entry
 same_entry us ws same unit entry = entry_bare us unit entry ∙ ap (λ bs. entry_of bs unit entry) (same_bares us ws same) ∙ sym (entry_bare ws unit entry)
 
@@ -64,7 +64,7 @@ same_path us ws same unit entry = λ i. option_map_or (λ (p : Placed). same_cal
 same_number : (us ws : List UnitRead) → Match SameUnit us ws → (unit entry : ℕ) → call_line us unit entry ≡ call_line ws unit entry
 same_number us ws same unit entry = ap (λ o. option_map_or (λ (p : Placed). p.die.call_line) o 0) (same_entry us ws same unit entry)
 
--- pieces are the same, and end below 2^64
+-- Pieces are the same, and end below 2^64.
 pub same_pieces : (us ws : List UnitRead) (ps qs : List Piece) → Match SameUnit us ws → ArePieces us ps → ArePieces ws qs → ps ≡ qs
 same_pieces us ws ps qs same p q = one_pieces (bares ws) ps qs (subst (λ bs. ArePieces bs ps) (same_bares us ws same) (pieces_bare us ps p)) (pieces_bare ws qs q)
 
@@ -79,7 +79,7 @@ maximal_inside us (p ∷ pieces) small are = (λ a low high. owned_small us a (p
 end_inside : (us : List UnitRead) (pieces : List Piece) → AreSmall us → ArePieces us pieces → EndInside pieces
 end_inside us pieces small are = maximal_inside us pieces small (maximal (owner_place us) (map piece_run pieces) are.runs)
 
--- copies are the same, and lines by their paths
+-- Copies are the same, and lines are the same by their paths.
 same_copies : (us ws : List UnitRead) (piece : Piece) (xs ys : List InlineParts) → Match SameUnit us ws → AreInlineRuns us piece xs → AreInlineRuns ws piece ys → xs ≡ ys
 same_copies us ws piece xs ys same p q =
     inlines.one_runs (bares ws) piece xs ys (subst (λ bs. AreInlineRuns bs piece xs) (same_bares us ws same) (runs_bare us piece xs p)) (runs_bare ws piece ys q)
@@ -100,7 +100,7 @@ same_lines us ws piece xs ys same inside p q =
     ∙ same_between (unit_line us piece.unit) (unit_line ws piece.unit) piece.start piece.end a (λ low high. same_line us ws same piece.unit a (inside a low high))
     ∙ sym (q.paths.values a))
 
--- parts that say the same
+-- Parts that say the same.
 record SamePart (us ws : List UnitRead) (x y : Part) : Type 0 where
   pub piece : x.piece ≡ y.piece
   pub copies : x.copies ≡ y.copies
@@ -131,7 +131,7 @@ same_parts us ws (x ∷ xs) (y ∷ ys) same pieces inside c d l m = (
   same_parts us ws xs ys same (later_same x.piece y.piece (pieces_of xs) (pieces_of ys) pieces) inside.1 c.1 d.1 l.1 m.1,
 )
 
--- they name the same paths and functions
+-- Such parts name the same paths and functions.
 any_run : (us : List UnitRead) (unit : ℕ) (text : List ℕ) (runs : List LineRun)
     → list_any (λ (r : LineRun). bytes_eq text (path_in us unit r.path)) runs ≡ list_any (λ (r : Run (List ℕ × ℕ)). bytes_eq text r.value.0) (map (path_run (unit_paths us unit)) runs)
 any_run us unit text [] = refl
@@ -164,7 +164,7 @@ same_used : (xs ys : List Part) (named other : List ℕ → Part → Bool) (text
     → ((text : List ℕ) → list_any (named text) xs ≡ list_any (other text) ys) → texts ≡ others
 same_used xs ys named other texts others p q same = one_texts texts others p.sorted q.sorted (λ text. p.same text ∙ same text ∙ sym (q.same text))
 
--- their records are the same
+-- The records of such parts are the same.
 abbrev run_line : ℕ → List (List ℕ) → Run (List ℕ × ℕ) → SymLine
 run_line base paths r = Line (r.start - base) (r.end - r.start) r.value.1 (number_in paths r.value.0)
 

@@ -1,4 +1,4 @@
--- Two runs over the same file write the same, by any numbers of workers.
+-- Two runs on the same file write the same, by any numbers of workers.
 use Rattle.std.proofs.Common.{◌≡◌, ◌⊎◌, inl, inr, ℕ, ◌<◌, List, [], ◌∷◌, Option, Some, refl, sym, ap, subst, ◌∙◌, arith}
 use Rattle.sym_edges.specs.Outside.{Files, Tells, append_told}
 use Rattle.dumpsyms_cmd.specs.Words.{Asked, stacks, not_read_line}
@@ -11,7 +11,7 @@ use Rattle.module_stacks.specs.SymbolFiles.{Counted}
 use Rattle.worked.specs.Runs.{IsCalm, RunAlike, EndAlike}
 use Rattle.worked.proofs.OneVerdict.{one_asked}
 
--- a run missed no file where its store did not fail
+-- If the store of a run did not fail, the run missed no file.
 none_counted : (missed : List (List ℕ)) (before after : ℕ) → Stood before after → Counted missed before after → missed ≡ []
 none_counted [] before after stood counted = refl
 none_counted (name ∷ missed) before after stood counted = absurd (let more = counted stood.1 in let same = stood.0 in omega arith)
@@ -25,12 +25,12 @@ told_verdict run files tells calm judged =
     subst (λ missed. IsVerdict (command run) files missed (judgement_verdict judged.judgement)) (none_missed (command run) run.store judged.missed calm judged.misses)
     (subst (λ (told : Option Files). Tells told (λ known. IsVerdict (command run) known judged.missed (judgement_verdict judged.judgement))) tells judged.verdict)
 
--- a run that judged and whose status is not 4 wrote its verdict whole
+-- A run that judged, and whose status is not 4, wrote its verdict whole.
 pub whole_by : (run : Run) (v : Verdict) → WasWritten run v → run.status < 3 → (run.status ≡ v.status) × ReceivedWhole run.out run.err v
 whole_by run v (inl whole) low = whole
 whole_by run v (inr failed) low = absurd (let is = failed.0 in omega arith)
 
--- status 0, 1 and 2 come where the run judged
+-- If the status is 0, 1 or 2, the run judged.
 pub judging_by : (run : Run) → Promises run → run.status < 3 → WasJudged run
 judging_by run p low = go p.found
   where
@@ -55,6 +55,6 @@ judged_alike one other runs p q low lower =
       err = first.1.err_text ∙ (λ i. append_told (runs.err i) (same i).err) ∙ sym second.1.err_text;
     }
 
--- two runs that keep the promises of `run` and that judge
+-- Two runs that keep the promises of `run` and that judged.
 pub runs_end_alike : (one other : Run) → Promises one → Promises other → RunAlike one other → one.status < 3 → other.status < 3 → EndAlike one other
 runs_end_alike one other p q runs low lower = judged_alike one other runs (judging_by one p low) (judging_by other q lower) low lower

@@ -1,4 +1,4 @@
--- Texts in the order of their bytes are one list where they are the same texts.
+-- If two lists in the order of bytes have the same texts, they are equal.
 use Rattle.std.proofs.Common.{◌≡◌, ℕ, ◌||◌, List, [], ◌∷◌, refl, sym, ◌∙◌}
 use Rattle.std.specs.List.{list_any}
 use Rattle.std.specs.List.Sorted.{IsStrictlySortedBy}

@@ -22,7 +22,7 @@ use Rattle.debug_read.specs.Each.{Match}
 use Rattle.debug_read.specs.UnitSays.{UnitSays}
 use Rattle.debug_read.specs.UnitsRead.{IsSet, IsUnitRead}
 
--- code ends below 2^64
+-- Code ends below 2^64.
 abbrev pub EndBelow : List Range → Type 0
 EndBelow [] = Prim.Unit {0}
 EndBelow (r ∷ code) = (r.end < 2 ^ 64) × EndBelow code
@@ -43,7 +43,7 @@ unfolding code_range
 code_below base [] = tt
 code_below base (s ∷ sections) = onto_below (elf.is_code base s) (record { start = s.address; end = s.address + s.size }) (filter_map (code_range base) sections) (section_ends base s) (code_below base sections)
 
--- and so do the addresses of entries
+-- The addresses of entries are below 2^64.
 or_either : (b c : Bool) (P : Type 0) → (b || c) ≡ true → (b ≡ true → P) → (c ≡ true → P) → P
 or_either true c P is first second = first refl
 or_either false c P is first second = second is
@@ -72,7 +72,7 @@ abbrev pub AreSmallSets : List (List Range) → Type 0
 AreSmallSets [] = Prim.Unit {0}
 AreSmallSets (spans ∷ sets) = ((a : ℕ) → holds_any spans a ≡ true → a < 2 ^ 64) × AreSmallSets sets
 
--- all addresses of entries are below 2^64
+-- All addresses of entries are below 2^64.
 abbrev pub AreSmall : List UnitRead → Type 0
 AreSmall [] = Prim.Unit {0}
 AreSmall (u ∷ us) = AreSmallSets u.spans × AreSmall us
@@ -89,7 +89,7 @@ small_units code [] (u ∷ us) below are = absurd are
 small_units code (s ∷ says) [] below are = absurd are
 small_units code (s ∷ says) (u ∷ us) below are = (small_sets code s.pairs u.spans below are.0.spans, small_units code says us below are.1)
 
--- an address that is owned is below 2^64
+-- An address that has an owner is below 2^64.
 abbrev AreSmallEntries : List Covering → Type 0
 AreSmallEntries [] = Prim.Unit {0}
 AreSmallEntries (c ∷ later) = ((a : ℕ) → holds_any c.spans a ≡ true → a < 2 ^ 64) × AreSmallEntries later

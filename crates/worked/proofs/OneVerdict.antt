@@ -1,4 +1,4 @@
--- Words and files have one verdict.
+-- Arguments and files have only one verdict.
 use Rattle.std.proofs.Common.{◌≡◌, ℕ, Bool, true, false, List, [], ◌++◌, Option, None, Some, Result, Ok, Err, length, nat_lt, if◌then◌else◌, refl, sym, ap, subst, ◌∙◌, zero, suc, inl, inr, arith}
 use Rattle.sym_edges.specs.Outside.{Files}
 use Rattle.sym_edges.specs.Results.{◌>>=◌}
@@ -47,7 +47,7 @@ use Rattle.debug_read.proofs.SameLemmas.{same_units}
 use Rattle.debug_read.specs.SameUnits.{SameUnit}
 use Rattle.worked.proofs.OneRecords.{same_pieces, same_records}
 
--- a file without fault has one list of records
+-- A file without fault has only one list of records.
 one_canon : (parts : ImageParts) (name : List ℕ) (found : DebugSays) (xs ys : List SymLine) → EndBelow parts.code → CanonFile parts name found xs → CanonFile parts name found ys → xs ≡ ys
 one_canon parts name found xs ys below p q =
     let same : Match SameUnit p.units q.units = same_units parts.code found.units p.units q.units p.units_are q.units_are in
@@ -62,7 +62,7 @@ given full parts found lines = record { status = 0; out = canon_text lines; err 
 one_text : (full : Bool) (parts : ImageParts) (name : List ℕ) (found : DebugSays) (v w : Verdict) → EndBelow parts.code → GivesText full parts name found v → GivesText full parts name found w → v ≡ w
 one_text full parts name found v w below p q = p.is ∙ ap (given full parts found) (one_canon parts name found p.lines q.lines below p.canon q.canon) ∙ sym q.is
 
--- code ends below 2^64
+-- Code ends below 2^64.
 code_ends : (file : List ℕ) → EndBelow (code file)
 unfolding code
 code_ends file = code_below (base file) (sections file)
@@ -79,7 +79,7 @@ image_ends : (file : List ℕ) (parts : ImageParts) → image file ≡ Ok parts 
 unfolding image
 image_ends file parts is = made_ends (image_fault file) (parts_of file) parts (parts_end file) is
 
--- also where compressed sections are read, since these are no code
+-- Code ends below 2^64 even if compressed sections are read, since these are no code.
 full_end : (file : List ℕ) → EndBelow (with_sections (full_sections file) (parts_of file)).code
 unfolding with_sections
 full_end file = parts_end file
@@ -89,7 +89,7 @@ unfolding full_image
 any_ends true file parts is = made_ends (full_fault file) (with_sections (full_sections file) (parts_of file)) parts (full_end file) is
 any_ends false file parts is = image_ends file parts is
 
--- verdict by verdict
+-- Verdict by verdict.
 one_debug : (full : Bool) (says : Result DebugSays DebugFault) (parts : ImageParts) (name : List ℕ) (v w : Verdict) → EndBelow parts.code → IsDebugVerdict full says parts name v → IsDebugVerdict full says parts name w → v ≡ w
 one_debug full (Err fault) parts name v w below p q = p ∙ sym q
 one_debug full (Ok found) parts name v w below p q = one_text full parts name found v w below p q
@@ -98,7 +98,7 @@ one_given : (full : Bool) (read : Result ImageParts Verdict) (name : List ℕ) (
 one_given full (Err ended) name v w below p q = p ∙ sym q
 one_given full (Ok parts) name v w below p q = one_debug full (debug_says parts) parts name v w (below parts refl) p q
 
--- the image that files give has code that ends below 2^64
+-- The image that files give has code that ends below 2^64.
 read_ends : (line : ElfFault → List ℕ) (read : Result ImageParts ElfFault) (parts : ImageParts) → ((p : ImageParts) → read ≡ Ok p → EndBelow p.code) → or_refused line read ≡ Ok parts → EndBelow parts.code
 read_ends line (Ok other) parts below is = (let same : other ≡ parts = cc in subst (λ (p : ImageParts). EndBelow p.code) same (below other refl))
 read_ends line (Err fault) parts below is = absurd (cc)
@@ -111,7 +111,7 @@ file_ends : (full : Bool) (line : ElfFault → List ℕ) (name : List ℕ) (file
 file_ends full line name None parts is = absurd (cc)
 file_ends full line name (Some bytes) parts is = longer_ends (nat_lt LIMIT (length bytes)) full line bytes parts is
 
--- the code of a pair is the binary's
+-- The code of a pair is that of the binary.
 paired_ends : (binary debug : ImageParts) → EndBelow binary.code → EndBelow (paired binary debug).code
 unfolding paired
 paired_ends binary debug below = below
@@ -127,7 +127,7 @@ debug_ends (Err ended) binary parts below is = absurd (cc)
 pair_ends : (source : ElfSource) (binary : ImageParts) (path : List ℕ) (files : Files) (parts : ImageParts) → EndBelow binary.code → file_pair source binary path files ≡ Ok parts → EndBelow parts.code
 pair_ends source binary path files parts below is = debug_ends (file_image source.full debug_elf_line path (files path)) binary parts below is
 
--- a supplementary file has no code
+-- A supplementary file adds no code.
 sup_ends : (image sup : ImageParts) → EndBelow image.code → EndBelow (with_sup image sup).code
 unfolding with_sup
 sup_ends image sup below = below
@@ -177,7 +177,7 @@ one_source source files v w p q =
     one_given source.full (given_image source files) (module_name source.elf) v w
     (λ parts is. binary_ends (elf_image source files) source files parts (file_ends source.full elf_line source.elf (files source.elf)) is) p q
 
--- the counts of a made file
+-- The counts of a made file.
 abbrev counted : ImageParts → DebugSays → List SymLine → Verdict
 counted parts found lines = record { status = 0; out = counts_line (length found.units) lines (length (omitted parts.code found.first found.second)); err = [] }
 
@@ -189,7 +189,7 @@ one_sample : (read : Result ImageParts ElfFault) (v w : Verdict) → ((parts : I
 one_sample (Err fault) v w below p q = p ∙ sym q
 one_sample (Ok parts) v w below p q = one_counts (debug_says parts) parts v w (below parts refl) p q
 
--- two lists of records have one ruling
+-- Two lists of records have only one ruling.
 clash : {P : Type 0} {p : Aspect} → ◌≡◌ {A = Option Aspect} None (Some p) → P
 clash is = absurd (cc)
 
@@ -234,12 +234,12 @@ one_judged source name files v w p q =
     let same : p.dumped ≡ q.dumped = one_source source files p.dumped q.dumped p.dumped_is q.dumped_is in
     one_dumped source.full name q.dumped.status q.dumped (files name) v w (subst (λ (d : Verdict). IsDumpedVerdict source.full name d.status d (files name) v) same p.is) q.is
 
--- a command asks for the same as itself
+-- A command asks for the same as itself.
 alike : (c : Option Asked) → AskAlike c c
 alike None = tt
 alike (Some c) = refl
 
--- the number of workers does not matter
+-- The number of workers does not matter.
 any_workers : (c : Asked) (files : Files) (missed : List (List ℕ)) (v : Verdict) → IsVerdict (Some c) files missed v → IsVerdict (Some (by_one_worker c)) files missed v
 any_workers (dump source workers) files missed v is = is
 any_workers other files missed v is = is
@@ -250,7 +250,7 @@ one_command (sample units workers) files missed v w p q = one_sample (image (mad
 one_command (judge source name) files missed v w p q = one_judged source name files v w p q
 one_command other files missed v w p q = p ∙ sym q
 
--- two commands that ask for the same have one verdict
+-- Two commands that ask for the same have one verdict.
 pub one_asked : (c d : Option Asked) (files : Files) (missed : List (List ℕ)) (v w : Verdict) → AskAlike c d → IsVerdict c files missed v → IsVerdict d files missed w → v ≡ w
 one_asked None None files missed v w same p q = p ∙ sym q
 one_asked None (Some d) files missed v w same p q = absurd same
@@ -258,6 +258,6 @@ one_asked (Some c) None files missed v w same p q = absurd same
 one_asked (Some c) (Some d) files missed v w same p q =
     one_command (by_one_worker d) files missed v w (subst (λ (x : Asked). IsVerdict (Some x) files missed v) same (any_workers c files missed v p)) (any_workers d files missed w q)
 
--- words and files have one verdict, where the files of some names cannot be read, whatever a run chose in keeping what it read of the units
+-- Arguments and files have only one verdict, also if some files cannot be read.
 pub one_verdict : (words : List (List ℕ)) (files : Files) (missed : List (List ℕ)) (v w : Verdict) → IsVerdict (command_of words) files missed v → IsVerdict (command_of words) files missed w → v ≡ w
 one_verdict words files missed v w p q = one_asked (command_of words) (command_of words) files missed v w (alike (command_of words)) p q

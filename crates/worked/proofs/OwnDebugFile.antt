@@ -21,17 +21,17 @@ use Rattle.dumpsyms_cmd.specs.commands.Dump.{IsDumpVerdict}
 use Rattle.dumpsyms_cmd.specs.Answers.{IsVerdict}
 use Rattle.worked.specs.OwnLink.{LeadsAlike}
 
--- its build id is the same
+-- The build ids of the pair are equal, so there is no fault.
 no_fault : (id : Option (List ℕ)) → IsSome id → pair_fault id id ≡ None
 no_fault None some = absurd (cc)
 no_fault (Some id) some = ap (λ (b : Bool). unless b BuildId) ((bytes_eq-Decides id id).1 refl)
 
--- it has the image of the pair
+-- The image of the pair is that of the file.
 made_of : (fault : Option ElfFault) (made parts : ImageParts) → image_by fault made ≡ Ok parts → made ≡ parts
 made_of None made parts is = cc
 made_of (Some fault) made parts is = absurd (cc)
 
--- also with other sections of debugging information
+-- The same with other sections of debugging information.
 paired_too : (debug : DebugSections) (made : ImageParts) → paired made made ≡ made → paired (with_sections debug made) (with_sections debug made) ≡ with_sections debug made
 unfolding paired with_sections
 paired_too debug made is = ap (with_sections debug) is
@@ -46,11 +46,11 @@ paired_of false file parts is = subst (λ (p : ImageParts). paired p p ≡ p) (m
 own_pair : (full : Bool) (file : List ℕ) (parts : ImageParts) → any_image full file ≡ Ok parts → IsSome parts.build_id → pair_of parts parts ≡ Ok parts
 own_pair full file parts is some = ap (λ (f : Option PairFault). pair_by f (paired parts parts)) (no_fault parts.build_id some) ∙ ap Ok (paired_of full file parts is)
 
--- the file with itself as its debug file, and alone
+-- The file with itself as its debug file, and the file alone.
 abbrev own : Bool → List ℕ → Option DebugFile → ElfSource
 own full elf debug = record { full = full; elf = elf; debug = debug }
 
--- by whether it passes the limit
+-- The file as its own debug file, if it does not exceed the limit.
 own_file : (full : Bool) (elf path file : List ℕ) (debug : Option DebugFile) (files : Files) (parts : ImageParts) → files path ≡ Some file → nat_lt LIMIT (length file) ≡ false → any_image full file ≡ Ok parts → IsSome parts.build_id → file_pair (own full elf debug) parts path files ≡ Ok parts
 own_file full elf path file debug files parts there few is some =
     ap (λ (o : Option (List ℕ)). then_pair parts (file_image full debug_elf_line path o)) there
@@ -58,7 +58,7 @@ own_file full elf path file debug files parts there few is some =
     ∙ ap (λ (r : Result ImageParts ElfFault). then_pair parts (or_refused debug_elf_line r)) is
     ∙ ap (or_refused {A = ImageParts} pair_line) (own_pair full file parts is some)
 
--- a link that is followed from both names leads to the same place
+-- A link that is followed from either name leads to the same place.
 same_link : (elf path : List ℕ) (debug : DebugFile) (files : Files) (parts : ImageParts) (link : Result (Option SupLink) SupFault) → ((l : SupLink) → link ≡ Ok (Some l) → sup_place (Some debug) path l ≡ sup_place None elf l) → with_link (own true elf (Some debug)) path parts link files ≡ with_link (own true elf None) elf parts link files
 same_link elf path debug files parts (Ok None) alike = refl
 same_link elf path debug files parts (Ok (Some l)) alike = ap (λ (found : Result (List ℕ) Verdict). then_path (with_sup_file true parts l) found files) (alike l refl)

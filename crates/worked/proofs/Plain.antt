@@ -1,5 +1,5 @@
--- The verdict of words and files, computed: of a dump where nothing of a unit is dumped (no unit of the file is read, or it is refused), and of
--- the commands over symbol files.
+-- The verdict on arguments and files, computed. This covers dumps of files of which no unit is
+-- read, refusals, and the commands on symbol files.
 use Rattle.std.specs.Prelude.{◌≡◌, ℕ, Bool, List, [], ◌∷◌, ◌++◌, Option, Some, None, Result, Ok, Err}
 use Rattle.std.proofs.Common.{refl, sym, subst}
 use Rattle.std.specs.List.Sorted.{IsStrictlySortedBy}
@@ -35,11 +35,11 @@ use Rattle.dumpsyms_cmd.specs.Answers.{IsVerdict, usage}
 use Rattle.worked.proofs.PlainJudge.{dumped_verdict, dumped_is}
 use Rattle.worked.proofs.OneVerdict.{one_verdict}
 
--- the records of a file of which no unit is read
+-- The records of a file of which no unit is read.
 abbrev pub plain_lines : ImageParts → List ℕ → DebugSays → List SymLine
 plain_lines parts name found = identity_lines parts name ++ (public_lines parts [] ++ frame_lines parts found)
 
--- by the units that are read: nothing is computed where one is
+-- The verdict, given the units that are read. If there is one, nothing is computed.
 abbrev pub found_verdict : Bool → List UnitSays → ImageParts → List ℕ → DebugSays → Option Verdict
 found_verdict full [] parts name found = Some (record { status = 0; out = canon_text (plain_lines parts name found); err = left_out full parts found })
 found_verdict full (unit ∷ units) parts name found = None
@@ -55,7 +55,7 @@ image_verdict full (Ok parts) name = debug_verdict full (debug_says parts) parts
 abbrev pub source_verdict : ElfSource → Files → Option Verdict
 source_verdict source files = image_verdict source.full (given_image source files) (module_name source.elf)
 
--- of `judge` by that of `dump`
+-- The verdict of `judge`, given that of `dump`.
 abbrev pub judge_verdict : Bool → List ℕ → Option Verdict → Option (List ℕ) → Option Verdict
 judge_verdict full name None bytes = None
 judge_verdict full name (Some dumped) bytes = dumped_verdict full name dumped.status dumped bytes
@@ -75,7 +75,7 @@ command_verdict (Some (stacks name folder)) files = Some (checked (stacks_answer
 abbrev pub plain_verdict : List (List ℕ) → Files → Option Verdict
 plain_verdict words files = command_verdict (command_of words) files
 
--- of no units nothing is owned, and there are no records
+-- If there are no units, nothing has an owner, and there are no records of functions.
 no_pieces : ArePieces [] []
 unfolding owner owner_place
 no_pieces = record { runs = record { apart = tt; values = λ a. refl }; marks = tt }
@@ -135,10 +135,10 @@ command_is (Some (sample units workers)) files v is = absurd (not_told is)
 command_is (Some (judge source name)) files v is = judge_is source name files v (source_verdict source files) refl is
 command_is (Some other) files v is = the_same is
 
--- a verdict that is computed is that of the words and files
+-- A verdict that is computed is a verdict on the arguments and files.
 pub plain_is_verdict : (words : List (List ℕ)) (files : Files) (v : Verdict) → plain_verdict words files ≡ Some v → IsVerdict (command_of words) files [] v
 plain_is_verdict words files v is = command_is (command_of words) files v is
 
--- and as words and files have one verdict, it is the only one
+-- It is the only one, since arguments and files have only one verdict.
 pub plain_is_only_verdict : (words : List (List ℕ)) (files : Files) (v w : Verdict) → plain_verdict words files ≡ Some v → IsVerdict (command_of words) files [] w → w ≡ v
 plain_is_only_verdict words files v w is other = one_verdict words files [] w v other (plain_is_verdict words files v is)

@@ -1,4 +1,5 @@
--- The verdict of `judge` by the verdict of `dump`, computed: the records are compared at the addresses at which one begins or ends.
+-- The verdict of `judge`, computed from that of `dump`: the records are compared at the addresses
+-- at which one of them begins or ends.
 use Rattle.std.specs.Prelude.{◌≡◌, ◌^◌, ℕ, zero, suc, nat_lt, ◌&&◌, Bool, true, false, if◌then◌else◌, List, Option, Some, None, Result, Ok, Err}
 use Rattle.std.proofs.Common.{refl, sym, subst, arith}
 use Rattle.std.proofs.lemmas.Bool.Decides.{nat_tests}

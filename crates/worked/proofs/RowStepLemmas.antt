@@ -1,4 +1,4 @@
--- The frames of a walk by DWARF's rows; for `walks_go_by_the_rows` and `stacks_go_by_the_rows`.
+-- The frames of a walk by DWARF's rows, for `walks_go_by_the_rows` and `stacks_go_by_the_rows`.
 use Rattle.std.proofs.lemmas.Bool.Decides.{nat_tests}
 use Rattle.std.proofs.Common.{◌≡◌, ℕ, zero, suc, ◌+◌, ◌-◌, ◌≤◌, nat_le, Bool, true, false, cond, List, [], ◌∷◌, Option, None, Some, ok_or, Result, Ok, Err, refl, sym, ap, subst, ◌∙◌, arith}
 use Rattle.std.specs.List.{AllByRecursion}
@@ -32,12 +32,12 @@ use Rattle.stack_walk.proofs.StateLemmas.{frame_of_text}
 use Rattle.dumpsyms_cmd.specs.commands.Dump.{DumpsParts, written_of}
 use Rattle.worked.specs.RowSteps.{frame_said, HasRow, IsRowStep, regs_behind, AreRowSteps}
 
--- the frame that a step has, by what the text gives at its address
+-- The frame of a step, given what the text gives at its address.
 said : (frame : Option Frame) → frame_said (ok_or frame NoRules) ≡ frame
 said None = refl
 said (Some frame) = refl
 
--- the row of an entry at a step, whose frame is what the text gives at an address
+-- The row of an entry at a step whose frame is what the text gives at an address.
 one_row : (base : ℕ) (lines : List SymLine) (memory : List MemRun) (regs : Regs) (a : ℕ) (step : WalkStep) (e : FdeFields) → frame_said step.frame ≡ text_frame lines a regs memory → KeepsRows base lines e → HasRow (a + base) regs memory step e
 one_row base lines memory regs a step e is keeps =
     let back : a + base - base ≡ a = omega arith in
@@ -66,7 +66,7 @@ one_step base entries lines memory here keeps =
     subst (λ a. IsRowStep (a + base) entries here.regs memory (step_at (process_of lines memory) here)) (sym (at_is (process_of lines memory) here))
     (row_step base entries lines memory here.regs here.at (step_at (process_of lines memory) here) (frame_of_text lines memory here) keeps)
 
--- the registers of a step that follows another
+-- The registers of a step that follows another.
 handed_by : (signal : Bool) (cfa ra : Result ℕ WalkEnd) (regs : Regs) (place : Place) → (cfa >>= λ c. ra >>= λ r. Ok (record { rip = r; at = cond signal r (r - 1); regs = regs; before = Some c })) ≡ Ok place → regs ≡ place.regs
 handed_by signal (Err end) ra regs place is = absurd (cc)
 handed_by signal (Ok c) (Err end) regs place is = absurd (cc)
@@ -102,9 +102,9 @@ pub walks_by_rows : (full : Bool) (parts : ImageParts) (name : List ℕ) (lines 
 unfolding walk_of
 walks_by_rows full parts name lines text dumped state walk is = by_rip parts.base (written_of parts dumped.found) lines state.memory state.regs state.regs.rip walk dumped.means is
 
--- ---- in a process of many modules
+-- A process of many modules.
 
--- the frame by the rules of a module's records
+-- The frame by the rules in a module's records.
 frame_in : (base : ℕ) (lines : List SymLine) (a : ℕ) (regs : Regs) (memory : List MemRun) → base ≤ a → frame_by regs memory (ok_or (rules_in (record { base = base; lines = lines }) a) NoRules) ≡ ok_or (text_frame lines (a - base) regs memory) NoRules
 unfolding text_frame
 frame_in base lines a regs memory low =

@@ -1,4 +1,5 @@
--- Worked rows: files with debug entries, and their first fault after the image (DWARF 5, sections 6.2.4, 7.5 and 7.25).
+-- Worked examples: files with debugging information entries, and their first fault after the image
+-- (DWARF 5, sections 6.2.4, 7.5 and 7.25).
 use Rattle.std.proofs.Common.{◌≡◌, ℕ, ◌+◌, List, [], ◌∷◌, ◌++◌, length, take, codes, true, refl}
 use Prim.Native.String.{String}
 use Rattle.std.specs.List.{list_all, range_with_len}
@@ -6,56 +7,59 @@ use Rattle.sym_edges.proofs.Hex.{little}
 use Rattle.worked.proofs.Elf.{Section, progbits, hex}
 use Rattle.worked.proofs.Small.{Told, ran, dump, refuses, refused, gives, gives_and_omits, worked, files}
 
--- a unit of version 4 (its header has 11 bytes) and one of version 5 (12), by the place of their abbreviations and their entries
+-- A unit of version 4, given the place of its abbreviations and its entries, and one of version 5.
+-- With the length, their headers have 11 and 12 bytes.
 unfoldable unit_4 : ℕ → String → List ℕ
 unit_4 abbreviations entries = little 4 (7 + length (hex entries)) ++ hex "0400" ++ little 4 abbreviations ++ 8 ∷ hex entries
 
 unfoldable unit_5 : String → List ℕ
 unit_5 entries = little 4 (8 + length (hex entries)) ++ hex "0500 01 08 00000000" ++ hex entries
 
--- the sections of units and of abbreviations
+-- The sections of units and of abbreviations.
 abbrev info : List ℕ → Section
 info bytes = progbits ".debug_info" bytes
 
 abbrev abbreviations : String → Section
 abbreviations bytes = progbits ".debug_abbrev" (hex bytes)
 
--- the file of these sections, after a build id, code and an empty table of symbols
+-- A file with these sections after a build id, code and an empty symbol table.
 unfoldable file : List Section → List ℕ
 file sections = worked [] sections
 
--- what its dump says
+-- The answer of `dump` to this file.
 unfoldable says : List Section → Told
 says sections = dump (file sections)
 
--- the same by a number of workers
+-- The answer of `dump` with a number of workers.
 unfoldable says_by : String → List Section → Told
 says_by workers sections = ran (codes "dump" ∷ codes "a" ∷ codes "--workers" ∷ codes workers ∷ []) (codes "a") (file sections)
 
--- code 1 is a compile unit with a language: at 0 in eight bytes, at 8 in four
+-- Code 1 is a compile unit with a language, which has eight bytes in the abbreviations at 0, and
+-- four in those at 8.
 abbrev eight_or_four : Section
 eight_or_four = abbreviations "01 11 00 13 07 00 00 00   01 11 00 13 06 00 00 00"
 
--- a unit of 16 bytes: the entry and four bytes, by the place of its abbreviations
+-- A unit of 16 bytes with the entry and four bytes, given the place of its abbreviations.
 abbrev of_16 : ℕ → List ℕ
 of_16 place = unit_4 place "01 00000000"
 
--- four units, whose first and last are cut in their entry
+-- Four units, of which the first and the last are cut in their entry.
 abbrev four : Section
 four = info (of_16 0 ++ of_16 8 ++ of_16 8 ++ of_16 0)
 
--- the sections of frames with a fault
+-- Sections of frame entries with a fault.
 abbrev bad_frames : Section
 bad_frames = progbits ".eh_frame" (hex "140000")
 
--- a compile unit that holds an inlined copy of the code from 1000 to 1004
+-- A compile unit that contains an inlined copy of the code from 1000 to 1004.
 abbrev entry_and_copy : Section
 entry_and_copy = abbreviations "01 11 01 00 00   02 1d 00 11 01 12 0b 00 00   00"
 
 abbrev copy : List ℕ
 copy = unit_5 "01 02 0010000000000000 04 00"
 
--- compile units with a line table at 0, one without entries below it and one with a function from 1000 to 1010; and a table that is refused
+-- Compile units with a line table at 0: one without further entries, and one with a function from
+-- 1000 to 1010. And a line table that is refused.
 abbrev with_tables : Section
 with_tables = abbreviations "01 11 00 10 17 00 00   02 11 01 10 17 00 00   03 2e 00 11 01 12 0b 00 00   00"
 
@@ -65,11 +69,11 @@ unit_with_function = unit_4 0 "02 00000000 03 0010000000000000 10 00"
 abbrev bad_table : Section
 bad_table = progbits ".debug_line" (hex "02000000 0600")
 
--- a type unit of 28 bytes
+-- A type unit of 28 bytes.
 abbrev type_unit : List ℕ
 type_unit = hex "18000000 0500 02 08 00000000 0000000000000000 00000000 00000000"
 
--- the first fault counts, whatever the workers
+-- The first fault counts, whatever the number of workers.
 the_first_of_four_units : says (four ∷ eight_or_four ∷ []) ≡ refused "refused dwarf ends debug_info c\n"
 unfolding files unit_4 unit_5 file says says_by
 the_first_of_four_units = refl
@@ -90,12 +94,12 @@ the_last_of_four_units : says (info (of_16 8 ++ of_16 8 ++ of_16 8 ++ of_16 0) �
 unfolding files unit_4 unit_5 file says says_by
 the_last_of_four_units = refl
 
--- the headers of all units come before the units
+-- Faults of the headers of all units come before faults in the units.
 a_header_behind_a_cut_unit : says (info (of_16 0 ++ hex "00") ∷ eight_or_four ∷ []) ≡ refused "refused dwarf ends debug_info 10\n"
 unfolding files unit_4 unit_5 file says says_by
 a_header_behind_a_cut_unit = refl
 
--- units come before frames
+-- Faults of units come before those of frame entries.
 a_unit_before_frames : says (four ∷ eight_or_four ∷ bad_frames ∷ []) ≡ refused "refused dwarf ends debug_info c\n"
 unfolding files unit_4 unit_5 file says says_by
 a_unit_before_frames = refl
@@ -108,7 +112,7 @@ frames_before_an_inlined_copy : says (info copy ∷ entry_and_copy ∷ bad_frame
 unfolding files unit_4 unit_5 file says says_by
 frames_before_an_inlined_copy = refl
 
--- a unit that is cut anywhere ends at its start
+-- If a unit is cut anywhere, the fault `ends` is at its start.
 abbrev whole_unit : List ℕ
 whole_unit = hex "0c000000 0400 00000000 08 01 00000000"
 
@@ -117,7 +121,8 @@ a_cut_unit : list_all (λ n. refuses "refused dwarf ends debug_info 0\n" (file (
 unfolding files unit_4 unit_5 file says says_by
 a_cut_unit = refl
 
--- units that are not read: one of another version is listed, by its place and its version; a type unit is passed over
+-- Units that are not read: one of another version is listed by its place and version, and a type
+-- unit is passed over.
 a_unit_of_version_3 : says (info (hex "07000000 0300 00000000 08") ∷ []) ≡ gives_and_omits "" "skipped debug_info 0 version 3\n"
 unfolding files unit_4 unit_5 file says says_by
 a_unit_of_version_3 = refl
@@ -131,7 +136,7 @@ units_behind_a_type_unit : says (info (type_unit ++ hex "07000000 0200 00000000 
 unfolding files unit_4 unit_5 file says says_by
 units_behind_a_type_unit = refl
 
--- the word of each kind of fault, and of the sections
+-- The word of each kind of fault, and of each section.
 a_long_number : says (info (of_16 0) ∷ abbreviations "80808080808080808080 00" ∷ []) ≡ refused "refused dwarf leb-long debug_abbrev 0\n"
 unfolding files unit_4 unit_5 file says says_by
 a_long_number = refl
@@ -196,7 +201,7 @@ an_opcode_of_no_bytes : says (info (unit_4 0 "01 00000000") ∷ abbreviations "0
 unfolding files unit_4 unit_5 file says says_by
 an_opcode_of_no_bytes = refl
 
--- what units share: of abbreviations with a fault the first unit's place counts, where the fault has one of the unit
+-- Abbreviations with a fault that units share: if the fault is at a unit, it is at the first unit.
 shared_abbreviations : says (info (of_16 0 ++ of_16 0) ∷ abbreviations "80808080808080808080 00" ∷ []) ≡ refused "refused dwarf leb-long debug_abbrev 0\n"
 unfolding files unit_4 unit_5 file says says_by
 shared_abbreviations = refl
@@ -205,7 +210,8 @@ shared_abbreviations_outside : says (info (of_16 8 ++ of_16 17 ++ of_16 17) ∷ 
 unfolding files unit_4 unit_5 file says says_by
 shared_abbreviations_outside = refl
 
--- a line table with a fault, of a unit without functions and one with; it is looked at where no unit has one, too
+-- A line table with a fault, of units with and without functions. It is read even if no unit has a
+-- function.
 a_shared_line_table : says (info (unit_4 0 "01 00000000" ++ unit_with_function) ∷ with_tables ∷ bad_table ∷ []) ≡ refused "refused dwarf line-version debug_line 0\n"
 unfolding files unit_4 unit_5 file says says_by
 a_shared_line_table = refl
@@ -218,7 +224,8 @@ a_line_table_of_units_without_functions : says (info (unit_4 0 "01 00000000" ++ 
 unfolding files unit_4 unit_5 file says says_by
 a_line_table_of_units_without_functions = refl
 
--- it comes in the place of its first unit: before a fault of a later one, and after one of an earlier
+-- The fault of a line table comes at its first unit: before a fault of a later unit, and after one
+-- of an earlier unit.
 a_line_table_before_a_cut_unit : says (info (unit_4 0 "01 00000000" ++ unit_4 0 "01 0000") ∷ with_tables ∷ bad_table ∷ []) ≡ refused "refused dwarf line-version debug_line 0\n"
 unfolding files unit_4 unit_5 file says says_by
 a_line_table_before_a_cut_unit = refl
@@ -227,7 +234,8 @@ a_line_table_behind_a_cut_unit : says (info (unit_4 0 "01 0000" ++ unit_4 0 "01 
 unfolding files unit_4 unit_5 file says says_by
 a_line_table_behind_a_cut_unit = refl
 
--- an entry counts by its tag alone: a root that is a function has its ranges followed
+-- Whether an entry counts depends only on its tag: the ranges of a root that is a function are
+-- read.
 a_root_that_is_a_function : says (info (unit_4 0 "01 00000000") ∷ abbreviations "01 2e 00 55 17 00 00   00" ∷ progbits ".debug_ranges" (hex "ff") ∷ []) ≡ refused "refused dwarf ends debug_ranges 0\n"
 unfolding files unit_4 unit_5 file says says_by
 a_root_that_is_a_function = refl

@@ -1,9 +1,11 @@
--- Worked rows: the faults of the bytes of sections, of compressed ones and of symbols, files without an identity, and the order of faults.
+-- Worked examples: faults of the bytes of sections, of compressed sections and of symbols, files
+-- without an identity, and the order of faults.
 use Rattle.std.proofs.Common.{◌≡◌, [], ◌∷◌, refl}
 use Rattle.worked.proofs.Elf.{in_file, in_section, changed, plain, progbits, of_kind, code, symbol, loaded, null, file_of, hex}
 use Rattle.worked.proofs.Small.{dump, small, small_and, worked, main, gives, refused, text, files}
 
--- the bytes of a read section lie in the file (sh_offset, sh_size); the lowest number is told
+-- The bytes of a read section must lie in the file (sh_offset, sh_size). The lowest number of such
+-- a section is printed.
 bytes_of_notes : dump (changed (in_section 1 24 "0010000000000000" ∷ []) small) ≡ refused "refused elf section-bytes 1\n"
 unfolding files
 bytes_of_notes = refl
@@ -57,7 +59,7 @@ code_of_type_0 : dump (changed (in_section 2 4 "00" ∷ in_section 2 24 "fffffff
 unfolding files
 code_of_type_0 = refl
 
--- bytes may end where the file ends
+-- Bytes may end at the end of the file.
 bytes_at_the_end : dump (changed (in_section 5 24 "e102000000000000" ∷ []) (small_and (progbits ".debug_str" [] ∷ [])))
     ≡ gives "PUBLIC 1000 0 main\n"
 unfolding files
@@ -68,7 +70,7 @@ bytes_a_byte_past_the_end : dump (changed (in_section 5 24 "e102000000000000" �
 unfolding files
 bytes_a_byte_past_the_end = refl
 
--- the read sections are known by their names
+-- The read sections are known by their names.
 debug_info_compressed : dump (changed (in_section 5 8 "0008" ∷ []) (small_and (progbits ".debug_info" [] ∷ [])))
     ≡ refused "refused elf compressed 5\n"
 unfolding files
@@ -189,7 +191,7 @@ text_past_the_file : dump (changed (in_section 5 8 "0008" ∷ in_section 5 24 "f
 unfolding files
 text_past_the_file = refl
 
--- sections of other names are not read
+-- Sections with other names are not read.
 not_read_no_name : dump (changed (in_section 5 8 "0008" ∷ in_section 5 24 "ffffffffffffffff" ∷ []) (small_and (progbits "" (1 ∷ []) ∷ [])))
     ≡ gives "PUBLIC 1000 0 main\n"
 unfolding files
@@ -240,7 +242,7 @@ not_read_zdebug_inside : dump (changed (in_section 5 8 "0008" ∷ in_section 5 2
 unfolding files
 not_read_zdebug_inside = refl
 
--- compressed sections are known by a flag
+-- A compressed section is known by a flag.
 compressed_notes : dump (changed (in_section 1 9 "08" ∷ []) small) ≡ refused "refused elf compressed 1\n"
 unfolding files
 compressed_notes = refl
@@ -279,7 +281,7 @@ compressed_section_5 : dump (small_and (of_kind 1 0x800 (progbits ".debug_info" 
 unfolding files
 compressed_section_5 = refl
 
--- and by a name
+-- A compressed section is known by its name.
 zdebug_info : dump (small_and (plain ".zdebug_info" 1 [] ∷ [])) ≡ refused "refused elf compressed 5\n"
 unfolding files
 zdebug_info = refl
@@ -306,7 +308,7 @@ the_flag_first : dump (small_and (of_kind 1 0x800 (progbits ".debug_info" (1 ∷
 unfolding files
 the_flag_first = refl
 
--- a second section of a name is looked at too
+-- A second section of a name is checked too.
 a_second_text : dump (small_and (progbits ".text" (1 ∷ []) ∷ progbits ".debug_str" [] ∷ [])) ≡ gives "PUBLIC 1000 0 main\n"
 unfolding files
 a_second_text = refl
@@ -321,7 +323,7 @@ a_second_text_cut : dump (changed (in_section 5 9 "08" ∷ in_section 5 24 "0010
 unfolding files
 a_second_text_cut = refl
 
--- the symbols have a section of names (sh_link)
+-- The symbol table must link to a section of names (sh_link).
 no_link : dump (changed (in_section 3 40 "00" ∷ []) small) ≡ refused "refused elf symbol-table\n"
 unfolding files
 no_link = refl
@@ -371,7 +373,8 @@ no_table : dump (changed (in_section 4 32 "0000000000000000" ∷ in_section 3 4 
 unfolding files
 no_table = refl
 
--- the names of function symbols alone are looked at: that of symbol 1 begins after the names
+-- Only the names of function symbols are checked. Here the name of symbol 1 would begin after the
+-- names.
 the_name_of_a_function : dump (changed (in_file 196 "ffffffff" ∷ []) (worked (symbol "f" 0x12 2 0x1000 ∷ main ∷ []) []))
     ≡ refused "refused elf symbol-table\n"
 unfolding files
@@ -402,7 +405,7 @@ the_name_of_a_function_at_0 : dump (changed (in_file 196 "ffffffff" ∷ []) (wor
 unfolding files
 the_name_of_a_function_at_0 = refl
 
--- without a build id and without code there is no identity
+-- Without a build id and without code there is no identity.
 empty_code : dump (changed (in_section 1 4 "01" ∷ in_section 2 32 "0000000000000000" ∷ []) small) ≡ refused "refused elf no-identity\n"
 unfolding files
 empty_code = refl
@@ -429,7 +432,7 @@ the_names_alone : dump (file_of [] (null ∷ [])) ≡ refused "refused elf no-id
 unfolding files
 the_names_alone = refl
 
--- of two faults the earlier one is told
+-- Of two faults the earlier one is printed.
 magic_and_class : dump (changed (in_file 0 "78" ∷ in_file 4 "01" ∷ []) small) ≡ refused "refused elf not-elf\n"
 unfolding files
 magic_and_class = refl
@@ -476,7 +479,7 @@ symbols_and_identity : dump (changed (in_section 3 40 "00" ∷ in_section 1 4 "0
 unfolding files
 symbols_and_identity = refl
 
--- a fault of the image is told before parts that are not dumped yet, and before frame sections
+-- A fault of the image comes before faults in debugging information and in frame entries.
 symbols_before_frames : dump (changed (in_section 3 40 "00" ∷ []) (small_and (progbits ".eh_frame" (hex "00000000") ∷ [])))
     ≡ refused "refused elf symbol-table\n"
 unfolding files

@@ -1,4 +1,4 @@
--- Worked rows: frame entries in files, their records and those that are left out.
+-- Worked examples: the frame entries of files, their records, and entries that are left out.
 use Rattle.std.proofs.Common.{◌≡◌, ℕ, ◌+◌, List, [], ◌∷◌, ◌++◌, length, take, drop, replicate, codes, true, refl}
 use Prim.Native.String.{String}
 use Rattle.std.specs.Prelude.{slice_set}
@@ -7,38 +7,39 @@ use Rattle.sym_edges.proofs.Hex.{little}
 use Rattle.worked.proofs.Elf.{Section, loaded, progbits, code, code_named, null, file_of, hex}
 use Rattle.worked.proofs.Small.{dump, refuses, id, gives, gives_and_omits, refused, files}
 
--- `.eh_frame` of a CIE with the CFA at rsp + 8 and the return address at the CFA - 8, at 18 the FDE of a function from 1000 to 1020 that
--- pushes rbp, and the zero that ends the section
+-- `.eh_frame` of a CIE with the CFA at rsp + 8 and the return address at the CFA - 8. At 18 it has
+-- the FDE of a function from 1000 to 1020 that pushes rbp, and then the zero that ends the section.
 abbrev push_rbp : List ℕ
 push_rbp =
     hex "14000000 00000000 01 7a5200 01 78 10 01 1b 0c0708 9001 0000 1c000000 1c000000 e0efffff 20000000 00 41 0e10 8602 43 0d06 4a 0c0708 000000 00000000"
 
--- loaded at 2000
+-- The section, loaded at 2000.
 abbrev eh_frame : List ℕ → Section
 eh_frame bytes = record { name = codes ".eh_frame"; kind = 1; flags = 0; address = 0x2000; link = 0; content = bytes }
 
--- the CIE, and an FDE from 1000 with a size and instructions
+-- The CIE, and an FDE from 1000 on with a size and instructions.
 unfoldable own : ℕ → String → List ℕ
 own size instructions =
     take 24 push_rbp ++ little 4 (13 + length (hex instructions)) ++ hex "1c000000 e0efffff" ++ little 4 size ++ 0 ∷ hex instructions
 
--- `.debug_frame` of a CIE with the same rules, and of an FDE from 1000 with a size and no instructions
+-- `.debug_frame` of a CIE with the same rules, and of an FDE from 1000 on with a size and no
+-- instructions.
 abbrev debug_frame : ℕ → Section
 debug_frame size =
     progbits ".debug_frame" (hex "14000000 ffffffff 01 00 01 78 10 0c0708 9001 000000000000 14000000 00000000 0010000000000000" ++ little 8 size)
 
--- sections of frame entries that are refused
+-- Sections of frame entries that are refused.
 abbrev wide : Section
 wide = eh_frame (hex "ffffffff")
 
 abbrev cut : Section
 cut = progbits ".debug_frame" (0 ∷ [])
 
--- 32 bytes of code
+-- 32 bytes of code.
 abbrev body : List ℕ
 body = replicate 32 0x90
 
--- a file with a base, a build id, code from 1000 to 1020 and further sections
+-- A file with a base, a build id, code from 1000 to 1020, and further sections.
 unfoldable framed_at : ℕ → List Section → List ℕ
 framed_at base back = file_of (loaded base ∷ []) (null ∷ id ∷ code 0x1000 body ∷ back)
 
@@ -48,13 +49,13 @@ framed back = framed_at 0 back
 unfoldable with_eh : List ℕ → List ℕ
 with_eh bytes = framed (eh_frame bytes ∷ [])
 
--- a function that pushes rbp has four records
+-- A function that pushes rbp has four records.
 push_rbp_lines : dump (with_eh push_rbp)
     ≡ gives "STACK CFI INIT 1000 20 .cfa: $rsp 8 + .ra: .cfa -8 + ^\nSTACK CFI 1001 .cfa: $rsp 16 + $rbp: .cfa -16 + ^\nSTACK CFI 1004 .cfa: $rbp 16 +\nSTACK CFI 100e .cfa: $rsp 8 +\n"
 unfolding files own framed_at framed with_eh
 push_rbp_lines = refl
 
--- instructions become records
+-- Instructions become records.
 no_return_address : dump (with_eh (own 0x20 "0710")) ≡ gives "STACK CFI INIT 1000 20 .cfa: $rsp 8 +\n"
 unfolding files own framed_at framed with_eh
 no_return_address = refl
@@ -74,13 +75,13 @@ a_row_that_is_remembered : dump (with_eh (own 0x20 "0a 44 0e10 44 0b"))
 unfolding files own framed_at framed with_eh
 a_row_that_is_remembered = refl
 
--- an advance of 0 in front of the instructions changes nothing
+-- An advance of 0 before the instructions changes nothing.
 an_advance_of_0 : dump (with_eh (take 41 push_rbp ++ hex "40 41 0e10 8602 43 0d06 4a 0c0708 0000 00000000"))
     ≡ gives "STACK CFI INIT 1000 20 .cfa: $rsp 8 + .ra: .cfa -8 + ^\nSTACK CFI 1001 .cfa: $rsp 16 + $rbp: .cfa -16 + ^\nSTACK CFI 1004 .cfa: $rbp 16 +\nSTACK CFI 100e .cfa: $rsp 8 +\n"
 unfolding files own framed_at framed with_eh
 an_advance_of_0 = refl
 
--- entries are left out with their reasons: one byte of the section is another
+-- Entries that are left out, with the reasons: one byte of the section is changed.
 a_version_2 : dump (with_eh (slice_set push_rbp 8 0x02)) ≡ gives_and_omits "" "omitted eh_frame 18 cie\n"
 unfolding files own framed_at framed with_eh
 a_version_2 = refl
@@ -101,7 +102,8 @@ augmentation_bytes_past_the_entry : dump (with_eh (slice_set push_rbp 40 0x7f)) 
 unfolding files own framed_at framed with_eh
 augmentation_bytes_past_the_entry = refl
 
--- a block that leaves the entry, an expression of a nop, and those of a procedure linkage table
+-- A block that leaves the entry, an expression that is a nop, and the expressions of a procedure
+-- linkage table.
 a_block_that_leaves_the_entry : dump (with_eh (slice_set push_rbp 41 0x16)) ≡ gives_and_omits "" "omitted eh_frame 18 instruction\n"
 unfolding files own framed_at framed with_eh
 a_block_that_leaves_the_entry = refl
@@ -148,7 +150,8 @@ no_rule_for_the_cfa : dump (with_eh (hex "14000000 00000000 01 7a5200 01 78 10 0
 unfolding files own framed_at framed with_eh
 no_rule_for_the_cfa = refl
 
--- an entry that meets one before it is left out; one that was left out takes no room; those of `.eh_frame` stand first
+-- An entry that overlaps one before it is left out. An entry that was left out does not count for
+-- this. The entries of `.eh_frame` come first.
 both_sections : dump (framed (debug_frame 0x20 ∷ eh_frame push_rbp ∷ []))
     ≡ gives_and_omits "STACK CFI INIT 1000 20 .cfa: $rsp 8 + .ra: .cfa -8 + ^\nSTACK CFI 1001 .cfa: $rsp 16 + $rbp: .cfa -16 + ^\nSTACK CFI 1004 .cfa: $rbp 16 +\nSTACK CFI 100e .cfa: $rsp 8 +\n" "omitted debug_frame 18 overlap\n"
 unfolding files own framed_at framed with_eh
@@ -164,7 +167,7 @@ eh_frame_stands_first : dump (framed (debug_frame 0x10 ∷ eh_frame (slice_set (
 unfolding files own framed_at framed with_eh
 eh_frame_stands_first = refl
 
--- an entry lies in one range of code
+-- An entry must lie in one range of code.
 at_the_last_address : dump (with_eh (slice_set (slice_set push_rbp 32 0xff) 36 1))
     ≡ gives "STACK CFI INIT 101f 1 .cfa: $rsp 8 + .ra: .cfa -8 + ^\n"
 unfolding files own framed_at framed with_eh
@@ -175,19 +178,19 @@ across_two_sections : dump (framed (code_named ".more" 0x1020 body ∷ eh_frame 
 unfolding files own framed_at framed with_eh
 across_two_sections = refl
 
--- addresses are counted from the base
+-- Addresses count from the base.
 from_a_base : dump (framed_at 0xff0 (eh_frame push_rbp ∷ []))
     ≡ gives "STACK CFI INIT 10 20 .cfa: $rsp 8 + .ra: .cfa -8 + ^\nSTACK CFI 11 .cfa: $rsp 16 + $rbp: .cfa -16 + ^\nSTACK CFI 14 .cfa: $rbp 16 +\nSTACK CFI 1e .cfa: $rsp 8 +\n"
 unfolding files own framed_at framed with_eh
 from_a_base = refl
 
--- and are sums modulo 2^64
+-- Addresses are sums modulo 2^64.
 a_pointer_past_the_last_address : dump (framed (record (eh_frame (take 32 push_rbp ++ hex "e01f0000" ++ drop 36 push_rbp)) { address = 0xfffffffffffff000 } ∷ []))
     ≡ gives "STACK CFI INIT 1000 20 .cfa: $rsp 8 + .ra: .cfa -8 + ^\nSTACK CFI 1001 .cfa: $rsp 16 + $rbp: .cfa -16 + ^\nSTACK CFI 1004 .cfa: $rbp 16 +\nSTACK CFI 100e .cfa: $rsp 8 +\n"
 unfolding files own framed_at framed with_eh
 a_pointer_past_the_last_address = refl
 
--- a section that is cut is refused at the entry that is cut
+-- A section that is cut is refused at the entry that is cut.
 cut_to_nothing : dump (with_eh (take 0 push_rbp)) ≡ gives ""
 unfolding files own framed_at framed with_eh
 cut_to_nothing = refl
@@ -216,7 +219,8 @@ cut_in_the_zero : list_all (λ n. refuses "refused frame length eh_frame 38\n" (
 unfolding files own framed_at framed with_eh
 cut_in_the_zero = refl
 
--- the 64-bit format in `.debug_frame`, an FDE of 32 bits under its CIE, and the same CIE in `.eh_frame`, which has no such format
+-- The 64-bit format in `.debug_frame`: an FDE of the 32-bit format with a CIE of the 64-bit format,
+-- and the same CIE in `.eh_frame`, which has no such format.
 wide_frames : dump (framed (progbits ".debug_frame" (hex "ffffffff 1800000000000000 ffffffffffffffff 01 00 01 78 10 0c0708 9001 000000000000 ffffffff 2000000000000000 0000000000000000 0010000000000000 2000000000000000 41 0e10 8602 000000") ∷ []))
     ≡ gives "STACK CFI INIT 1000 20 .cfa: $rsp 8 + .ra: .cfa -8 + ^\nSTACK CFI 1001 .cfa: $rsp 16 + $rbp: .cfa -16 + ^\n"
 unfolding files own framed_at framed with_eh
@@ -231,7 +235,7 @@ a_wide_cie_in_eh_frame : dump (with_eh (hex "ffffffff 1800000000000000 fffffffff
 unfolding files own framed_at framed with_eh
 a_wide_cie_in_eh_frame = refl
 
--- faults of sections come in their order: debug entries before frames, `.eh_frame` before `.debug_frame`
+-- Faults of sections come in this order: units, `.eh_frame`, `.debug_frame`.
 a_length_of_64_bits : dump (framed (wide ∷ eh_frame [] ∷ [])) ≡ refused "refused frame format64 eh_frame 0\n"
 unfolding files own framed_at framed with_eh
 a_length_of_64_bits = refl
@@ -248,7 +252,7 @@ debug_entries_before_frames : dump (framed (progbits ".debug_info" (0 ∷ []) �
 unfolding files own framed_at framed with_eh
 debug_entries_before_frames = refl
 
--- units that are skipped are listed before entries that are left out
+-- Skipped units are listed before frame entries that are left out.
 a_unit_before_an_entry : dump (framed (progbits ".debug_info" (hex "07000000 0300 00000000 08") ∷ eh_frame (slice_set push_rbp 8 0x02) ∷ []))
     ≡ gives_and_omits "" "skipped debug_info 0 version 3\nomitted eh_frame 18 cie\n"
 unfolding files own framed_at framed with_eh

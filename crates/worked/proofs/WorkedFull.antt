@@ -1,4 +1,5 @@
--- Worked rows: the words of `--full` and of `judge` with a debug file, files that cannot be read, and units whose entries stand in another file.
+-- Worked examples: the arguments `--full`, `judge` with a debug file, files that cannot be read,
+-- and units whose entries are in another file.
 use Rattle.std.proofs.Common.{◌≡◌, ℕ, ◌+◌, Bool, true, false, List, [], ◌∷◌, ◌++◌, codes, length, replicate, None, Some, Result, Ok, Err, if◌then◌else◌, refl}
 use Prim.Native.String.{String}
 use Rattle.std.specs.Str.{bytes_eq}
@@ -16,21 +17,21 @@ use Rattle.worked.proofs.Elf.{progbits, hex}
 use Rattle.worked.proofs.Plain.{plain_verdict}
 use Rattle.worked.proofs.Small.{Told, told, ran, small, small_and, worked, files}
 
--- words over no file and over the file `a`
+-- The answers to arguments if there is no file, and if there is the file `a`.
 unfoldable both : List (List ℕ) → List Told
 both words = told (plain_verdict words (λ asked. None)) ∷ ran words (codes "a") small ∷ []
 
--- a line on standard error and status 3
+-- Status 3, and a line on standard error.
 abbrev not_read : String → Told
 not_read line = Some (3, "", line)
 
--- what `dump --full a` says with no file, and of the file `a`
+-- The answers of `dump --full a` if there is no file, and if there is the file `a`.
 abbrev dumped : List Told
 dumped =
     let text : Told = Some (0, "MODULE Linux x86_64 030201000504070608090A0B0C0D0E0F0 a\nINFO CODE_ID 000102030405060708090A0B0C0D0E0F10111213\nPUBLIC 1000 0 main\n", "") in
     not_read "cannot read a\n" ∷ text ∷ []
 
--- invalid arguments
+-- The answers to invalid arguments.
 abbrev usage : List Told
 usage =
     let line : Told = Some (2, "", "usage: dumpsyms dump ELF, check SYM, lookup SYM ADDR, frame SYM ADDR STATE, sample N, walk SYM STATE, judge ELF SYM, names SYM, dump --full ELF, stacks CORE STORE\n") in line ∷ line ∷ []
@@ -51,7 +52,7 @@ full_below_a_root : ran (codes "dump" ∷ codes "--full" ∷ codes "a" ∷ codes
 unfolding files both
 full_below_a_root = refl
 
--- the old rows of a file that is named so
+-- Arguments without options, for a file that is named like one.
 a_file_named_full : ran (codes "dump" ∷ codes "--full" ∷ []) (codes "--full") small ≡ Some (0, "MODULE Linux x86_64 030201000504070608090A0B0C0D0E0F0 --full\nINFO CODE_ID 000102030405060708090A0B0C0D0E0F10111213\nPUBLIC 1000 0 main\n", "")
 unfolding files both
 a_file_named_full = refl
@@ -64,7 +65,7 @@ judged_plain : told (plain_verdict (codes "judge" ∷ codes "--full" ∷ codes "
 unfolding files both
 judged_plain = refl
 
--- words that are no row
+-- Arguments that are invalid.
 full_behind_the_file : both (codes "dump" ∷ codes "a" ∷ codes "--full" ∷ []) ≡ usage
 unfolding files both
 full_behind_the_file = refl
@@ -85,7 +86,7 @@ judge_full_by_workers : both (codes "judge" ∷ codes "--full" ∷ codes "a" ∷
 unfolding files both
 judge_full_by_workers = refl
 
--- a name is cleaned, and which file was asked for last is named
+-- A name is cleaned. The file that was asked for last is named.
 a_name_that_is_cleaned : told (plain_verdict (codes "dump" ∷ codes "--full" ∷ codes " d/ x\t" ∷ []) (λ asked. None)) ≡ not_read "cannot read d/ x?\n"
 unfolding files both
 a_name_that_is_cleaned = refl
@@ -106,7 +107,7 @@ the_debug_file_first : ran (codes "judge" ∷ codes "a" ∷ codes "s" ∷ codes 
 unfolding files both symbols_compute
 the_debug_file_first = refl
 
--- the text of the small file is judged right by each row
+-- The text of the small file, which `judge` finds the same with each form of its arguments.
 abbrev text : List ℕ
 text = codes "MODULE a b c d\nPUBLIC 1000 0 main\n"
 
@@ -133,7 +134,7 @@ judge_full_below_a_root : judged (codes "judge" ∷ codes "--full" ∷ codes "a"
 unfolding files symbols_compute judged
 judge_full_below_a_root = refl
 
--- what standard error says of the units of these sections
+-- What standard error gets about the units of these sections.
 abbrev sections : List ℕ → String → DebugSections
 sections info abbreviations =
     record { info = info; abbrevs = hex abbreviations; line = []; line_str = []; strs = []; str_offsets = []; addr = []; ranges = []; rnglists = []; sup_strs = None; is_sup = false }
@@ -145,7 +146,8 @@ text_of all own (Err fault) = "a fault"
 unfoldable says : Bool → List ℕ → String → String
 says all info abbreviations = text_of all (sections info abbreviations) (units_in info)
 
--- a unit of version 4, and one of version 5 of a type, by their entries; a skeleton has the id of its split unit behind the other fields
+-- A unit of version 4, and one of version 5 of a given type, by their entries. A skeleton unit has
+-- the id of its split unit after the other fields.
 unfoldable unit_4 : String → List ℕ
 unit_4 entries = little 4 (7 + length (hex entries)) ++ hex "0400 00000000 08" ++ hex entries
 
@@ -155,7 +157,7 @@ unit_5 type rest = little 4 (8 + length (hex rest)) ++ hex "0500" ++ hex type ++
 abbrev skeleton : List ℕ
 skeleton = unit_5 "04" "0102030405060708 01 00"
 
--- code 1 has a language, and code 2 DW_AT_GNU_dwo_name in four bytes behind it
+-- Code 1 has a language, and code 2 has also DW_AT_GNU_dwo_name in four bytes.
 abbrev named : String
 named = "01 11 00 13 0b 00 00   02 4a 00 13 0b b042 0e 00 00   00"
 

@@ -1,10 +1,11 @@
--- Worked rows: the faults of the file header, of the section table, of the names of sections and of the program headers.
+-- Worked examples: faults of the file header, of the section table, of the names of sections and of
+-- the program headers.
 use Rattle.std.proofs.Common.{◌≡◌, [], ◌∷◌, length, take, codes, true, refl}
 use Rattle.worked.proofs.Elf.{in_file, in_section, changed}
 use Rattle.worked.proofs.Small.{dump, refuses, small, gives, refused, files}
 use Rattle.std.specs.List.{list_all, range_with_len}
 
--- the magic number
+-- The magic number.
 magic_0 : dump (changed (in_file 0 "7e" ∷ []) small) ≡ refused "refused elf not-elf\n"
 unfolding files
 magic_0 = refl
@@ -38,7 +39,7 @@ a_long_text : dump (codes "a text of more than sixty-four bytes, which is as lon
 unfolding files
 a_long_text = refl
 
--- the class and the order of bytes
+-- The class, and the order of bytes.
 class_0 : dump (changed (in_file 4 "00" ∷ []) small) ≡ refused "refused elf class\n"
 unfolding files
 class_0 = refl
@@ -59,7 +60,7 @@ order_2 : dump (changed (in_file 5 "02" ∷ []) small) ≡ refused "refused elf 
 unfolding files
 order_2 = refl
 
--- the machine (e_machine) and the kind of file (e_type)
+-- The machine (e_machine), and the kind of file (e_type).
 machine_3 : dump (changed (in_file 18 "0300" ∷ []) small) ≡ refused "refused elf machine\n"
 unfolding files
 machine_3 = refl
@@ -96,7 +97,7 @@ kind_768 : dump (changed (in_file 16 "0003" ∷ []) small) ≡ refused "refused 
 unfolding files
 kind_768 = refl
 
--- what is not looked at
+-- Fields that are not checked.
 an_executable : dump (changed (in_file 16 "0200" ∷ []) small) ≡ gives "PUBLIC 1000 0 main\n"
 unfolding files
 an_executable = refl
@@ -113,7 +114,7 @@ another_system : dump (changed (in_file 7 "03ff" ∷ []) small) ≡ gives "PUBLI
 unfolding files
 another_system = refl
 
--- the section table: e_shoff, e_shnum and e_shentsize
+-- The section table: e_shoff, e_shnum and e_shentsize.
 no_place : dump (changed (in_file 40 "0000000000000000" ∷ []) small) ≡ refused "refused elf section-table\n"
 unfolding files
 no_place = refl
@@ -150,7 +151,7 @@ section_size_65 : dump (changed (in_file 58 "4100" ∷ []) small) ≡ refused "r
 unfolding files
 section_size_65 = refl
 
--- the small file cut at any length
+-- The small file, cut at any length.
 cut_in_the_header : list_all (λ n. refuses "refused elf not-elf\n" (take n small)) (range_with_len 0 64) ≡ true
 unfolding files
 cut_in_the_header = refl
@@ -164,7 +165,7 @@ not_cut : length small ≡ 662
 unfolding files
 not_cut = refl
 
--- the section of the names (e_shstrndx), and the names in it
+-- The section of names (e_shstrndx), and the names in it.
 names_at_the_number_of_sections : dump (changed (in_file 62 "0600" ∷ []) small) ≡ refused "refused elf section-names\n"
 unfolding files
 names_at_the_number_of_sections = refl
@@ -229,7 +230,7 @@ names_of_another_type : dump (changed (in_section 5 4 "01" ∷ []) small) ≡ gi
 unfolding files
 names_of_another_type = refl
 
--- the program headers lie in the file (e_phoff, e_phentsize, e_phnum), where there are any
+-- The program headers, if there are any, must lie in the file (e_phoff, e_phentsize, e_phnum).
 program_size_0 : dump (changed (in_file 54 "0000" ∷ []) small) ≡ refused "refused elf program-table\n"
 unfolding files
 program_size_0 = refl

@@ -1,4 +1,4 @@
--- Worked rows: the build id, and the identity of the module.
+-- Worked examples: the build id, and the identity of the module.
 use Rattle.std.proofs.Common.{◌≡◌, ℕ, List, [], ◌∷◌, ◌++◌, replicate, refl}
 use Prim.Native.String.{String}
 use Rattle.std.specs.List.{range_with_len}
@@ -6,14 +6,16 @@ use Rattle.elf_sections.specs.Identity.{folded}
 use Rattle.worked.proofs.Elf.{in_section, changed, plain, of_kind, code, loaded, null, file_of, id_note, hex}
 use Rattle.worked.proofs.Small.{Told, dump, text, texts, files}
 
--- the text of a file without a build id whose code is `text`, and of one with the build id aabbccdd
+-- The texts of a file without a build id, whose code is `text`, and of one with the build id
+-- aabbccdd.
 abbrev by_code : String
 by_code = "MODULE Linux x86_64 FA1E0FF3C03190C3C3909090909090900 a.out\n"
 
 abbrev by_id : String
 by_id = "MODULE Linux x86_64 DDCCBBAA0000000000000000000000000 a.out\nINFO CODE_ID AABBCCDD\n"
 
--- notes: that build id and another, one of the ABI, one with three bytes and their padding, one of the name `GNUs` without a descriptor
+-- Notes: with this build id and with another one, an ABI note, one of three bytes with padding, and
+-- one with the name `GNUs` and no descriptor.
 abbrev an_id : List ℕ
 an_id = hex "04000000 04000000 03000000 474e5500 aabbccdd"
 
@@ -29,18 +31,18 @@ three = hex "04000000 03000000 05000000 474e5500 11121300"
 abbrev other : List ℕ
 other = hex "05000000 00000000 03000000 474e5573 00000000"
 
--- a file of two sections of a type after section 0, and code
+-- A file with two sections of a type after section 0, and with code.
 unfoldable noted : ℕ → List ℕ → List ℕ → List ℕ
 noted kind first second = file_of (loaded 0 ∷ []) (null ∷ plain "one" kind first ∷ plain "two" kind second ∷ code 0x1000 text ∷ [])
 
 unfoldable with_notes : ℕ → List ℕ → List ℕ → Told
 with_notes kind first second = dump (noted kind first second)
 
--- a file without a build id with two sections of code
+-- A file without a build id, with two sections of code.
 unfoldable by_text : List ℕ → Told
 by_text bytes = dump (file_of (loaded 0 ∷ []) (null ∷ code 0x1000 bytes ∷ code 0x9000 text ∷ []))
 
--- a build id has 1 to 64 bytes, here those from 10 on
+-- A build id has 1 to 64 bytes. Here they are those from 10 on.
 length_0 : with_notes 7 (id_note (range_with_len 16 0)) [] ≡ texts by_code
 unfolding files noted with_notes by_text
 length_0 = refl
@@ -74,7 +76,7 @@ length_65 : with_notes 7 (id_note (range_with_len 16 65)) [] ≡ texts by_code
 unfolding files noted with_notes by_text
 length_65 = refl
 
--- the build id is the first such note
+-- The first note of a build id counts.
 alone : with_notes 7 (an_id) [] ≡ texts by_id
 unfolding files noted with_notes by_text
 alone = refl
@@ -111,7 +113,7 @@ none : with_notes 7 (abi ++ three ++ other) [] ≡ texts by_code
 unfolding files noted with_notes by_text
 none = refl
 
--- a note is a build id by its name, its type and its length
+-- A note of a build id is known by its name, its type and its length.
 type_1 : with_notes 7 (abi) [] ≡ texts by_code
 unfolding files noted with_notes by_text
 type_1 = refl
@@ -153,7 +155,7 @@ the_last_padding_is_missing : with_notes 7 (hex "04000000 04000000 01000000 474e
 unfolding files noted with_notes by_text
 the_last_padding_is_missing = refl
 
--- a note that does not fit ends its section alone
+-- A note that does not fit ends only the reading of its section.
 too_long_in_one_section : with_notes 7 (hex "04000000 80000000 01000000 474e5500" ++ an_id) [] ≡ texts by_code
 unfolding files noted with_notes by_text
 too_long_in_one_section = refl
@@ -162,7 +164,7 @@ too_long_in_two_sections : with_notes 7 (hex "04000000 80000000 01000000 474e550
 unfolding files noted with_notes by_text
 too_long_in_two_sections = refl
 
--- notes stand in sections of that type, padded to four whatever their alignment
+-- Notes are in sections of type SHT_NOTE, padded to a multiple of four, whatever their alignment.
 another_type : with_notes 1 an_id an_id ≡ texts by_code
 unfolding files noted with_notes by_text
 another_type = refl
@@ -171,7 +173,7 @@ aligned_by_eight : dump (changed (in_section 1 48 "08" ∷ []) (noted 7 (abi ++ 
 unfolding files noted with_notes by_text
 aligned_by_eight = refl
 
--- the first section of code gives the identity; here one byte is ff
+-- The first section of code gives the identity. Here one byte is ff.
 code_of_1_with_0 : by_text (255 ∷ []) ≡ texts "MODULE Linux x86_64 000000FF0000000000000000000000000 a.out\n"
 unfolding files noted with_notes by_text
 code_of_1_with_0 = refl
@@ -191,7 +193,7 @@ code_of_17_with_16 : by_text (replicate 16 0 ++ 255 ∷ [])
 unfolding files noted with_notes by_text
 code_of_17_with_16 = refl
 
--- of so many bytes at most: 4,096 in the image, here 32
+-- At most a number of bytes gives the identity: 4,096 in an image, here 32.
 the_last_byte_of_a_limit : folded 32 (replicate 31 0 ++ 255 ∷ replicate 8 0) ≡ replicate 15 0 ++ 255 ∷ []
 unfolding files
 the_last_byte_of_a_limit = refl

@@ -1,18 +1,19 @@
--- Worked rows: files with compressed sections, with `--full` and without it (System V gABI, "Section Compression").
+-- Worked examples: files with compressed sections, with `--full` and without it (System V gABI,
+-- "Section Compression").
 use Rattle.std.proofs.Common.{◌≡◌, ℕ, List, [], ◌∷◌, ◌++◌, codes, length, refl}
 use Prim.Native.String.{String}
 use Rattle.sym_edges.proofs.Hex.{little}
 use Rattle.worked.proofs.Elf.{Section, progbits, of_kind, hex}
 use Rattle.worked.proofs.Small.{Told, ran, dump, small_and, gives_and_omits, refused, files}
 
--- a unit of version 3, as zlib stores it, and with another last byte
+-- A unit of version 3 as zlib stores it, and the same with another last byte.
 abbrev whole : String
 whole = "7801010b00f4ff070000000300000000000800750013"
 
 abbrev spoiled : String
 spoiled = "7801010b00f4ff070000000300000000000800750012"
 
--- behind an Elf64_Chdr of a type and a size
+-- Bytes after an Elf64_Chdr with a type and a size.
 unfoldable behind_header : ℕ → ℕ → String → List ℕ
 behind_header type size stream = little 4 type ++ little 4 0 ++ little 8 size ++ little 8 1 ++ hex stream
 
@@ -22,7 +23,7 @@ info type size stream = of_kind 1 0x800 (progbits ".debug_info" (behind_header t
 abbrev older : String → Section
 older stream = progbits ".zdebug_info" (codes "ZLIB" ++ hex "000000000000000b" ++ hex stream)
 
--- what is said of the small file with such a section, with `--full` and without it
+-- The answer to the small file with such a section, with `--full` and without it.
 unfoldable full : Section → Told
 full section = ran (codes "dump" ∷ codes "--full" ∷ codes "d/a.out" ∷ []) (codes "d/a.out") (small_and (section ∷ []))
 
@@ -60,7 +61,7 @@ too_long : full (info 1 0x20000001 whole) ≡ refused "refused elf inflated-too-
 unfolding files behind_header full plain_words
 too_long = refl
 
--- the plain words refuse each of them
+-- Without `--full` each of them is refused.
 by_zlib_plain : plain_words (info 1 11 whole) ≡ refused "refused elf compressed 5\n"
 unfolding files behind_header full plain_words
 by_zlib_plain = refl

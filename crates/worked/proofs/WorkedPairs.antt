@@ -1,4 +1,4 @@
--- Worked rows: a stripped ELF file with its separate debug file.
+-- Worked examples: a stripped ELF file with its separate debug file.
 use Rattle.std.proofs.Common.{◌≡◌, ℕ, List, [], ◌∷◌, ◌++◌, replicate, codes, None, Some, if◌then◌else◌, refl}
 use Prim.Native.String.{String}
 use Rattle.std.specs.Str.{bytes_eq}
@@ -8,12 +8,12 @@ use Rattle.worked.proofs.Elf.{Section, Symbol, null, plain, linked, progbits, co
 use Rattle.worked.proofs.Plain.{plain_verdict}
 use Rattle.worked.proofs.Small.{Told, told, id, small, gives, gives_and_omits, refused, files}
 
--- the ELF file `d/a.out`, and a debug file at a path
+-- The ELF file `d/a.out`, and a debug file at a path.
 unfoldable at_paths : List ℕ → String → List ℕ → Files
 at_paths elf path debug asked =
     if bytes_eq asked (codes "d/a.out") then Some elf else if bytes_eq asked (codes path) then Some debug else None
 
--- words over both, and over the ELF file alone
+-- The answers to arguments with both files, and with the ELF file alone.
 unfoldable pair : List ℕ → List ℕ → Told
 pair elf debug = told (plain_verdict (codes "dump" ∷ codes "d/a.out" ∷ codes "--debug" ∷ codes "g" ∷ []) (at_paths elf "g" debug))
 
@@ -23,11 +23,12 @@ below root path elf debug = told (plain_verdict (codes "dump" ∷ codes "d/a.out
 abbrev unread : Told
 unread = Some (3, "", "cannot read input\n")
 
--- a build id of these bytes
+-- A note with this build id.
 abbrev with_id : String → Section
 with_id bytes = plain ".note.gnu.build-id" 7 (id_note (hex bytes))
 
--- `.eh_frame` at 2000 of a function from 1000 to 1020 that pushes rbp, and `.debug_frame` of one from 1000 with a size that does not
+-- `.eh_frame` at 2000 of a function from 1000 to 1020 that pushes rbp, and `.debug_frame` of a
+-- function from 1000 on that does not.
 abbrev push_rbp : List ℕ
 push_rbp =
     hex "14000000 00000000 01 7a5200 01 78 10 01 1b 0c0708 9001 0000 1c000000 1c000000 e0efffff 20000000 00 41 0e10 8602 43 0d06 4a 0c0708 000000 00000000"
@@ -39,19 +40,19 @@ abbrev debug_frame : ℕ → Section
 debug_frame size =
     progbits ".debug_frame" (hex "14000000 ffffffff 01 00 01 78 10 0c0708 9001 000000000000 14000000 00000000 0010000000000000" ++ little 8 size)
 
--- 32 bytes of code
+-- 32 bytes of code.
 abbrev body : Section
 body = code 0x1000 (replicate 32 0x90)
 
--- a file with a build id, code and further sections
+-- A file with a build id, code and further sections.
 unfoldable built : Section → Section → List Section → List ℕ
 built build text back = file_of (loaded 0 ∷ []) (null ∷ build ∷ text ∷ back)
 
--- a binary without symbols and debugging information
+-- A binary without symbols and debugging information.
 unfoldable stripped : List Section → List ℕ
 stripped back = built id body back
 
--- code and frames without bytes in the file, as a debug file has them
+-- Code and frames without bytes in the file, as a debug file has them.
 abbrev no_body : Section
 no_body = of_kind 8 6 body
 
@@ -61,24 +62,24 @@ no_frames = of_kind 8 2 (eh_frame push_rbp)
 abbrev symbols : List Symbol → List Section
 symbols ss = linked ".symtab" 2 4 (entries ss) ∷ plain ".strtab" 3 (strings ss) ∷ []
 
--- a debug file of these symbols, and further sections
+-- A debug file with these symbols and further sections.
 unfoldable debug_of : List Symbol → List Section → List ℕ
 debug_of ss back = built id no_body (symbols ss ++ (no_frames ∷ back))
 
 abbrev f : Symbol
 f = function "f" 0x1008
 
--- the symbols come from the debug file, and the frames from the binary
+-- The symbols come from the debug file, and the frames from the binary.
 both_files : pair (stripped (eh_frame push_rbp ∷ [])) (debug_of (f ∷ []) []) ≡ gives "PUBLIC 1008 0 f\nSTACK CFI INIT 1000 20 .cfa: $rsp 8 + .ra: .cfa -8 + ^\nSTACK CFI 1001 .cfa: $rsp 16 + $rbp: .cfa -16 + ^\nSTACK CFI 1004 .cfa: $rbp 16 +\nSTACK CFI 100e .cfa: $rsp 8 +\n"
 unfolding files at_paths pair below built stripped debug_of
 both_files = refl
 
--- frames of the debug file do not count, nor does `.debug_frame` of the binary
+-- `.eh_frame` of the debug file and `.debug_frame` of the binary are not read.
 other_frames : pair (stripped (debug_frame 0x20 ∷ [])) (built id no_body (eh_frame push_rbp ∷ [])) ≡ gives ""
 unfolding files at_paths pair below built stripped debug_of
 other_frames = refl
 
--- but its `.debug_frame` does, behind the binary's `.eh_frame`
+-- `.debug_frame` of the debug file is read, after the binary's `.eh_frame`.
 debug_frames : pair (stripped (eh_frame push_rbp ∷ debug_frame 0x10 ∷ [])) (debug_of [] (debug_frame 0x20 ∷ [])) ≡ gives_and_omits "STACK CFI INIT 1000 20 .cfa: $rsp 8 + .ra: .cfa -8 + ^\nSTACK CFI 1001 .cfa: $rsp 16 + $rbp: .cfa -16 + ^\nSTACK CFI 1004 .cfa: $rbp 16 +\nSTACK CFI 100e .cfa: $rsp 8 +\n" "omitted debug_frame 18 overlap\n"
 unfolding files at_paths pair below built stripped debug_of
 debug_frames = refl
@@ -87,7 +88,8 @@ debug_frames_alone : pair (stripped []) (debug_of [] (debug_frame 0x20 ∷ [])) 
 unfolding files at_paths pair below built stripped debug_of
 debug_frames_alone = refl
 
--- where the debug file has no symbol the binary's count, and else its own alone
+-- If the debug file has no function symbol, those of the binary count. Otherwise only its own
+-- count.
 no_symbols : pair (built id body (symbols (function "g" 0x1004 ∷ []))) (debug_of [] []) ≡ gives "PUBLIC 1004 0 g\n"
 unfolding files at_paths pair below built stripped debug_of
 no_symbols = refl
@@ -96,36 +98,37 @@ its_symbols_alone : pair (built id body (symbols (function "g" 0x1004 ∷ []))) 
 unfolding files at_paths pair below built stripped debug_of
 its_symbols_alone = refl
 
--- a symbol of the debug file counts in the binary's code, also where that is less than its own
+-- A symbol of the debug file counts if it is in the binary's code, even if that is less than its
+-- own code.
 outside_of_the_code : pair (built id (code 0x1000 (replicate 8 0x90)) []) (debug_of (f ∷ function "e" 0x1007 ∷ []) []) ≡ gives "PUBLIC 1007 0 e\n"
 unfolding files at_paths pair below built stripped debug_of
 outside_of_the_code = refl
 
--- a file with itself as its debug file
+-- A file with itself as its debug file.
 small_twice : pair small small ≡ gives "PUBLIC 1000 0 main\n"
 unfolding files at_paths pair below built stripped debug_of
 small_twice = refl
 
--- the build id's bytes, of which the last is another
+-- A build id with another last byte.
 abbrev other_id : Section
 other_id = with_id "000102030405060708090a0b0c0d0e0f10111214"
 
--- a debug file of another build
+-- A debug file of another build.
 another_build : pair (stripped []) (built other_id no_body []) ≡ refused "refused pair build-id\n"
 unfolding files at_paths pair below built stripped debug_of
 another_build = refl
 
--- ids of which one is a front of the other
+-- A build id that is a prefix of the other.
 an_id_of_16_bytes : pair (stripped []) (built (with_id "000102030405060708090a0b0c0d0e0f") no_body []) ≡ refused "refused pair build-id\n"
 unfolding files at_paths pair below built stripped debug_of
 an_id_of_16_bytes = refl
 
--- ids of one byte
+-- Build ids of one byte.
 ids_of_one_byte : pair (built (with_id "ab") body []) (built (with_id "ab") no_body []) ≡ Some (0, "MODULE Linux x86_64 000000AB0000000000000000000000000 a.out\nINFO CODE_ID AB\n", "")
 unfolding files at_paths pair below built stripped debug_of
 ids_of_one_byte = refl
 
--- a file without a build id
+-- A file without a build id.
 no_id_in_the_binary : pair (file_of (loaded 0 ∷ []) (null ∷ body ∷ [])) (debug_of [] []) ≡ refused "refused pair no-build-id\n"
 unfolding files at_paths pair below built stripped debug_of
 no_id_in_the_binary = refl
@@ -134,12 +137,13 @@ no_id_in_the_debug_file : pair (stripped []) (file_of (loaded 0 ∷ []) (null �
 unfolding files at_paths pair below built stripped debug_of
 no_id_in_the_debug_file = refl
 
--- a debug file that is no ELF file
+-- A debug file that is no ELF file.
 an_empty_debug_file : pair small [] ≡ refused "refused debug not-elf\n"
 unfolding files at_paths pair below built stripped debug_of
 an_empty_debug_file = refl
 
--- a file whose section 2 is compressed, one without a build id, frames that are refused, and units that are
+-- A file whose section 2 is compressed, a file without a build id, frame entries that are refused,
+-- and units that are refused.
 abbrev compressed : Section
 compressed = of_kind 1 0x800 (progbits ".debug_str" (0 ∷ []))
 
@@ -155,7 +159,7 @@ cut = progbits ".debug_frame" (0 ∷ [])
 abbrev cut_unit : Section
 cut_unit = progbits ".debug_info" (0 ∷ [])
 
--- the first fault counts: each of these files has the next one too
+-- The first fault counts: each of these files also has the next fault.
 the_binary_is_not_there : told (plain_verdict (codes "dump" ∷ codes "d/b.out" ∷ codes "--debug" ∷ codes "g" ∷ []) (at_paths small "g" [])) ≡ unread
 unfolding files at_paths pair below built stripped debug_of no_id
 the_binary_is_not_there = refl
@@ -204,12 +208,12 @@ frames_of_the_debug_file : pair (stripped (eh_frame push_rbp ∷ [])) (debug_of 
 unfolding files at_paths pair below built stripped debug_of no_id
 frames_of_the_debug_file = refl
 
--- units and `.debug_frame` of the binary, and frames of the debug file, are not read
+-- Units and `.debug_frame` of the binary, and `.eh_frame` of the debug file, are not read.
 what_is_not_read : pair (stripped (cut_unit ∷ cut ∷ [])) (built id no_body (wide ∷ [])) ≡ gives ""
 unfolding files at_paths pair below built stripped debug_of no_id
 what_is_not_read = refl
 
--- below a root: its path is put in front as it is
+-- Below a root directory: its path is put in front unchanged.
 below_a_root : below "/d" "/d/.build-id/00/0102030405060708090a0b0c0d0e0f10111213.debug" (stripped []) (debug_of (f ∷ []) []) ≡ gives "PUBLIC 1008 0 f\n"
 unfolding files at_paths pair below built stripped debug_of no_id
 below_a_root = refl
@@ -230,7 +234,7 @@ nothing_there : below "/d" "/d/.build-id/00/0102030405060708090A0B0C0D0E0F101112
 unfolding files at_paths pair below built stripped debug_of no_id
 nothing_there = refl
 
--- words that are no row
+-- Arguments that are invalid.
 abbrev usage : Told
 usage = Some (2, "", "usage: dumpsyms dump ELF, check SYM, lookup SYM ADDR, frame SYM ADDR STATE, sample N, walk SYM STATE, judge ELF SYM, names SYM, dump --full ELF, stacks CORE STORE\n")
 

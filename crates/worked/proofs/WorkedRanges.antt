@@ -1,13 +1,13 @@
--- Worked rows: the ranges of code, and the base.
+-- Worked examples: the ranges of code, and the base.
 use Rattle.std.proofs.Common.{◌≡◌, ℕ, List, [], ◌∷◌, replicate, refl}
 use Rattle.worked.proofs.Elf.{Section, Program, program, loaded, of_kind, code, code_named, function, hex}
 use Rattle.worked.proofs.Small.{dump, id, main, text, file_with, worked, gives, files}
 
--- a file with a build id, one section, and the function `main` at an address
+-- A file with a build id, one section, and the function `main` at an address.
 unfoldable file_at : List Program → Section → ℕ → List ℕ
 file_at programs section address = file_with programs (id ∷ section ∷ []) (function "main" address ∷ []) []
 
--- code is what is loaded and executed (sh_flags)
+-- Code is what is loaded and executed (sh_flags).
 code_alone : dump (file_at (loaded 0 ∷ []) (of_kind 1 6 (code 0x1000 text)) 0x1000) ≡ gives "PUBLIC 1000 0 main\n"
 unfolding files file_at
 code_alone = refl
@@ -53,7 +53,7 @@ of_size_0 : dump (file_at (loaded 0 ∷ []) (of_kind 1 6 (code 0x1000 [])) 0x100
 unfolding files file_at
 of_size_0 = refl
 
--- code begins at the base or above, and ends within 64 bits
+-- Code must begin at the base or above it, and end within 64 bits.
 at_the_base : dump (file_at (loaded 0x1000 ∷ []) (code 0x1000 (replicate 16 0x90)) 0x1008) ≡ gives "PUBLIC 8 0 main\n"
 unfolding files file_at
 at_the_base = refl
@@ -91,7 +91,7 @@ an_end_that_comes_round : dump (file_at (loaded 0 ∷ []) (code 0xffffffffffffff
 unfolding files file_at
 an_end_that_comes_round = refl
 
--- the first segment that is loaded gives the base (p_type 1, p_vaddr)
+-- The first segment that is loaded gives the base (p_type 1, p_vaddr).
 one : dump (file_at (program 1 0x400 ∷ []) (code 0x1000 text) 0x1000) ≡ gives "PUBLIC c00 0 main\n"
 unfolding files file_at
 one = refl
@@ -124,7 +124,7 @@ no_segment : dump (file_at [] (code 0x1000 text) 0x1000) ≡ gives "PUBLIC 1000 
 unfolding files file_at
 no_segment = refl
 
--- each section of code counts
+-- Each section of code counts.
 three_sections : dump (worked (function "gap" 0x1010 ∷ function "plt" 0x1020 ∷ function "low" 0x800 ∷ main ∷ []) (code_named ".plt" 0x1020 text ∷ code_named ".init" 0x800 (hex "c3") ∷ []))
     ≡ gives "PUBLIC 800 0 low\nPUBLIC 1000 0 main\nPUBLIC 1020 0 plt\n"
 unfolding files file_at

@@ -1,4 +1,5 @@
--- Worked rows: files whose names and entries stand in a supplementary file, as dwz makes them (DWARF 5, 7.3.6).
+-- Worked examples: files with names and entries in a supplementary file, as dwz makes them (DWARF
+-- 5, 7.3.6).
 use Rattle.std.proofs.Common.{◌≡◌, ℕ, ◌+◌, Bool, true, false, List, [], ◌∷◌, ◌++◌, codes, length, Option, None, Some, Result, Ok, Err, if◌then◌else◌, refl}
 use Prim.Native.String.{String}
 use Rattle.std.specs.Str.{bytes_eq}
@@ -20,16 +21,17 @@ use Rattle.dumpsyms_cmd.specs.commands.Dump.{left_out}
 use Rattle.worked.proofs.Elf.{Section, null, plain, progbits, code, loaded, file_of, id_note, hex}
 use Rattle.worked.proofs.Small.{Told, told, id, text, refused, files}
 
--- the ELF file `d/a.out`, and its supplementary file at `d/s`
+-- The ELF file `d/a.out`, and its supplementary file at `d/s`.
 unfoldable both : List ℕ → Option (List ℕ) → Files
 both elf sup asked = if bytes_eq asked (codes "d/a.out") then Some elf else if bytes_eq asked (codes "d/s") then sup else None
 
--- the name of the function that owns 1000
+-- The name of the function that owns 1000.
 abbrev name_by : List UnitSays → Option SaidEntry → List ℕ
 name_by units None = codes "no function"
 name_by units (Some e) = said_name units e.unit e.entry
 
--- the verdict where the file is refused or cannot be read; else status 0, that name, and what standard error gets
+-- The verdict, if the file is refused or cannot be read. Otherwise status 0, this name, and what
+-- standard error gets.
 abbrev debug_told : Bool → ImageParts → Result DebugSays DebugFault → Told
 debug_told full parts (Err fault) = refused (shown (debug_line fault))
 debug_told full parts (Ok found) = Some (0, shown (name_by found.units (said_owner parts.code found.units 0x1000)), shown (left_out full parts found))
@@ -42,7 +44,7 @@ abbrev command_told : Option Asked → Files → Told
 command_told (Some (dump source workers)) known = image_told source.full (given_image source known)
 command_told other known = None
 
--- of `dump --full d/a.out`, and of `dump d/a.out`
+-- The same for `dump --full d/a.out`, and for `dump d/a.out`.
 unfoldable names : List ℕ → Option (List ℕ) → Told
 names elf sup = command_told (command_of (codes "dump" ∷ codes "--full" ∷ codes "d/a.out" ∷ [])) (both elf sup)
 
@@ -52,33 +54,36 @@ plain_names elf sup = command_told (command_of (codes "dump" ∷ codes "d/a.out"
 abbrev named : String → String → Told
 named name err = Some (0, name, err)
 
--- a unit of version 4 or of another one by its entries, which begin at b
+-- A unit of version 4 or of another version, by its entries, which begin at b.
 unfoldable unit_of : String → String → List ℕ
 unit_of version entries = little 4 (7 + length (hex entries)) ++ hex version ++ hex "00000000 08" ++ hex entries
 
--- the path `s` and an id, as the link says them, with a zero byte between
+-- A section that links to the path `s` with an id. There is a zero byte between them.
 unfoldable link : String → Section
 link rest = progbits ".gnu_debugaltlink" (codes "s" ++ hex rest)
 
 abbrev right : Section
 right = link "00 a0a1a2a3"
 
--- an ELF file with a build id, code from 1000 to 1010, a link, and these units and abbreviations
+-- An ELF file with a build id, code from 1000 to 1010, a link, and these units and abbreviations.
 unfoldable linking : Section → String → String → List ℕ
 linking to entries abbreviations =
     file_of (loaded 0 ∷ []) (null ∷ id ∷ code 0x1000 text ∷ progbits ".debug_info" (unit_of "0400" entries) ∷ progbits ".debug_abbrev" (hex abbreviations) ∷ to ∷ [])
 
--- a function from 1000 to 1010 that is declared (DW_AT_specification, DW_FORM_GNU_ref_alt) at 12 of the supplementary file
+-- A function from 1000 to 1010 whose declaration is at 12 of the supplementary file
+-- (DW_AT_specification, DW_FORM_GNU_ref_alt).
 unfoldable declared_there : Section → List ℕ
 declared_there to = linking to "01 02 0010000000000000 10 12000000 00" "01 11 01 00 00   02 2e 00 11 01 12 0b 47 a03e 00 00   00"
 
--- a function `f` from 1000 to 1010 in a structure `S` in a namespace `n`, whose names stand in the supplementary file (DW_FORM_GNU_strp_alt)
+-- A function `f` from 1000 to 1010 in a structure `S` in a namespace `n`, whose names are in the
+-- supplementary file (DW_FORM_GNU_strp_alt).
 unfoldable named_there : Section → List ℕ
 named_there to =
     linking to "01 02 00000000 03 02000000 04 04000000 0010000000000000 10 00 00 00"
     "01 11 01 00 00   02 39 01 03 a13e 00 00   03 13 01 03 a13e 00 00   04 2e 00 03 a13e 11 01 12 0b 00 00   00"
 
--- a supplementary file with a build id and texts, whose unit has a namespace `n`, in it a structure `S`, and in that at 12 a declaration of `f`
+-- A supplementary file with a build id and texts. Its unit has a namespace `n`, in it a structure
+-- `S`, and in that, at 12, a declaration of `f`.
 unfoldable sup_of : String → List ℕ
 sup_of version =
     file_of [] (
@@ -98,7 +103,7 @@ names_there : names (named_there right) sup ≡ named "n::S::f" ""
 unfolding files debug_pair_computes said_name said_owner both names plain_names unit_of link linking declared_there named_there sup_of
 names_there = refl
 
--- links are followed by `--full` alone
+-- Links are followed only with `--full`.
 a_declaration_that_is_not_read : plain_names (declared_there right) sup ≡ named "<name omitted>" ""
 unfolding files debug_pair_computes said_name said_owner both names plain_names unit_of link linking declared_there named_there sup_of
 a_declaration_that_is_not_read = refl
@@ -111,7 +116,7 @@ a_bad_link_that_is_not_followed : plain_names (declared_there (link "")) None �
 unfolding files debug_pair_computes said_name said_owner both names plain_names unit_of link linking declared_there named_there sup_of
 a_bad_link_that_is_not_followed = refl
 
--- another last byte in the id, a link without its zero byte, and one without an id
+-- An id with another last byte, a link without its zero byte, and one without an id.
 another_id : names (declared_there (link "00 a0a1a2a4")) sup ≡ refused "refused sup build-id\n"
 unfolding files debug_pair_computes said_name said_owner both names plain_names unit_of link linking declared_there named_there sup_of
 another_id = refl
@@ -124,12 +129,12 @@ no_id : names (declared_there (link "00")) sup ≡ refused "refused sup link\n"
 unfolding files debug_pair_computes said_name said_owner both names plain_names unit_of link linking declared_there named_there sup_of
 no_id = refl
 
--- the file is not there
+-- The supplementary file does not exist.
 not_there : names (declared_there right) None ≡ Some (3, "", "cannot read d/s\n")
 unfolding files debug_pair_computes said_name said_owner both names plain_names unit_of link linking declared_there named_there sup_of
 not_there = refl
 
--- its unit is skipped: there is a line where an entry leads into it
+-- The unit of the supplementary file is skipped. It is listed if an entry refers to it.
 a_skipped_unit : names (declared_there right) (Some (sup_of "0300")) ≡ named "<name omitted>" "skipped sup_info 0 version 3\n"
 unfolding files debug_pair_computes said_name said_owner both names plain_names unit_of link linking declared_there named_there sup_of
 a_skipped_unit = refl

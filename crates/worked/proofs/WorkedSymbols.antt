@@ -1,21 +1,21 @@
--- Worked rows: which symbols have a PUBLIC line, in which order, and under which names.
+-- Worked examples: which symbols have a PUBLIC line, in which order, and with which names.
 use Rattle.std.proofs.Common.{◌≡◌, ℕ, List, [], ◌∷◌, ◌++◌, take, refl}
 use Rattle.worked.proofs.Elf.{linked, plain, code, symbol, function, loaded, null, file_of, hex}
 use Rattle.worked.proofs.Small.{dump, id, text, worked, gives, files}
 
--- the entries of the function `sym` at 1000 and of `dyn` at 1008, by the places of their names
+-- The entries of the functions `sym` at 1000 and `dyn` at 1008, with the places of their names.
 abbrev sym : List ℕ
 sym = hex "01000000 12 00 0200 0010000000000000 0400000000000000"
 
 abbrev dyn : List ℕ
 dyn = hex "05000000 12 00 0200 0810000000000000 0400000000000000"
 
--- a file with two sections of such entries, of these types
+-- A file with two sections of such entries, of these types.
 unfoldable two_tables : ℕ → List ℕ → ℕ → List ℕ → List ℕ
 two_tables kind first other second =
     file_of (loaded 0 ∷ []) (null ∷ id ∷ code 0x1000 text ∷ linked "one" kind 5 first ∷ linked "two" other 5 second ∷ plain ".strtab" 3 (hex "00 73796d00 64796e00") ∷ [])
 
--- a symbol has a line where it is a named function in code
+-- A symbol has a line if it is a function with a name and is in code.
 at_the_first_byte : dump (worked (symbol "f" 0x12 2 0x1000 ∷ []) []) ≡ gives "PUBLIC 1000 0 f\n"
 unfolding files
 at_the_first_byte = refl
@@ -104,7 +104,7 @@ without_a_name : dump (worked (symbol "" 0x12 2 0x1000 ∷ []) []) ≡ gives ""
 unfolding files
 without_a_name = refl
 
--- each address has one line, in ascending order
+-- Each address has only one line, and addresses ascend.
 the_small_file : dump (worked (function "main" 0x1000 ∷ []) []) ≡ gives "PUBLIC 1000 0 main\n"
 unfolding files
 the_small_file = refl
@@ -150,7 +150,7 @@ a_name_that_begins_another : dump (worked (function "ab" 0x1000 ∷ function "a"
 unfolding files
 a_name_that_begins_another = refl
 
--- names are cleaned
+-- Names are cleaned.
 control_bytes : dump (worked (function "\u{1}a\u{1f}b\u{7f}c" 0x1000 ∷ []) []) ≡ gives "PUBLIC 1000 0 ?a?b?c\n"
 unfolding files
 control_bytes = refl
@@ -191,7 +191,8 @@ a_letter_in_front : dump (worked (function "m" 0x1000 ∷ []) []) ≡ gives "PUB
 unfolding files
 a_letter_in_front = refl
 
--- the first symbol table counts, and else the first dynamic one; a part of an entry at the end is ignored
+-- The first symbol table counts or, if there is none, the first dynamic symbol table. An incomplete
+-- entry at the end is ignored.
 symbols_behind_dynamic_ones : dump (two_tables 11 dyn 2 sym) ≡ gives "PUBLIC 1000 0 sym\n"
 unfolding files two_tables
 symbols_behind_dynamic_ones = refl

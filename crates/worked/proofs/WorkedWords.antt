@@ -1,11 +1,11 @@
--- Worked rows: the words of the program, and the name of the module.
+-- Worked examples: the arguments of the program, and the name of the module.
 use Rattle.std.proofs.Common.{◌≡◌, ℕ, List, [], ◌∷◌, ◌++◌, codes, None, Some, refl}
 use Prim.Native.String.{String}
 use Rattle.worked.proofs.Elf.{progbits}
 use Rattle.worked.proofs.Plain.{plain_verdict}
 use Rattle.worked.proofs.Small.{Told, told, ran, small, worked, texts, files}
 
--- words over no file and over the file `a`
+-- The answers to arguments if there is no file, and if there is the file `a`.
 unfoldable both : List (List ℕ) → List Told
 both words = told (plain_verdict words (λ asked. None)) ∷ ran words (codes "a") small ∷ []
 
@@ -13,11 +13,11 @@ abbrev usage : List Told
 usage =
     let line : Told = Some (2, "", "usage: dumpsyms dump ELF, check SYM, lookup SYM ADDR, frame SYM ADDR STATE, sample N, walk SYM STATE, judge ELF SYM, names SYM, dump --full ELF, stacks CORE STORE\n") in line ∷ line ∷ []
 
--- a dump of a file at a path
+-- A dump of a file at a path.
 unfoldable named : String → Told
 named path = ran (codes "dump" ∷ codes path ∷ []) (codes path) (worked [] (progbits "x" [] ∷ []))
 
--- invalid arguments give the usage line, with no file and with one
+-- Invalid arguments give the usage line, whether there is a file or not.
 no_words : both [] ≡ usage
 unfolding files both named
 no_words = refl
@@ -62,23 +62,23 @@ an_empty_third_word : both (codes "dump" ∷ codes "a" ∷ codes "" ∷ []) ≡ 
 unfolding files both named
 an_empty_third_word = refl
 
--- a sample of no units is no row
+-- A sample of no units is invalid.
 no_units : both (codes "sample" ∷ codes "0" ∷ []) ≡ usage
 unfolding files both named
 no_units = refl
 
--- what a dump of `a` says with no file, and of the file `a`
+-- The answers of `dump a` if there is no file, and if there is the file `a`.
 abbrev dumped : List Told
 dumped =
     let none : Told = Some (3, "", "cannot read input\n") in
     let text : Told = Some (0, "MODULE Linux x86_64 030201000504070608090A0B0C0D0E0F0 a\nINFO CODE_ID 000102030405060708090A0B0C0D0E0F10111213\nPUBLIC 1000 0 main\n", "") in
     none ∷ text ∷ []
 
--- a dump by a number of workers, as it is written
+-- The arguments of a dump by a number of workers.
 abbrev by_workers : String → List (List ℕ)
 by_workers number = codes "dump" ∷ codes "a" ∷ codes "--workers" ∷ codes number ∷ []
 
--- the number of workers changes nothing
+-- The number of workers changes nothing.
 two_words : both (codes "dump" ∷ codes "a" ∷ []) ≡ dumped
 unfolding files both named
 two_words = refl
@@ -103,7 +103,7 @@ the_most_workers : both (by_workers "64") ≡ dumped
 unfolding files both named
 the_most_workers = refl
 
--- a number of workers is decimal digits, without a sign or a zero in front, from 1 to 64
+-- A number of workers is decimal digits from 1 to 64, without a sign or a leading zero.
 no_workers : both (by_workers "0") ≡ usage
 unfolding files both named
 no_workers = refl
@@ -180,13 +180,13 @@ another_command_with_workers : both (codes "dumps" ∷ codes "a" ∷ codes "--wo
 unfolding files both named
 another_command_with_workers = refl
 
--- the word of the option may name the file
+-- The name of a file may be the word of an option.
 a_file_named_like_the_option : ran (codes "dump" ∷ codes "--workers" ∷ []) (codes "--workers") (worked [] (progbits "x" [] ∷ []))
     ≡ texts "MODULE Linux x86_64 030201000504070608090A0B0C0D0E0F0 --workers\nINFO CODE_ID 000102030405060708090A0B0C0D0E0F10111213\n"
 unfolding files both named
 a_file_named_like_the_option = refl
 
--- a file that is not there is no input
+-- A file that does not exist cannot be read.
 no_files : told (plain_verdict (codes "dump" ∷ codes "nofile" ∷ []) (λ asked. None)) ≡ Some (3, "", "cannot read input\n")
 unfolding files both named
 no_files = refl
@@ -195,7 +195,7 @@ another_file : ran (codes "dump" ∷ codes "nofile" ∷ []) (codes "nofil") smal
 unfolding files both named
 another_file = refl
 
--- the module is named by what follows the last slash
+-- The module is named by what follows the last slash.
 no_slash : named "a.out"
     ≡ texts "MODULE Linux x86_64 030201000504070608090A0B0C0D0E0F0 a.out\nINFO CODE_ID 000102030405060708090A0B0C0D0E0F10111213\n"
 unfolding files both named

@@ -27,8 +27,9 @@ use Rattle.dumpsyms_cmd.specs.ElfInput.{ElfSource, given_image}
 use Rattle.dumpsyms_cmd.specs.Verdict.{LIMIT}
 use Rattle.dumpsyms_cmd.specs.commands.Dump.{written_of}
 
--- a look-up of an address names the function that owns it in the ELF file, or none if no function owns it; the calls of the address's chain, each by
--- the called function's name and the path and the line of the call; and the address's line
+-- a look-up of an address names the function that owns it in the ELF file, or none if no function
+-- owns it. It also names the address's line and the calls of its chain, each by the called
+-- function's name and the path and the line of the call
 pub record NamesAsFile (base : ℕ) (units : List UnitRead) (lines : List SymLine) (x : ℕ) : Type 0 where
   pub function : text_owner lines x ≡ option_map (name_of units) (owner units (x + base))
   pub chain : map said (text_chain lines x) ≡ map said (map (call_in units) (chain units (x + base)))

@@ -31,8 +31,10 @@ pub fn verdicts_are_one()
     ensures { (words : List (List ℕ)) (files : Files) (missed : List (List ℕ)) (v w : Verdict) → IsVerdict (command_of words) files missed v → IsVerdict (command_of words) files missed w → v ≡ w }
 {}
 
-/// Two runs return the same status and leave the same in their sinks, if they ask for the same (by any numbers of workers), their stores have the
-/// same known files, their sinks held the same, and both have status 0, 1 or 2. For `stacks` this also requires that neither store failed.
+/// Suppose that two runs ask for the same, by any numbers of workers, that their stores have the
+/// same known files, and that their sinks held the same. If both have status 0, 1 or 2, they return
+/// the same status and leave the same in their sinks. For `stacks` this also requires that neither
+/// store failed.
 pub fn judging_runs_end_alike()
     ensures { (one other : Run) → Promises one → Promises other → RunAlike one other → one.status < 3 → other.status < 3 → EndAlike one other }
 {}

@@ -1,4 +1,5 @@
--- Stacks of values as the code stores them, the top at the end, and the rules that need no stack.
+-- Stacks of values as the code stores them, with the top at the end, and the rules that need no
+-- stack.
 use Rattle.std.specs.Prelude.{◌≡◌, ℕ, Bool, true, false, List, [], ◌∷◌, reverse, Result, Err}
 use Rattle.sym_rules.specs.declared.rules.Token.{Token}
 use Rattle.sym_rules.specs.declared.rules.Token.TheVariants.{Undef}
@@ -14,7 +15,7 @@ HasNoTwo stack = (sign : ℕ → ℕ → Result ℕ Cause) → on_two sign (reve
 abbrev pub HasNone : List ℕ → Type 0
 HasNone stack = (sign : ℕ → Result ℕ Cause) → on_one sign (reverse stack) ≡ Err cause.Stack
 
--- whether the words are `.undef` alone
+-- whether `.undef` is the only word
 abbrev pub is_undefined : List Token → Bool
 is_undefined (Undef ∷ []) = true
 is_undefined _ = false

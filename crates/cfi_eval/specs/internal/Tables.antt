@@ -1,4 +1,5 @@
--- Tables of the rules for the targets in a frame: the registers by their numbers, then the CFA and the return address.
+-- Tables of the rules of a frame, by target: the registers by their numbers, then the CFA and the
+-- return address.
 use Rattle.std.specs.Prelude.{◌≡◌, ℕ, nat_lt, if◌then◌else◌, List, Option, None, Some, IfSome, slice_get}
 use Rattle.std.specs.Option.{option_copied, option_and_then}
 use Rattle.std.specs.Borrow.{Bor}
@@ -22,6 +23,6 @@ rule_in t rule = if same_target rule.target t then Some rule.tokens else None
 abbrev pub words_at : List (Option (Bor (List Token))) → ℕ → Option (List Token)
 words_at table place = option_and_then option_copied (slice_get table place)
 
--- the table has `find t` at the place of each target t that has a place
+-- for each target t that has a place, the table has `find t` at this place
 abbrev pub IsTable : (Target → Option (List Token)) → List (Option (Bor (List Token))) → Type 0
 IsTable find table = (t : Target) → IfSome (target_place t) (λ place. words_at table place ≡ find t)

@@ -1,4 +1,4 @@
--- The reader of units by their numbers.
+-- The input and the results of the jobs that read units and line tables, each by its number.
 use Rattle.std.specs.Prelude.{◌≡◌, ◌≤◌, ◌^◌, List, length, Result, Ok, Err}
 use Rattle.std.specs.List.{AllByRecursion}
 use Rattle.sym_edges.specs.Addresses.{Range}
@@ -13,8 +13,8 @@ use Rattle.debug_read.specs.internal.Sharing.{SharedParts, IsRead}
 use Rattle.debug_read.specs.UnitSays.{unit_says}
 use Rattle.debug_read.specs.UnitsRead.{IsUnitRead}
 
--- the input for the units that are read by their numbers: the sections, the units, the spans whose ranges are code, and the abbreviations that
--- several of the units name
+-- the input of the jobs that read units by number: the sections, the units, the spans whose ranges
+-- are code, and the abbreviations that several of the units name
 pub record ReaderParts : Type 0 where
   pub sections : DebugSections
   pub units : List Unit
@@ -26,7 +26,8 @@ pub record IsReader (reader : ReaderParts) : Type 0 where
   pub small : length reader.sections.info ≤ 2 ^ 29
   pub shared : Match (IsRead reader.sections) reader.shared.firsts reader.shared.tables
 
--- the input for the line tables that are read by their numbers: the sections, and the spans whose ranges are code
+-- the input of the jobs that read line tables by number: the sections, and the spans whose ranges
+-- are code
 pub record NameParts : Type 0 where
   pub sections : DebugSections
   pub code : List Range

@@ -36,7 +36,8 @@ IsSound sections offset = (at : ℕ) (comp_dir : List ℕ) → IsOk (unit_lines 
 abbrev pub IsRefused : DebugSections → ℕ → Located DwarfKind → Type 0
 IsRefused sections offset fault = (at : ℕ) (comp_dir : List ℕ) → unit_lines sections offset at comp_dir ≡ Err fault
 
--- the table says what is read at an offset, whichever unit with that compilation directory names it, for any spans by which the same ranges are code
+-- the table says what is read at an offset, for any unit with that compilation directory, and for
+-- any spans by which the same ranges are code
 abbrev pub WholeBy : List Range → DebugSections → ℕ → List ℕ → LineMap → Type 0
 WholeBy code sections offset comp_dir table = (spans : List Range) (at : ℕ) → EncloseAlike code spans → SaysTable (encloses spans) (unit_lines sections offset at comp_dir) table
 
@@ -50,7 +51,7 @@ TableBy code sections offset comp_dir (Refused fault) = IsRefused sections offse
 abbrev pub IsTable : List Range → DebugSections → NamedTable → Type 0
 IsTable code sections one = TableBy code sections one.name.offset one.name.comp_dir.now one.read
 
--- what is read for one name also answers for the name that is sought
+-- what was read for one name is right for the sought name too
 abbrev pub IsFor : TableName → TableName → Type 0
 IsFor name sought = (name.offset ≡ sought.offset) × (sought.kept ≡ true → name.comp_dir.now ≡ sought.comp_dir.now)
 
@@ -64,12 +65,13 @@ abbrev pub LinesAre : List Range → DebugSections → RootFields → Bool → R
 LinesAre spans sections root asked (Ok lines) = Says (KeepsLines spans asked) (root_lines sections root) lines
 LinesAre spans sections root asked (Err fault) = root_lines sections root ≡ Err fault
 
--- what was found of a unit is kept of it, whatever lines are kept, and a fault of its line table is a fault of the unit
+-- what was found of a unit, with the lines that are kept, is what is kept of the unit; and a fault
+-- of its line table is a fault of the unit
 pub record HoldsUnit (spans : List Range) (sections : DebugSections) (unit : Unit) (found : UnitFound) : Type 0 where
   pub kept : (lines : LineMap) → Says (KeepsLines spans found.function) (root_lines sections found.die.root) lines → Says (IsUnitRead spans) (unit_says sections unit) (record { die = found.die; spans = found.spans; lines = lines })
   pub fault : (fault : Located DwarfKind) → root_lines sections found.die.root ≡ Err fault → unit_says sections unit ≡ Err fault
 
--- a unit's result, or its first fault before its line table
+-- what was found of a unit, or its first fault before its line table
 abbrev pub IsOwing : List Range → DebugSections → Unit → Result UnitFound (Located DwarfKind) → Type 0
 IsOwing spans sections unit (Ok found) = HoldsUnit spans sections unit found
 IsOwing spans sections unit (Err fault) = unit_says sections unit ≡ Err fault

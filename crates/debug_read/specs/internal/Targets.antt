@@ -5,7 +5,8 @@ use Rattle.abbrev_units.specs.DebugSections.{first_place}
 use Rattle.die_walk.specs.EntryTable.{DieFields}
 use Rattle.debug_units.specs.declared.unit_read.UnitRead.{UnitRead}
 
--- if a place, counted through both files, is in the supplementary file: its place there
+-- the place in the supplementary file, if a place that is counted through the file and its
+-- supplementary file is there
 abbrev pub sup_places : Option ℕ → List ℕ
 sup_places None = []
 sup_places (Some place) = if nat_le (first_place true) place then (place - first_place true) ∷ [] else []

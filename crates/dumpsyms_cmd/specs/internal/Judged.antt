@@ -75,8 +75,8 @@ JudgesGiven j source given = Judges j (λ err. IsGivenVerdict source given (refu
 abbrev pub JudgesSup : Judgement → ElfSource → ImageParts → SupLink → Result ImageParts ElfFault → Type 0
 JudgesSup j source image link read = JudgesGiven j source (or_refused sup_elf_line read >>= joined image link)
 
--- what is known of a judgement. Its status is 0, 1 or 2, and 2 only for invalid arguments. If the store's files are known, it is the verdict for
--- these files. It keeps the command's promises
+-- what is known of a judgement. Its status is 0, 1 or 2; it is 2 only for invalid arguments. If the
+-- store's files are known, it is the verdict for these files. It keeps the command's promises
 pub record IsJudged (j : Judgement) (command : Option Asked) (files : Option Files) : Type 0 where
   pub low : j.status < 3
   pub row : IsSome command → j.status < 2
@@ -115,7 +115,8 @@ AnswersImage (Judged j) given source files asked before after = ImagePromises gi
 AnswersImage (Unread line) given source files asked before after = Rose before after × (err_bytes line ≡ unread_lines source.full (last_name asked))
 AnswersImage NoMemory given source files asked before after = Unit {0}
 
--- the names that were asked for: all of these if there is a judgement, else a prefix of them
+-- the names that were asked for: all of these names if there is a judgement, otherwise a prefix of
+-- them
 abbrev pub AsksAll : Answer → List (List ℕ) → List (List ℕ) → List (List ℕ) → Type 0
 AsksAll (Judged j) names before after = after ≡ before ++ names
 AsksAll (Unread line) names before after = Asks names before after
@@ -133,13 +134,14 @@ HasNoText (Judged j) = IsNoText j.out
 HasNoText (Unread line) = Unit {0}
 HasNoText NoMemory = Unit {0}
 
--- the debug file's own name, and the names that follow from what is read of it (`read`). If the store's files are known, they give `read`
+-- the debug file was asked for, and then the names that follow from what is read of it (`read`). If
+-- the store's files are known, `read` is what they give
 pub record AsksFile (answer : Answer) (source : ElfSource) (binary : ImageParts) (path : List ℕ) (files : Option Files) (before after : List (List ℕ)) : Type 0 where
   pub read : Result ImageParts Verdict
   pub told : Tells files (λ f. file_pair source binary path f ≡ read)
   pub asks : AsksAll answer (path ∷ read_names source path read) before after
 
--- the names from the debug file on, if it has a path
+-- the names that are asked for from the debug file on, if it has a path
 abbrev pub AsksPath : Answer → ElfSource → ImageParts → Result (List ℕ) Verdict → Option Files → List (List ℕ) → List (List ℕ) → Type 0
 AsksPath answer source binary (Ok path) files before after = AsksFile answer source binary path files before after
 AsksPath answer source binary (Err ended) files before after = AsksAll answer [] before after
@@ -148,7 +150,8 @@ abbrev pub AsksDebug : Answer → ElfSource → Option DebugFile → ImageParts 
 AsksDebug answer source None binary files before after = AsksAll answer (sup_names source source.elf binary) before after
 AsksDebug answer source (Some debug) binary files before after = AsksPath answer source binary (path_of debug binary) files before after
 
--- the names after the ELF file's own, by its image. If it has no image, nothing is asked for, and there is no text of records
+-- the names that are asked for after the ELF file, by its image. If it has no image, nothing more
+-- is asked for, and there is no text of records
 abbrev pub AsksBehind : Answer → ElfSource → Result ImageParts Verdict → Option Files → List (List ℕ) → List (List ℕ) → Type 0
 AsksBehind answer source (Ok binary) files before after = AsksDebug answer source source.debug binary files before after
 AsksBehind answer source (Err ended) files before after = (after ≡ before) × HasNoText answer

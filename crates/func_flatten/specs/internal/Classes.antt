@@ -17,7 +17,7 @@ use Rattle.func_flatten.specs.Pieces.{is_many}
 abbrev pub place_name : List UnitRead → EntryRef → List ℕ
 place_name units p = entry_name units p.unit p.entry
 
--- the place of the function with number `k`
+-- the entry of the function with number `k`
 abbrev pub place_at : List EntryRef → ℕ → EntryRef
 place_at places k = slice_index_or places k (record { unit = 0; entry = 0 })
 
@@ -53,7 +53,8 @@ abbrev pub shared_in : Option FirstItem → Bool
 shared_in None = false
 shared_in (Some item) = item.shared
 
--- a cover that is shared only if it was before and the first item at its first address is shared
+-- the cover, which is shared exactly if it was shared before and the first item at its first
+-- address is shared
 abbrev pub marked : Stepping (Option FirstItem) → Cover → Cover
 marked items c = record { first = c.first; last = c.last; index = c.index; shared = c.shared && shared_in (value_at None items c.first) }
 

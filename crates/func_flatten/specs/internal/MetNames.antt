@@ -1,4 +1,4 @@
--- Names that were met, and their numbers.
+-- The names of functions, as they are compared, and the numbers of these names.
 use Rattle.std.specs.Prelude.{◌≡◌, ℕ, true, List, [], ◌∷◌, Option, None, Some, option_and_then}
 use Rattle.std.specs.BTreeMap as tree
 use Rattle.std.specs.Cmp.Lexicographic.{slice_cmp}
@@ -11,7 +11,7 @@ use Rattle.func_flatten.specs.declared.name_met.NameMet.TheVariants.{Whole, Made
 use Rattle.func_flatten.specs.declared.name_classes.Names.{Names}
 use Rattle.func_flatten.specs.internal.NameBlocks.{BlockNumbers, number_at, text_key, IsKey}
 
--- a name was met: its bytes are in the file and clean, or its key is known
+-- a name is stored: either its bytes are in the file and clean, or its key is known
 abbrev pub IsMet : BlockNumbers → NameMet → List ℕ → Type 0
 IsMet numbers (Whole bytes) text = (bytes.now ≡ text) × (cleaned text ≡ text)
 IsMet numbers (Made key) text = IsKey numbers key text
@@ -25,13 +25,14 @@ abbrev pub AreClean : List NameMet → Type 0
 AreClean [] = Prim.Unit {0}
 AreClean (met ∷ names) = IsClean met × AreClean names
 
--- the name of each stretch was met
+-- the name of each stretch's function is stored
 abbrev pub AreMet : BlockNumbers → (ℕ → List ℕ) → List Stretch → List NameMet → Type 0
 AreMet numbers name [] [] = Prim.Unit {0}
 AreMet numbers name (s ∷ items) (met ∷ names) = IsMet numbers met (name s.index) × AreMet numbers name items names
 AreMet numbers name _ _ = ⊥
 
--- the number of a name: among the names that were made, among those that are in the file, and among both
+-- the number of a name: in the map of the names that were made, in the map of those that are in the
+-- file, and in both maps
 abbrev pub key_number : BlockNumbers → Names → List ℕ → Option ℕ
 key_number numbers names text = option_and_then (number_at names.made) (text_key numbers text)
 
@@ -49,7 +50,7 @@ AreNumbersOf name number = (text : List ℕ) (n : ℕ) → number text ≡ Some 
 abbrev pub Stays : (List ℕ → Option ℕ) → (List ℕ → Option ℕ) → Type 0
 Stays old new = (text : List ℕ) (n : ℕ) → old text ≡ Some n → new text ≡ Some n
 
--- no name has a number among both
+-- no name has a number in both maps
 abbrev pub StandApart : (List ℕ → Option ℕ) → (List ℕ → Option ℕ) → Type 0
 StandApart one other = (text : List ℕ) (n : ℕ) → one text ≡ Some n → other text ≡ None
 
@@ -74,7 +75,8 @@ AreClassed number name (s ∷ items) (t ∷ named) =
     (t ≡ record { first = s.first; last = s.last; index = s.index; class = t.class }) × (number (name s.index) ≡ Some t.class) × AreClassed number name items named
 AreClassed number name _ _ = ⊥
 
--- a class for each function: if names are equal, so are classes, and the class of a stretch's function is the number of a function with the same name
+-- a class for each function. Functions with the same name have the same class. The class of a
+-- stretch's function is the number of a function with the same name
 pub record IsClass (name : ℕ → List ℕ) (class : ℕ → ℕ) (items : List Stretch) : Type 0 where
   pub alike : (i j : ℕ) → name i ≡ name j → class i ≡ class j
   pub named : AreNamed name class items

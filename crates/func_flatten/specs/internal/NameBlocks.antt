@@ -18,7 +18,7 @@ kept_upto limit bytes = take limit (skip is_space (map shown_byte bytes))
 unfoldable pub kept : List ℕ → List ℕ
 kept bytes = kept_upto 65536 bytes
 
--- what is kept in all if more bytes follow those of which `text` was kept
+-- what is kept of a text if more bytes follow, given the bytes `text` that were kept before
 abbrev pub kept_more_upto : ℕ → List ℕ → List ℕ → List ℕ
 kept_more_upto limit [] bytes = kept_upto limit bytes
 kept_more_upto limit (b ∷ text) bytes = take limit ((b ∷ text) ++ map shown_byte bytes)
@@ -26,7 +26,7 @@ kept_more_upto limit (b ∷ text) bytes = take limit ((b ∷ text) ++ map shown_
 unfoldable pub kept_more : List ℕ → List ℕ → List ℕ
 kept_more text bytes = kept_more_upto 65536 text bytes
 
--- the bytes without leading spaces, if nothing was kept before
+-- the bytes, without leading spaces if nothing was kept before them
 abbrev pub begun : ℕ → List ℕ → List ℕ
 begun zero bytes = skip is_space bytes
 begun (suc n) bytes = bytes
@@ -61,7 +61,7 @@ with_bytes number held (b ∷ bytes) = with_bytes number (with_byte number held 
 unfoldable pub text_key : BlockNumbers → List ℕ → Option (List ℕ)
 text_key numbers text = with_bytes (number_at numbers) (Some (number_bytes 0)) text
 
--- different blocks have different numbers, from 1 to the count; 0 is the number if there is no block yet
+-- different blocks have different numbers, from 1 to the count; the number 0 stands for no block
 pub record AreNumbered (numbers : BlockNumbers) (count : ℕ) : Type 0 where
   pub fits : count < 2 ^ 32
   pub within : (block : List ℕ) (n : ℕ) → number_at numbers block ≡ Some n → (0 < n) × (n ≤ count)

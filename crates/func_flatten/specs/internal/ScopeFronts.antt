@@ -14,11 +14,11 @@ use Rattle.func_flatten.specs.internal.NameBlocks.{kept, BlockNumbers, IsKey}
 abbrev pub unit_dies : List UnitRead → ℕ → List DieFields
 unit_dies units unit = dies_of (slice_get units unit)
 
--- the numbers of the entries around entry `entry`, the innermost first
+-- the numbers of the entries around entry `entry`, beginning with the innermost
 unfoldable pub outer : List DieFields → ℕ → List ℕ
 outer dies entry = option_map_or (λ die. around dies entry die.parent) (slice_get dies entry) []
 
--- an entry and those around it
+-- the numbers of an entry and of the entries around it, beginning with the innermost
 abbrev pub outer_from : List DieFields → Option ℕ → List ℕ
 outer_from dies None = []
 outer_from dies (Some entry) = entry ∷ outer dies entry
@@ -35,11 +35,12 @@ inner_front units unit entry = fronts (unit_dies units unit) (entry ∷ outer (u
 abbrev pub place_of : ℕ → ℕ → ℕ
 place_of unit entry = unit * 2 ^ 32 + entry
 
--- each known key is that of the prefix that an entry gives
+-- each known key is that of the prefix that its entry and the scopes around it give
 unfoldable pub AreFronts : List UnitRead → BlockNumbers → BTreeMap ℕ NameKey → Type 0
 AreFronts units numbers known = (unit entry : ℕ) (key : NameKey) → unit < 2 ^ 32 → entry < 2 ^ 32 → get nat_cmp known (place_of unit entry) ≡ Some key → IsKey numbers key (kept (inner_front units unit entry))
 
--- of the entries around `entry`, the inner ones are in `numbers`, the innermost first, and `key` is that of the prefix that the others give
+-- the entries around `entry`, beginning with the innermost, are those in `numbers` and then those
+-- in `rest`; `key` is that of the prefix that those in `rest` give
 pub record IsHalfway (dies : List DieFields) (blocks : BlockNumbers) (entry : ℕ) (numbers : List ℕ) (key : NameKey) : Type 0 where
   pub rest : List ℕ
   pub around : numbers ++ rest ≡ outer dies entry

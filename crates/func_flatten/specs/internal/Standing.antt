@@ -1,5 +1,5 @@
--- Functions that represent all functions. Of those with one set of addresses, only those are collected that show which is the first and whether names
--- differ.
+-- Functions that represent all functions. Of the functions with the same set of addresses, only
+-- those are collected that show which is the first and whether names differ.
 use Rattle.std.specs.Prelude.{◌≡◌, ◌⊎◌, ℕ, ◌+◌, ◌*◌, ◌<◌, ◌≤◌, Bool, true, false, not, ◌&&◌, Option, None, Some, IfSome, map, length, List, [], ◌∷◌, ◌++◌}
 use Rattle.std.specs.List.{slice_get, find, list_any}
 use Rattle.std.specs.Str.{bytes_eq}
@@ -19,22 +19,22 @@ use Rattle.func_flatten.specs.internal.Collecting.{functions_in, all_functions, 
 abbrev pub any_name : (Covering → List ℕ) → List ℕ → ℕ → List Covering → Bool
 any_name name text a functions = list_any (λ d. has_address a d && not (bytes_eq (name d) text)) functions
 
--- the functions `kept` represent `all`: at each address both have the same first function, and a function with another name is among `kept` exactly
--- if one is among `all`
+-- the functions `kept` represent `all`. At each address both have the same first function. For each
+-- name, `kept` has a function with another name at the address exactly if `all` has one
 pub record StandFor (name : Covering → List ℕ) (all kept : List Covering) : Type 0 where
   pub first : (a : ℕ) → find (has_address a) kept ≡ find (has_address a) all
   pub other : (a : ℕ) (text : List ℕ) → any_name name text a kept ≡ any_name name text a all
 
--- the order of places in `.debug_info`
+-- the order of entries in `.debug_info`, as a number for each entry
 abbrev pub place_key : EntryRef → ℕ
 place_key p = p.unit * 4294967296 + p.entry
 
--- the functions' places rise; they are at least `low`, and below `high`
+-- the functions are in the order of `.debug_info`, from `low` on and below `high`
 abbrev pub Rise : ℕ → ℕ → List Covering → Type 0
 Rise low high [] = low ≤ high
 Rise low high (c ∷ functions) = (low ≤ place_key (place_of c)) × Rise (place_key (place_of c) + 1) high functions
 
--- the addresses of the entry at a place
+-- the addresses of the entry with a number in a unit
 abbrev pub set_in : ℕ → Option UnitRead → Option (List Range)
 set_in entry None = None
 set_in entry (Some part) = slice_get part.spans entry

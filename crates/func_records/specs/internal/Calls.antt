@@ -44,7 +44,7 @@ abbrev pub AreAllKnown : List UnitRead → List Part → Type 0
 AreAllKnown units [] = Unit {0}
 AreAllKnown units (p ∷ parts) = AreKnown units p.piece.unit p.copies × AreAllKnown units parts
 
--- where a call is
+-- where an inlined copy is called: the path by its number, and the line
 pub record IsSite (units : List UnitRead) (unit entry : ℕ) (site : CallSite) : Type 0 where
   pub number : site.path ≡ call_number units unit entry
   pub line : site.line ≡ call_line units unit entry

@@ -32,23 +32,24 @@ abbrev pub all_names : List UnitRead → List Piece → List (List InlineParts) 
 all_names units (piece ∷ pieces) (copies ∷ held) = entry_names units piece.unit copies ++ all_names units pieces held
 all_names units _ _ = []
 
--- references, and for each copy a place among them
+-- references to entries that give names, and for each inlined copy the index of one of them
 pub record RefParts : Type 0 where
   pub refs : List NameRef
   pub places : List ℕ
 
--- the text at each place is the name that goes with the place
+-- the text at each index in `places` is the name at the same position in `names`
 abbrev pub AreAt : List (List ℕ) → List ℕ → List (List ℕ) → Type 0
 AreAt texts [] [] = Unit {0}
 AreAt texts (k ∷ places) (name ∷ names) = (slice_get texts k ≡ Some name) × AreAt texts places names
 AreAt texts _ _ = ⊥
 
--- the texts, mostly once each, are exactly the names, and the places lead from each name to its text
+-- the texts, most of them once each, are exactly the names; `places` leads from each name to its
+-- text
 pub record TextsSay (texts : List (List ℕ)) (places : List ℕ) (names : List (List ℕ)) : Type 0 where
   pub at : AreAt texts places names
   pub same : (name : List ℕ) → list_any (bytes_eq name) texts ≡ list_any (bytes_eq name) names
 
--- the references give exactly these names, and the places lead from each name to its reference
+-- the references give exactly these names; the places lead from each name to its reference
 abbrev pub RefsSay : List UnitRead → RefParts → List (List ℕ) → Type 0
 RefsSay units parts names = TextsSay (map (made_name units) parts.refs) parts.places names
 
@@ -56,7 +57,7 @@ RefsSay units parts names = TextsSay (map (made_name units) parts.refs) parts.pl
 abbrev pub IsPlaced : {A : Type 0} → List A → List A → A → ℕ → Type 0
 IsPlaced old new one place = ((new ≡ old) × (slice_get old place ≡ Some one)) ⊎ ((new ≡ old ++ one ∷ []) × (place ≡ length old))
 
--- the number that goes with the first text equal to `name`, or 0 if there is none
+-- the number beside the first text that is equal to `name`; 0 if there is no such text
 abbrev pub beside : List (List ℕ) → List ℕ → List ℕ → ℕ
 beside (text ∷ texts) (n ∷ numbers) name = if bytes_eq name text then n else beside texts numbers name
 beside _ _ name = 0
@@ -65,7 +66,7 @@ beside _ _ name = 0
 abbrev pub all_refs : List FoundShare → List NameRef
 all_refs shares = flat_map (λ (f : FoundShare). f.refs.items) shares
 
--- the number of a name, found by the entries that give names and the number of each entry's name
+-- the number of a name, found among the names that entries give and their numbers
 abbrev pub name_number : Numbers → List UnitRead → List ℕ → ℕ
 name_number numbers units name = beside (map (made_name units) (all_refs numbers.entries.now)) numbers.numbers.now name
 
@@ -80,7 +81,8 @@ all_numbers numbers units pieces held = map (name_number numbers units) (all_nam
 abbrev pub ref_numbers : Numbers → List UnitRead → List NameRef → List ℕ
 ref_numbers numbers units refs = map (name_number numbers units) (map (made_name units) refs)
 
--- the records of the names that entries give, sorted and once each, are added to a text; `numbers` has the number of each entry's name
+-- the records of the names that entries give are added to a text, sorted and each once; `numbers`
+-- has the number of each entry's name
 pub record AddsNames (units : List UnitRead) (refs : List NameRef) (numbers : List ℕ) (old new : List ℕ) : Type 0 where
   pub names : List (List ℕ)
   pub sorted : IsStrictlySortedBy (slice_cmp nat_cmp) names

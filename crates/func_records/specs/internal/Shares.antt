@@ -14,12 +14,14 @@ use Rattle.func_records.specs.internal.Gathering.{AreHeld, has_path, Gathered}
 use Rattle.func_records.specs.internal.Origins.{all_names, ref_numbers, RefsSay}
 use Rattle.func_records.specs.internal.Parts.{AddsParts}
 
--- the units and pieces; the pieces' copies and what they name are found share by share
+-- the input of the jobs that find, share by share, the copies of pieces and what they name: the
+-- units and the pieces
 pub record FinderParts : Type 0 where
   pub units : List UnitRead
   pub pieces : List Piece
 
--- what was found for some pieces is what they have
+-- what was found for some pieces: their copies, the entries that name the copies' functions, and
+-- the paths that are named
 pub record IsFound (units : List UnitRead) (pieces : List Piece) (found : FoundShare) : Type 0 where
   pub held : AreHeld units pieces found.held
   pub names : RefsSay units (record { refs = found.refs.items; places = found.places.items }) (all_names units pieces found.held)
@@ -32,13 +34,14 @@ all_held shares = flat_map (λ (f : FoundShare). f.held) shares
 abbrev pub all_paths : List FoundShare → List PathRef
 all_paths shares = flat_map (λ (f : FoundShare). f.paths.items) shares
 
--- what was found share by share is what all pieces have
+-- what was found for each share is what the pieces of the share have
 pub record AreFound (units : List UnitRead) (pieces : List Piece) (shares : List FoundShare) : Type 0 where
   pub enough : length pieces ≤ 512 * length shares
   pub few : length shares ≤ 2 ^ 32
   pub each : (k : ℕ) (d : FoundShare) → k < length shares → IsFound units (share 512 k pieces) (slice_index_or shares k d)
 
--- what is spelled share by share: pieces, what was found for them, and for each share the numbers of its entries' names
+-- the input of the jobs that spell records share by share: pieces, what was found for them, and for
+-- each share the numbers of its entries' names
 pub record SpellerParts : Type 0 where
   pub base : ℕ
   pub units : List UnitRead
@@ -47,7 +50,8 @@ pub record SpellerParts : Type 0 where
   pub shares : List FoundShare
   pub split : List (Bor (List ℕ))
 
--- the units, and the entries whose names are made share by share
+-- the input of the jobs that make names share by share: the units, and the entries that give the
+-- names
 pub record MakerParts : Type 0 where
   pub units : List UnitRead
   pub refs : List NameRef

@@ -24,7 +24,7 @@ pub record RowParts : Type 0 where
   pub units : List UnitRead
   pub sorted : List (Bor (List ℕ))
 
--- texts in their order, once each, whose numbers fit into 32 bits
+-- texts in ascending order, each once; their numbers fit into 32 bits
 pub record CanNumber (texts : List (Bor (List ℕ))) : Type 0 where
   pub sorted : IsStrictlySortedBy text_cmp texts
   pub few : length texts < 2 ^ 32

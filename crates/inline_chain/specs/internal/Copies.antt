@@ -1,4 +1,5 @@
--- The inlined copies of a unit, as they are collected and sorted by the entries that they are in.
+-- The inlined copies of a unit, as they are collected, and sorted by the entries that they are
+-- directly in.
 use Rattle.std.specs.Prelude.{◌≡◌, ◌⊎◌, ℕ, suc, ◌+◌, ◌<◌, ◌≤◌, ◌==◌, ◌&&◌, Bool, if◌then◌else◌, List, [], ◌∷◌, ◌++◌, map, filter, drop, length, Option, None, Some, true, unwrap_or}
 use Rattle.std.specs.List.{slice_get}
 use Rattle.sym_edges.specs.Addresses.{Range}
@@ -15,7 +16,7 @@ use Rattle.debug_units.specs.Owners.{inside_of}
 use Rattle.step_maps.specs.SpanStretches.{span_stretches, AreFit}
 use Rattle.inline_chain.specs.Trees.{is_number, list_of, IsTree}
 
--- the addresses of the entry `number`; their class is the entry that it is in
+-- the stretches of the entry `number`; their class is the entry that it is directly in
 abbrev pub stretches_in : ℕ → Option ℕ → List Range → List Stretch
 stretches_in number None spans = []
 stretches_in number (Some above) spans = span_stretches number above spans
@@ -26,7 +27,7 @@ copy_by die above number spans = if is_inlined die then stretches_in number abov
 abbrev pub copy_stretches : List DieFields → ℕ → DieFields → List Range → List Stretch
 copy_stretches all number die spans = copy_by die (inside_of all number die.parent) number spans
 
--- the addresses of the inlined copies among entries numbered from `number`
+-- the stretches of the inlined copies among entries numbered from `number`
 abbrev pub child_stretches : List DieFields → ℕ → List DieFields → List (List Range) → List Stretch
 child_stretches all number (die ∷ dies) (spans ∷ sets) = copy_stretches all number die spans ++ child_stretches all (number + 1) dies sets
 child_stretches all number _ _ = []
@@ -35,12 +36,12 @@ child_stretches all number _ _ = []
 abbrev pub of_class : ℕ → List Stretch → List Stretch
 of_class x items = filter (λ (s : Stretch). s.class == x) items
 
--- all classes are below a count
+-- all classes are below `count`
 abbrev pub HaveClasses : ℕ → List Stretch → Type 0
 HaveClasses count [] = Unit {0}
 HaveClasses count (s ∷ items) = (s.class < count) × HaveClasses count items
 
--- the classes do not fall, and none is below `low`
+-- the classes ascend, not strictly, and none is below `low`
 abbrev pub SortedFrom : ℕ → List Stretch → Type 0
 SortedFrom low [] = Unit {0}
 SortedFrom low (s ∷ items) = (low ≤ s.class) × SortedFrom s.class items
@@ -50,7 +51,7 @@ unfoldable pub front_count : ℕ → List Stretch → ℕ
 front_count x [] = 0
 front_count x (s ∷ items) = if s.class == x then suc (front_count x items) else 0
 
--- the entry that each of the first entries is in
+-- the row has, for each of the first entries, the entry that it is directly in
 pub record SaysInside (all : List DieFields) (row : List (Option ℕ)) (count : ℕ) : Type 0 where
   pub many : length row ≡ count
   pub each : (k : ℕ) (die : DieFields) → k < count → slice_get all k ≡ Some die → slice_get row k ≡ Some (inside_of all k die.parent)
@@ -64,20 +65,22 @@ abbrev pub HaveSets : List DieFields → List (List Range) → Type 0
 HaveSets (die ∷ dies) (spans ∷ sets) = (is_inlined die ≡ true → IsCanonical spans) × HaveSets dies sets
 HaveSets _ _ = Prim.Unit {0}
 
--- the entry is an inlined copy in the entry `x` and has the address
+-- whether the entry is an inlined copy directly in the entry `x` and has the address
 abbrev pub is_copy_in : DieFields → Option ℕ → List Range → ℕ → ℕ → Bool
 is_copy_in die above spans x a = is_inlined die && (holds_any spans a && is_number x above)
 
--- there is a number
+-- the option has a number
 abbrev pub IsFound : Option ℕ → Type 0
 IsFound None = ⊥
 IsFound (Some n) = Prim.Unit {0}
 
--- at each address, the first stretch of a class is of the same entry as among the stretches of all copies
+-- at each address, the first stretch of a class belongs to the same entry as it does among the
+-- stretches of all copies
 abbrev pub TellChildren : List DieFields → List (List Range) → List Stretch → Type 0
 TellChildren all sets items = (x a : ℕ) → index_at (of_class x items) a ≡ index_at (of_class x (child_stretches all 0 all sets)) a
 
--- an entry that was passed is an inlined copy in the same entry as `number`, and has the same set
+-- an earlier entry is an inlined copy directly in the same entry as `number`, and has the same set
+-- of addresses
 pub record HasEarlier (all : List DieFields) (sets : List (List Range)) (row : List (Option ℕ)) (number : ℕ) (above : Option ℕ) : Type 0 where
   pub entry : ℕ
   pub die : DieFields
@@ -86,12 +89,14 @@ pub record HasEarlier (all : List DieFields) (sets : List (List Range)) (row : L
   pub beside : slice_get row entry ≡ Some above
   pub set : slice_get sets entry ≡ slice_get sets number
 
--- the stretches of an entry are added, unless an earlier copy has the same set
+-- the stretches of an entry are added, unless an earlier copy directly in the same entry has the
+-- same set of addresses
 abbrev pub AddsCopy : List DieFields → List (List Range) → List (Option ℕ) → ℕ → DieFields → Option ℕ → List Stretch → List Stretch → Type 0
 AddsCopy all sets row number die above old new = (new ≡ old ++ copy_by die above number (set_in sets number)) ⊎ ((new ≡ old) × HasEarlier all sets row number above)
 
--- the stretches collected from the first entries, with those of the other entries, give the same first stretches as those of all copies; and each
--- address of a collected copy has a stretch
+-- the stretches that were collected from the first entries, followed by those of the other entries,
+-- give the same first stretches as those of all copies. Each address of a copy among the first
+-- entries has a collected stretch
 pub record Collects (all : List DieFields) (sets : List (List Range)) (count : ℕ) (row : List (Option ℕ)) (items : List Stretch) : Type 0 where
   pub inside : SaysInside all row count
   pub same : (x a : ℕ) → index_at (of_class x (items ++ child_stretches all count (drop count all) (drop count sets))) a ≡ index_at (of_class x (child_stretches all 0 all sets)) a
@@ -99,11 +104,11 @@ pub record Collects (all : List DieFields) (sets : List (List Range)) (count : �
   pub fit : AreFit items
   pub sets_are : HaveSets (drop count all) (drop count sets) → HaveSets all sets
 
--- the covers of a class are the runs of the first stretch's index
+-- the covers of a class are the runs of the index of the class's first stretch
 abbrev pub IsList : List Stretch → List (List Cover) → ℕ → Type 0
 IsList items lists x = IsRuns (between 0 18446744073709551616 (index_at (of_class x items))) (map cover_run (list_of lists x))
 
--- one list is added: the runs of the first stretch's index
+-- one list of covers is added: the runs of the index of the group's first stretch
 pub record AddsCovers (group : List Stretch) (old new : List (List Cover)) : Type 0 where
   pub covers : List Cover
   pub added : new ≡ old ++ covers ∷ []

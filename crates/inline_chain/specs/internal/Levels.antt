@@ -1,4 +1,4 @@
--- The levels of a piece, one below the other.
+-- The levels of a piece, each made from the one before.
 use Rattle.std.specs.Prelude.{◌≡◌, ℕ, zero, suc, ◌+◌, ◌<◌, ◌≤◌, ◌==◌, ◌&&◌, Bool, true, false, List, [], ◌∷◌, ◌++◌, map, filter, drop, length, max, min, Option, None, Some}
 use Rattle.std.specs.List.{list_any}
 use Rattle.std.specs.List.Sorted.{IsNonDecreasingBy}
@@ -13,19 +13,20 @@ use Rattle.debug_units.specs.declared.unit_read.UnitRead.{UnitRead}
 use Rattle.inline_chain.specs.InlineRuns.{InlineParts, is_of, spans_of, joined, AreParts, first_address, IsOrdered}
 use Rattle.inline_chain.specs.Trees.{is_number, child_at, list_of}
 
--- some stretch of this class has the address
+-- whether some stretch of the class `x` has the address
 abbrev pub has_at : List Stretch → ℕ → ℕ → Bool
 has_at items x a = list_any (λ (s : Stretch). (s.class == x) && reaches s a) items
 
--- some stretch is of this class
+-- whether some stretch is of the class `x`
 abbrev pub has_class : ℕ → List Stretch → Bool
 has_class x items = list_any (λ (s : Stretch). s.class == x) items
 
--- the first cover that has the address is of the entry `y`
+-- whether the cover that has the address is of the entry `y`
 abbrev pub covers_at : List Cover → ℕ → ℕ → Bool
 covers_at covers y a = is_number y (value_in (map cover_run covers) a)
 
--- a stretch has the address, and the first cover in its entry that has it is of the entry `y`
+-- whether the stretch has the address, and the first inlined copy at the address directly in the
+-- stretch's entry is the entry `y`
 abbrev pub reaches_under : List (List Cover) → ℕ → ℕ → Stretch → Bool
 reaches_under lists y a s = reaches s a && covers_at (list_of lists s.class) y a
 
@@ -33,16 +34,17 @@ abbrev pub child_under : UnitRead → Option ℕ → ℕ → Option ℕ
 child_under part None a = None
 child_under part (Some entry) a = child_at part entry a
 
--- the entry at a depth: the owner at depth 0, and then the first inlined copy directly in the entry before
+-- the entry at a depth: the owner at depth 0, and at each further depth the first inlined copy
+-- directly in the entry before
 unfoldable pub depth_at : UnitRead → ℕ → ℕ → ℕ → Option ℕ
 depth_at part owner zero a = Some owner
 depth_at part owner (suc depth) a = child_under part (depth_at part owner depth a) a
 
--- the stretches are those of the entries at a depth, for an owner with this stretch
+-- the stretches are those of the entries at a depth, below the owner, whose stretch is `owner`
 abbrev pub IsLevel : UnitRead → Stretch → ℕ → List Stretch → Type 0
 IsLevel part owner depth items = (x a : ℕ) → has_at items x a ≡ (reaches owner a && is_number x (depth_at part owner.class depth a))
 
--- parts that together have the addresses of a class
+-- lists of ranges that together have the addresses of a class
 pub record AreClassParts (items : List Stretch) (x : ℕ) (parts : List (List Range)) : Type 0 where
   pub parts_are : AreParts parts
   pub canonical : IsCanonical (joined parts)
@@ -53,14 +55,14 @@ abbrev pub entry_runs : ℕ → ℕ → List (List Range) → List InlineParts
 entry_runs level entry [] = []
 entry_runs level entry (spans ∷ parts) = record { level = level; entry = entry; spans = spans } ∷ entry_runs level entry parts
 
--- records with these ranges are added
+-- records of an entry with these ranges are added
 pub record AddsParts (level entry : ℕ) (spans : List Range) (old new : List InlineParts) : Type 0 where
   pub parts : List (List Range)
   pub whole : new ≡ old ++ entry_runs level entry parts
   pub parts_are : AreParts parts
   pub ranges : joined parts ≡ spans
 
--- the records of a group are added
+-- records of an entry with the addresses of a group of stretches are added
 pub record AddsGroup (level entry : ℕ) (group : List Stretch) (old new : List InlineParts) : Type 0 where
   pub parts : List (List Range)
   pub whole : new ≡ old ++ entry_runs level entry parts
@@ -73,12 +75,12 @@ abbrev pub AreOfLevel : ℕ → List InlineParts → Type 0
 AreOfLevel level [] = Prim.Unit {0}
 AreOfLevel level (r ∷ runs) = (r.level ≡ level) × AreOfLevel level runs
 
--- all records have smaller levels than this one
+-- all records have levels below this one
 abbrev pub AreAbove : ℕ → List InlineParts → Type 0
 AreAbove level [] = Prim.Unit {0}
 AreAbove level (r ∷ runs) = (r.level < level) × AreAbove level runs
 
--- the groups so far are done, and the others are not begun
+-- the groups of the classes that are no longer in `rest` are done, and no other group is begun
 pub record Groups (level : ℕ) (all rest : List Stretch) (made : List InlineParts) : Type 0 where
   pub level_is : AreOfLevel level made
   pub ended : (x : ℕ) → has_class x rest ≡ false → AreClassParts all x (spans_of level x made)
@@ -100,7 +102,8 @@ pub record AddsLevel (level : ℕ) (items : List Stretch) (old new : List Inline
 abbrev pub Rising : ℕ → List InlineParts → Type 0
 Rising level made = (x : ℕ) → IsNonDecreasingBy (λ (r : InlineParts). first_address r.spans) (filter (is_of level x) made)
 
--- the records of one entry at one level have the addresses at which the entry is at that depth
+-- the records of one entry at one level have the addresses at which the entry is one level deeper
+-- than the level's number
 pub record IsEntry (part : UnitRead) (owner : Stretch) (runs : List InlineParts) (level entry : ℕ) : Type 0 where
   pub parts : AreParts (spans_of level entry runs)
   pub canonical : IsCanonical (joined (spans_of level entry runs))
@@ -130,7 +133,7 @@ abbrev pub ReachTo : ℕ → List Cover → Type 0
 ReachTo first [] = Unit {0}
 ReachTo first (c ∷ covers) = (first ≤ c.last) × ReachTo first covers
 
--- the covers after the first `count` give the same from the address `first` on
+-- from the address `first` on, the covers after the first `count` give the same as all covers
 pub record StartsCovers (covers : List Cover) (first count : ℕ) : Type 0 where
   pub inside : count ≤ length covers
   pub same : (a : ℕ) → first ≤ a → value_in (map cover_run (drop count covers)) a ≡ value_in (map cover_run covers) a

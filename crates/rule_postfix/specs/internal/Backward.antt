@@ -33,18 +33,18 @@ target_of (Reg number) = target.Reg number
 abbrev pub expr_spelled : FdeFields → ExprRule → Option (List Token)
 expr_spelled e rule = rule_tokens rule.start rule.fetch (expr_bytes e rule.place)
 
--- a part that is the CFA's rule; no column has such a part
+-- whether a part is the rule of the CFA; no column has such a part
 abbrev pub is_base : RowPart → Bool
 is_base Unruled = false
 is_base (Base cfa) = true
 is_base (Column given) = false
 
--- if changes are not written because a column becomes unspecified, some column does become so
+-- if changes were not written because a column becomes unspecified, some column becomes unspecified
 abbrev pub IfLost : Row → Row → Unwritten → Type 0
 IfLost before after Unspecified = some_becomes_unspecified before after ≡ true
 IfLost before after Expression = Unit {0}
 
--- the text of a target's rule, empty without words
+-- the text of a target's rule; empty if the target has no words
 unfoldable pub rule_text : Target → Option (List Token) → List ℕ
 rule_text t tokens = spelled_rules (option_to_list (rule_of t tokens))
 

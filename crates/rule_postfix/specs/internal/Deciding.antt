@@ -11,7 +11,7 @@ use Rattle.sym_records.specs.Spelled.{text_bytes}
 use Rattle.rule_postfix.specs.declared.progress.Progress.{Progress}
 use Rattle.rule_postfix.specs.Written.{Decided, has_range, range_of, written_lines}
 
--- a range of addresses inside a range of code starts at or above `base`
+-- each range of addresses inside a range of code starts at or above `base`
 pub record LiesAbove (base : ℕ) (code : List Range) : Type 0 where
   pub at : (start end : ℕ) → encloses code start end ≡ true → base ≤ start
 

@@ -20,12 +20,14 @@ IsStateOf (Some state) e = state ≡ cie_left e
 abbrev pub KeptFor : CieStates → FdeFields → Type 0
 KeptFor states e = IsStateOf (get nat_cmp states.by_place e.cie) e
 
--- this holds for each entry of a list
+-- for each entry of a list, the state at the place of its CIE, if there is one, is that after this
+-- CIE
 abbrev pub KeptForAll : CieStates → List Entry → Type 0
 KeptForAll states entries = (j : ℕ) (d : Entry) (f : FdeFields) → j < length entries → (slice_index_or entries j d).body ≡ Good f → KeptFor states f
 
--- after `entry` the state for another entry `f` is still that after the CIE of `f`, if the two have one CIE whenever the places of their CIEs are
--- equal
+-- if the state at the place of the CIE of an entry `f` was right before `entry` was handled, it is
+-- right afterwards. It is assumed that `entry` and `f` have the same CIE if the places of their
+-- CIEs are equal
 abbrev pub StaysKept : Entry → CieStates → CieStates → Type 0
 StaysKept entry before after =
     (f : FdeFields) → KeptFor before f → ((e : FdeFields) → entry.body ≡ Good e → e.cie ≡ f.cie → HaveOneCie e f) → KeptFor after f

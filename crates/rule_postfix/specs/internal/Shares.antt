@@ -3,7 +3,7 @@ use Rattle.std.specs.Prelude.{ℕ, List}
 use Rattle.sym_edges.specs.Addresses.{Range}
 use Rattle.frame_entries.specs.declared.description.Entry.{Entry}
 
--- what is translated share by share
+-- the input of the jobs that translate entries share by share
 pub record TranslatorParts : Type 0 where
   pub entries : List Entry
   pub code : List Range

@@ -17,7 +17,7 @@ EndBy top (r ∷ ranges) = (r.end ≤ top) × EndBy top ranges
 pub record AreAlike (ranges united : List Range) : Type 0 where
   pub same : (q : Range) → any_overlap q united ≡ any_overlap q ranges
 
--- the ranges rise, or `united` is like them (`AreAlike`)
+-- the ranges ascend or, if `united` is given, the same ranges overlap `united` as overlap them
 abbrev pub AreFound : List Range → Option (List Range) → Type 0
 AreFound ranges None = AreRising 0 ranges
 AreFound ranges (Some united) = AreAlike ranges united

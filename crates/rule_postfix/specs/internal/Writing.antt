@@ -17,15 +17,15 @@ pub record Open : Type 0 where
   pub rules : List RuleText
   pub changes : List SymLine
 
--- an INIT begins at a row
+-- an INIT was begun at a row
 abbrev pub opened : FdeFields → ℕ → List SymLine → ℕ → Row → Open
 opened e base lines start row = record { base = base; lines = lines; start = start; rules = row_rules e row; changes = [] }
 
--- the open INIT ends
+-- the records after the open INIT was ended at `end`
 abbrev pub closed : Open → ℕ → List SymLine
 closed o end = o.lines ++ Init (o.start - o.base) (end - o.start) o.rules ∷ o.changes
 
--- the changes at a row inside the INIT
+-- the changes at a row were added to the open INIT
 abbrev pub with_changes : ℕ → List RuleText → Open → Open
 with_changes b rules o = record {
   base = o.base;
@@ -35,13 +35,13 @@ with_changes b rules o = record {
   changes = o.changes ++ change (b - o.base) rules;
 }
 
--- adds the row that follows `before`
+-- the row that follows `before` was added
 unfoldable pub with_row : FdeFields → ℕ → Row → Row → Open → Open
 with_row e b before after o =
     if some_becomes_unspecified before after then opened e o.base (closed o b) b after
     else with_changes b (changed_rules e before after) o
 
--- adds rows that follow `before`
+-- the rows that follow `before` were added
 unfoldable pub with_rows : FdeFields → Row → List RowAt → Open → Open
 with_rows e before [] o = o
 with_rows e before (r ∷ rows) o = with_rows e r.row rows (with_row e r.address before r.row o)

@@ -1,4 +1,4 @@
--- Numbers in a list, and the numbers that records give.
+-- Lists of numbers, and the numbers that records give.
 use Rattle.std.specs.Prelude.{ℕ, Bool, ◌==◌, List, [], ◌∷◌}
 use Rattle.std.specs.List.{list_any}
 use Rattle.sym_records.specs.declared.line.SymLine.{SymLine}

@@ -1,4 +1,4 @@
--- What is kept of the records before a record.
+-- What the code stores of the records before a record.
 use Rattle.std.specs.Prelude.{◌≡◌, ℕ, not, Bool, false, List, ◌∷◌, ◌++◌, take, reverse, Option, None, Some}
 use Rattle.std.specs.List.{list_any, list_all, flat_map}
 use Rattle.std.specs.Option.{option_map, option_map_or}
@@ -14,7 +14,7 @@ use Rattle.sym_findings.specs.internal.Numbers.{has_number}
 use Rattle.sym_findings.specs.internal.Ranges.{is_met}
 use Rattle.sym_findings.specs.Findings.{OpenFunc, meets_any, open_func, open_init, init_run, findings_at}
 
--- if a FUNC is open, the addresses of the line records under it are kept
+-- if a FUNC is open, `lines` has the ranges of the line records under it
 abbrev pub KeepsLines : List Range → Option OpenFunc → Type 0
 KeepsLines lines None = Unit {0}
 KeepsLines lines (Some f) = (e : Extent) → is_met lines e ≡ meets_any f.lines e
@@ -22,7 +22,7 @@ KeepsLines lines (Some f) = (e : Extent) → is_met lines e ≡ meets_any f.line
 abbrev pub func_of : OpenFunc → Extent
 func_of f = f.func
 
--- `p` keeps what the records before a record say
+-- `p` stores what later records need of the records `before`
 pub record Keeps (before : List SymLine) (p : Preceding) : Type 0 where
   pub files : (n : ℕ) → has_number p.files n ≡ list_any (is_file n) before
   pub origins : (n : ℕ) → has_number p.origins n ≡ list_any (is_origin n) before
@@ -37,15 +37,15 @@ pub record Knows (all : List SymLine) (k : Known) : Type 0 where
   pub files : (n : ℕ) → has_number k.files n ≡ list_any (is_file n) all
   pub origins : (n : ℕ) → has_number k.origins n ≡ list_any (is_origin n) all
 
--- whether one of the ranges leaves the open FUNC, if there is one
+-- whether one of the ranges reaches outside of the open FUNC, if there is one
 abbrev pub leaves_open : List Extent → Option Extent → Bool
 leaves_open runs func = option_map_or (λ (f : Extent). not (list_all (holds_run f) runs)) func false
 
--- the records before an index, nearest first
+-- the records before an index, with the nearest first
 unfoldable pub preceding_at : ℕ → List SymLine → List SymLine
 preceding_at i lines = reverse (take i lines)
 
--- after one more record: its findings are listed, and what it says is kept
+-- after one more record, its findings are listed, and `p` stores what later records need
 pub record Judged (all before : List SymLine) (index : ℕ) (s : SymLine) (old new : List Finding) (p : Preceding) : Type 0 where
   pub found : new ≡ old ++ findings_at all before index s
   pub keeps : Keeps (s ∷ before) p

@@ -1,4 +1,4 @@
--- What was fed to a reader from a store.
+-- What was fed to a reader of a file in a store.
 use Rattle.std.specs.Prelude.{◌≡◌, ℕ, ◌^◌, ⊤, List, [], ◌++◌, length, Option, None, Result, Ok, Err, take}
 use Rattle.sym_edges.specs.Outside.{Rose}
 use Rattle.sym_edges.specs.WholeFile.{IsParted}
@@ -19,21 +19,22 @@ pub record WasFed (reader : Reads) (bytes : List ℕ) : Type 0 where
   pub decides : decided (2 ^ 20) nothing bytes ≡ Ok reader.part
   pub going : reader.stop ≡ None
 
--- `count` bytes of a file were read, and the first of them, at most `limit`, were fed to the reader
+-- `count` bytes of the file were read, and the first of them, at most `limit`, were fed to the
+-- reader
 pub record HasRead (limit : ℕ) (left left_after : Option (List ℕ)) (reader : Reads) (count : ℕ) : Type 0 where
   pub bytes : List ℕ
   pub counted : length bytes ≡ count
   pub parted : IsParted left bytes left_after
   pub fed : WasFed reader (take limit bytes)
 
--- what a reading of the rest of a file returns, and when
+-- what each result of reading the rest of a file means
 abbrev pub SymRest : Result (List SymLine) (Stop SymEnd) → Option (List ℕ) → ℕ → ℕ → ℕ → Type 0
 SymRest (Ok lines) left limit before after = IsReading limit (Ok lines) left
 SymRest (Err (Fault Unread)) left limit before after = Rose before after
 SymRest (Err (Fault (Refused why))) left limit before after = IsReading limit (Err why) left
 SymRest (Err NoMemory) left limit before after = ⊤
 
--- a stop of the reader as a stop of the reading of a file
+-- why a reader stopped, as why the reading of a file stopped
 abbrev pub refused_stop : Stop TextFault → Stop SymEnd
 refused_stop (Fault fault) = Fault (Refused (Text fault))
 refused_stop NoMemory = NoMemory

@@ -1,4 +1,4 @@
--- Digits and words read one after another, as the loops read them.
+-- Digits and words, read one after another in the order of the code.
 use Rattle.std.specs.Prelude.{ℕ, ◌+◌, ◌*◌, nat_le, nat_lt, ◌&&◌, if◌then◌else◌, List, [], ◌∷◌, ◌++◌, length, Option, Some, None, Result, Ok, Err}
 use Rattle.std.specs.Char.{digit_value}
 use Rattle.sym_records.specs.FieldReading.{hex_of, hex_at}
@@ -19,7 +19,7 @@ hex_field field = hex_of (before 32 field) >>= λ n. Ok (n, from 32 field)
 abbrev pub ten_digit : ℕ → Option ℕ
 ten_digit d = if is_digit d then Some (digit_value d) else None
 
--- the number whose decimal digits are those of n and then these digits, if it is at most `limit`
+-- n followed by these decimal digits, as one number, if it is at most `limit`
 unfoldable pub upto : ℕ → ℕ → List ℕ → Option ℕ
 upto limit n [] = if nat_le n limit then Some n else None
 upto limit n (d ∷ ds) = if is_digit d then upto limit (n * 10 + digit_value d) ds else None
@@ -28,11 +28,11 @@ upto limit n (d ∷ ds) = if is_digit d then upto limit (n * 10 + digit_value d)
 unfoldable pub digits_upto : ℕ → List ℕ → Option ℕ
 digits_upto limit ds = if nat_lt 0 (length ds) && nat_le (length ds) 20 then upto limit 0 ds else None
 
--- the members xs, followed by those that were read
+-- the members xs, followed by those that were read; or the fault
 abbrev pub behind : {A : Type 0} → List A → Result (List A) TextKind → Result (List A) TextKind
 behind xs read = read >>= λ ys. Ok (xs ++ ys)
 
--- a token before a run of tokens
+-- a token, followed by the tokens of a run; or the fault
 abbrev pub grown : Token → Result (List Token × List (List ℕ)) TextKind → Result (List Token × List (List ℕ)) TextKind
 grown t run = run >>= λ x. Ok (t ∷ x.0, x.1)
 
@@ -50,7 +50,7 @@ rule_run (w ∷ ws) = do
   tokens ← some_of run.0
   Ok (record { target = target; tokens = tokens }, run.1)
 
--- tokens before a run of tokens
+-- tokens, followed by the tokens of a run; or the fault
 abbrev pub put_before : List Token → Result (List Token × List (List ℕ)) TextKind → Result (List Token × List (List ℕ)) TextKind
 put_before ts run = run >>= λ x. Ok (ts ++ x.0, x.1)
 

@@ -1,4 +1,4 @@
--- For which FUNC records an index stores what is under them: no answer depends on it.
+-- For which FUNC records an index stores what is under them. No answer depends on this.
 use Rattle.std.specs.Prelude.{◌≡◌, ℕ, ◌+◌, ◌<◌, ◌≤◌, ◌&&◌, nat_lt, max, Bool, true, false, List, [], ◌∷◌, length, drop, slice_get}
 use Rattle.std.specs.List.{sum_by}
 use Rattle.std.specs.Option.{option_map_or}

@@ -32,7 +32,7 @@ extents_of kind.Inits s = init_run s
 extents_of kind.Lines s = line_run s
 extents_of (kind.Level level) s = level_ranges level s
 
--- the stretch of a range, cut at the last address of 64 bits; none for an empty range
+-- the stretch of a range, which ends at 2^64 - 1 at the latest; none for an empty range
 abbrev pub stretch_of : ℕ → Extent → List Stretch
 stretch_of n e = if e.size == 0 then [] else record { first = e.address; last = min (e.address + (e.size - 1)) (2 ^ 64 - 1); index = n; class = 0 } ∷ []
 
@@ -40,7 +40,7 @@ abbrev pub extent_stretches : ℕ → List Extent → List Stretch
 extent_stretches n [] = []
 extent_stretches n (e ∷ extents) = stretch_of n e ++ extent_stretches n extents
 
--- the stretches of records; the index of a stretch is its record's place
+-- the stretches of the records of a kind; the index of a stretch is the place of its record
 abbrev pub stretches_of : Kind → ℕ → List SymLine → List Stretch
 stretches_of kind n [] = []
 stretches_of kind n (s ∷ records) = extent_stretches n (extents_of kind s) ++ stretches_of kind (n + 1) records

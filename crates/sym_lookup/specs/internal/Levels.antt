@@ -13,7 +13,7 @@ use Rattle.sym_lookup.specs.declared.stretches.Kind.TheVariants as kind
 use Rattle.sym_lookup.specs.PlaceMaps.{IsPlaceMap}
 use Rattle.sym_lookup.specs.internal.Kinds.{is_at, stretches_of}
 
--- the stretches of a level, if the list has that level
+-- the stretches of a level, or `None` if the list has no such level
 abbrev pub bucket : List (Vec Stretch) → ℕ → Option (List Stretch)
 bucket leveled level = option_map (λ (v : Vec Stretch). v.items) (slice_get leveled level)
 
@@ -28,7 +28,8 @@ pub record AreLeveled (first : ℕ) (records : List SymLine) (leveled : List (Ve
   pub have : HaveStretches leveled
   pub same : (level : ℕ) → IfSome (bucket leveled level) (λ s. s ≡ stretches_of (kind.Level level) first records)
 
--- a map of the INLINE records of a level; no map only if no record of the level covers an address
+-- the map is that of the INLINE records of a level; it may be missing only if no record of the
+-- level covers an address
 abbrev pub IsLevelMap : ℕ → ℕ → List SymLine → Option (Stepping (Option FirstItem)) → Type 0
 IsLevelMap level first records None = (x : ℕ) → x < 2 ^ 64 → position_from (is_inline_at level x) first records ≡ None
 IsLevelMap level first records (Some map) = IsPlaceMap (λ x. position_from (is_at (kind.Level level) x) first records) map

@@ -1,4 +1,5 @@
--- The marks of records: a record's place with a key, which is the address at which it begins or its number.
+-- The marks of records. A mark is the place of a record with a key, which is the address at which
+-- it begins, or its number.
 use Rattle.std.specs.Prelude.{ℕ, ◌+◌, List, [], ◌∷◌, ◌++◌, Option, None, Some}
 use Rattle.sym_records.specs.declared.line.SymLine.{SymLine}
 use Rattle.sym_records.specs.declared.line.SymLine.TheVariants.{File, Origin, Func, Public}
@@ -32,7 +33,7 @@ abbrev pub mark_of : ℕ → Option ℕ → List Mark
 mark_of place None = []
 mark_of place (Some key) = record { key = key; place = place } ∷ []
 
--- the marks of records; the first record has a given place
+-- the marks of records; the first record has the place `place`
 abbrev pub marks_of : Marked → ℕ → List SymLine → List Mark
 marks_of kind place [] = []
 marks_of kind place (s ∷ lines) = mark_of place (key_of kind s) ++ marks_of kind (place + 1) lines

@@ -1,4 +1,4 @@
--- Definitions for the text of an answer.
+-- How the code gives the path and line of a frame.
 use Rattle.std.specs.Prelude.{ℕ, List}
 use Rattle.sym_records.specs.declared.line.SymLine.{SymLine}
 use Rattle.sym_lookup.specs.AnswerTexts.{line_at, line_spot, call_at, call_spot}
