@@ -17,7 +17,7 @@ abbrev pub in_front : Step → Option (List Step) → Option (List Step)
 in_front s None = None
 in_front s (Some steps) = Some (s ∷ steps)
 
--- the power of two that is one more than the constant `c`, if it is at most 2^(n - 1)
+-- the power of two that is one more than the constant `c`, if it is below 2^n
 unfoldable pub mask_size : ℕ → ℕ → Option ℕ
 mask_size zero c = None
 mask_size (suc n) c = if c == 2 ^ n - 1 then Some (2 ^ n) else mask_size n c
