@@ -33,7 +33,7 @@ use Rattle.func_records.proofs.CanonLemmas.{canon_join, canon_more, canon_none, 
 use Rattle.debug_read.specs.DebugSays.{DebugSays, IsDebugRead}
 use Rattle.debug_read.specs.declared.found.DebugRead.{DebugRead}
 use Rattle.dumpsyms_cmd.specs.commands.Dump.{identity_lines, public_line, public_lines, frame_lines, written_of}
-use Rattle.dumpsyms_cmd.specs.internal.Spelled.{FitsInside, HasHead, DumpsRead}
+use Rattle.dumpsyms_cmd.specs.internal.Spelled.{FitsInside, HasHead, HasFrames, DumpsRead}
 use Rattle.func_records.proofs.AboveLemmas.{pieces_above}
 use Rattle.debug_read.proofs.KeptLemmas.{kept}
 use Rattle.debug_read.proofs.OwnerLemmas.{owners_above}
@@ -49,12 +49,14 @@ file_named image name found units pieces functions lines above pieced records wh
     above records (identity_plain image name) (identity_no_file image name) (identity_no_origin image name) (behind_plain image pieces found) x)
 
 -- The records before those of frames: of the binary, of functions and of symbols.
-pub head_spelled : (image : ImageParts) (name : List ℕ) (units : List UnitRead) (pieces : List Piece) (base : ℕ) (shown : List PublicParts) (full last longer first second text : List ℕ) → base ≡ image.base → shown ≡ publics pieces image.symbols → full ++ last ≡ [] → longer ≡ last ++ canon_text (identity_lines image name) → first ≡ full ++ longer → first_bad (identity_lines image name) ≡ None → AddsFunctions base units pieces first second → text ≡ second ++ canon_text (map (public_line base) shown) → first_bad_from 0 Inside (map (public_line base) shown) ≡ None → HasHead image name units pieces text
-head_spelled image name units pieces base shown full last longer first second text low these none begun same valid adds added fit =
+pub head_spelled : (image : ImageParts) (name : List ℕ) (units : List UnitRead) (pieces : List Piece) (base : ℕ) (shown : List PublicParts) (full last longer first second text : List ℕ) → base ≡ image.base → shown ≡ publics pieces image.symbols → full ++ last ≡ [] → longer ≡ last ++ canon_text (identity_lines image name) → first ≡ full ++ longer → first_bad (identity_lines image name) ≡ None → AddsFunctions base units pieces first second → text ≡ second ++ canon_text (map (public_line base) shown) → first_bad_from 0 Inside (map (public_line base) shown) ≡ None → ArePieces units pieces → HasHead image name units text
+head_spelled image name units pieces base shown full last longer first second text low these none begun same valid adds added fit pieced =
     let own : List SymLine = map (public_line base) shown in
     let publics_are : own ≡ public_lines image pieces = ap (λ b. map (public_line b) shown) low ∙ ap (map (public_line image.base)) these in
     let begin : first ≡ canon_text (identity_lines image name) = same ∙ ap (λ t. full ++ t) begun ∙ sym (append_assoc full last (canon_text (identity_lines image name))) ∙ ap (λ t. t ++ canon_text (identity_lines image name)) none in
     record {
+      pieces = pieces;
+      pieces_are = pieced;
       functions = adds.records;
       are = subst (λ b. AreFuncRecords b units pieces adds.records) low adds.are;
       text_is = added ∙ ap (λ t. t ++ canon_text own) (adds.text ∙ ap (λ t. t ++ canon_text adds.records) begin)
@@ -105,16 +107,18 @@ mapped_at f (y ∷ xs) zero x is = ap (λ z. Some (f z)) (let same : y ≡ x = c
 mapped_at f (y ∷ xs) (suc n) x is = mapped_at f xs n x is
 
 -- The dump of a file that was read.
-pub file_dumped : (image : ImageParts) (name : List ℕ) (read : DebugRead) (pieces : List Piece) (lines framed : List SymLine) (base : ℕ) (code : List Range) (left : List Omission) (head : List ℕ) → IsDebugRead image read → AllFrom image.base image.code → ArePieces read.units pieces → (front : HasHead image name read.units pieces head) → base ≡ image.base → code ≡ image.code → framed ≡ written_lines base (written code read.first read.second) → left ≡ omitted code read.first read.second → lines ≡ (identity_lines image name ++ (front.functions ++ public_lines image pieces)) ++ framed → reading (canon_text lines) ≡ Ok lines → DumpsRead image name read lines left
-file_dumped image name read pieces lines framed base code left head is above pieced front low ranges framed_is left_is are reads =
+pub file_dumped : (image : ImageParts) (name : List ℕ) (read : DebugRead) (lines : List SymLine) (left : List Omission) (head rest : List ℕ) → IsDebugRead image read → (front : HasHead image name read.units head) → HasFrames image read rest left → lines ≡ (identity_lines image name ++ (front.functions ++ public_lines image front.pieces)) ++ written_lines image.base (written image.code read.first read.second) → reading (canon_text lines) ≡ Ok lines → DumpsRead image name read lines left
+file_dumped image name read lines left head rest is front framed are reads =
+    let above : AllFrom image.base image.code = framed.above in
+    let pieces : List Piece = front.pieces in
+    let pieced : ArePieces read.units pieces = front.pieces_are in
     let k = kept image read is in
-    let same : written code read.first read.second ≡ written code k.says.first k.says.second =
-    ap (λ first. written code first read.second) k.first ∙ ap (written code k.says.first) k.second in
-    let all : framed ≡ frame_lines image k.says =
-    framed_is ∙ ap (written_lines base) same ∙ ap (λ b. written_lines b (written code k.says.first k.says.second)) low ∙ ap (λ c. written_lines image.base (written c k.says.first k.says.second)) ranges in
+    let same : written image.code read.first read.second ≡ written image.code k.says.first k.says.second =
+    ap (λ first. written image.code first read.second) k.first ∙ ap (written image.code k.says.first) k.second in
+    let all : written_lines image.base (written image.code read.first read.second) ≡ frame_lines image k.says = ap (written_lines image.base) same in
     let whole : lines ≡ identity_lines image name ++ (front.functions ++ (public_lines image pieces ++ frame_lines image k.says)) =
-    are ∙ append_assoc (identity_lines image name) (front.functions ++ public_lines image pieces) framed
-    ∙ ap (λ l. identity_lines image name ++ l) (append_assoc front.functions (public_lines image pieces) framed ∙ ap (λ l. front.functions ++ (public_lines image pieces ++ l)) all) in
+    are ∙ append_assoc (identity_lines image name) (front.functions ++ public_lines image pieces) (written_lines image.base (written image.code read.first read.second))
+    ∙ ap (λ l. identity_lines image name ++ l) (append_assoc front.functions (public_lines image pieces) (written_lines image.base (written image.code read.first read.second)) ∙ ap (λ l. front.functions ++ (public_lines image pieces ++ l)) all) in
     let begin : BeginAbove image.base pieces = pieces_above image.base read.units pieces (owners_above image read is above) pieced in
     let front_lines : List SymLine = identity_lines image name ++ (front.functions ++ public_lines image pieces) in
     let split : lines ≡ front_lines ++ frame_lines image k.says = are ∙ ap (λ l. front_lines ++ l) all in
@@ -129,7 +133,7 @@ file_dumped image name read pieces lines framed base code left head is above pie
       found = k.says;
       found_is = k.says_is;
       canon = record { units = read.units; units_are = k.units; pieces = pieces; pieces_are = pieced; functions = front.functions; functions_are = front.are; whole = whole };
-      left_is = left_is ∙ ap (λ first. omitted code first read.second) k.first ∙ ap (omitted code k.says.first) k.second ∙ ap (λ c. omitted c k.says.first k.says.second) ranges;
+      left_is = framed.left_is ∙ ap (λ first. omitted image.code first read.second) k.first ∙ ap (omitted image.code k.says.first) k.second;
       reads = reads;
       frames = frames;
       means = means;

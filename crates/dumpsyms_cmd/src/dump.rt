@@ -1,5 +1,6 @@
 //! The symbol file of an image: the text of its records, and the lines about what is left out.
 ghost use Rattle.std.specs.Prelude.{◌≡◌, ◌≤◌, ◌++◌, ◌∷◌, true, None, Ok, length, map, IfOk, OnOk};
+ghost use Rattle.std.specs.Thread.{IsSync};
 ghost use Rattle.clean_names.specs.Cleaning.{cleaned};
 ghost use Rattle.sym_records.specs.Canon.{canon, canon_text};
 ghost use Rattle.sym_records.specs.Spelled.{text_bytes};
@@ -10,15 +11,14 @@ ghost use Rattle.func_flatten.specs.Publics.{public_view};
 ghost use Rattle.debug_units.specs.CleanPaths.{HaveCleanPaths};
 ghost use Rattle.debug_read.specs.DebugSays.{IsDebugRead};
 ghost use Rattle.dumpsyms_cmd.specs.commands.Dump.{module_line, info_line, info_lines, public_line};
-ghost use Rattle.dumpsyms_cmd.specs.internal.Spelled.{FitsInside, HasHead, DumpsRead};
+ghost use Rattle.dumpsyms_cmd.specs.internal.Spelled.{FitsInside, HasHead, HasFrames, DumpsRead};
 ghost use Rattle.dumpsyms_cmd.specs.commands.Dump.{Assembles};
 
 use crate::omissions::list_left_out;
 use debug_pair::{hex_text, make_id};
 use debug_read::DebugRead;
-use debug_units::Units;
 use elf_sections::Image;
-use func_flatten::{PieceList, PublicAt, pieces, publics};
+use func_flatten::{PublicAt, pieces, publics};
 use func_records::add_functions;
 use rule_postfix::{Frames, Omissions, translate_all};
 use std::alloc::Global;
@@ -107,20 +107,38 @@ fn spell_head<R: Threads + Sync>(
     crew: &Crew<'_, R>,
     image: &Image<'_>,
     name: &[u8],
-    units: &Units<'_>,
-    pieces: &PieceList,
+    debug: &DebugRead<'_>,
 ) -> Result<TextPieces, OutOfMemory>
-    requires clean { HaveCleanPaths units.now }
-    ensures { IfOk result (λ text. HasHead image.now name.now units.now pieces.now (text_bytes text)) }
+    requires clean { HaveCleanPaths debug.now.units }
+    ensures { IfOk result (λ text. HasHead image.now name.now debug.now.units (text_bytes text)) }
 {
     let alloc = crew.alloc();
     let base = image.base();
+    let pieces = pieces(alloc, &debug.units)?;
     let mut front = TextPieces::new(alloc);
     put_identity(alloc, &mut front.last, image, name)?;
-    let mut text = add_functions(crew, base, units, pieces.as_slice(), front)?;
-    let found = publics(alloc, image, pieces)?;
+    let mut text = add_functions(crew, base, &debug.units, pieces.as_slice(), front)?;
+    let found = publics(alloc, image, &pieces)?;
     add_publics(alloc, base, found.as_slice(), &mut text)?;
     Ok(text)
+}
+
+/// Spells the frame records.
+fn spell_frames<R: Threads + Sync>(
+    crew: &Crew<'_, R>,
+    image: &Image<'_>,
+    debug: &DebugRead<'_>,
+) -> Result<Frames, OutOfMemory>
+    ensures { IfOk result (λ frames. HasFrames image.now debug.now (text_bytes frames.text) frames.omitted) }
+{
+    let frames = translate_all(
+        crew,
+        &debug.first,
+        &debug.second,
+        image.code(),
+        image.base(),
+    )?;
+    Ok(frames)
 }
 
 /// The text of a file, and the frame entries that are left out.
@@ -130,7 +148,8 @@ struct FileText {
     omitted: Omissions,
 }
 
-/// Spells the records of a file. The frame records come last.
+/// Spells the records of a file. The frame records come last; they are spelled at the same time as
+/// the others if there are several workers.
 fn dump_file<R: Threads + Sync>(
     crew: &Crew<'_, R>,
     image: &Image<'_>,
@@ -140,15 +159,17 @@ fn dump_file<R: Threads + Sync>(
     requires found { IsDebugRead image.now debug.now }
     ensures { IfOk result (λ d. DumpsRead image.now name.now debug.now d.file d.omitted) }
 {
-    let pieces = pieces(crew.alloc(), &debug.units)?;
-    let mut head = spell_head(crew, image, name, &debug.units, &pieces)?;
-    let framed = translate_all(
-        crew,
-        &debug.first,
-        &debug.second,
-        image.code(),
-        image.base(),
-    )?;
+    let head = || -> Result<TextPieces, OutOfMemory>
+        requires { IsSync R.row × HaveCleanPaths debug.now.units }
+        ensures { IfOk result (λ text. HasHead image.entry.now name.entry.now debug.entry.now.units (text_bytes text)) }
+    { spell_head(crew, image, name, debug) };
+    let frames = || -> Result<Frames, OutOfMemory>
+        requires { IsSync R.row }
+        ensures { IfOk result (λ frames. HasFrames image.entry.now debug.entry.now (text_bytes frames.text) frames.omitted) }
+    { spell_frames(crew, image, debug) };
+    let (front, behind) = crew.both(head, frames);
+    let mut head = front?;
+    let framed = behind?;
     let Frames { text, omitted } = framed;
     head.append(text)?;
     Ok(FileText {

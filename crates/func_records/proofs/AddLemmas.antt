@@ -25,6 +25,7 @@ use Rattle.debug_units.specs.CallPaths.{no_path}
 use Rattle.func_records.specs.internal.Calls.{call_number, path_or, IsPathed, IsKnown, AreKnown, AreAllKnown}
 use Rattle.func_records.specs.internal.Gathering.{bytes_of, has_text, ArePathed, AreHeld, Gathered, copies_of}
 use Rattle.func_records.specs.internal.Spelling.{number_or_0, unit_numbers, line_by, row_of}
+use Rattle.func_records.proofs.RowLemmas.{numbers_in, row_is}
 use Rattle.func_records.specs.internal.Origins.{made_name, entry_names, all_names, all_refs, beside, name_number, AddsNames}
 use Rattle.func_records.specs.internal.Parts.{file_by, inline_by, parts_by, AddsParts}
 use Rattle.func_records.specs.Adding.{AddsFunctions}
@@ -79,15 +80,6 @@ row_by : (paths table : List (List ℕ)) (k : ℕ) → k < length table → list
 row_by paths [] k below had = absurd (omega arith)
 row_by paths (t ∷ table) zero below had = number_there paths t had
 row_by paths (t ∷ table) (suc k) below had = row_by paths table k (omega arith) had
-
-abbrev numbers_in : List (List ℕ) → Option UnitRead → List ℕ
-numbers_in paths None = []
-numbers_in paths (Some u) = map (number_or_0 paths) u.lines.paths
-
-row_is : (paths : List (List ℕ)) (units : List UnitRead) (unit : ℕ) → row_of (unit_numbers paths units) unit ≡ numbers_in paths (slice_get units unit)
-row_is paths [] unit = refl
-row_is paths (u ∷ units) zero = refl
-row_is paths (u ∷ units) (suc unit) = row_is paths units unit
 
 number_by : (paths : List (List ℕ)) (u : Option UnitRead) (k : ℕ) → k < length (paths_in u) → list_any (bytes_eq (unwrap_or (slice_get (paths_in u) k) [])) paths ≡ true → unwrap_or (slice_get (numbers_in paths u) k) 0 ≡ number_in paths (unwrap_or (slice_get (paths_in u) k) [])
 number_by paths None k below had = absurd (omega arith)

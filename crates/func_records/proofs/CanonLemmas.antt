@@ -1,5 +1,6 @@
 -- The text of records, one after the other.
-use Rattle.std.proofs.Common.{◌≡◌, ℕ, length, List, [], ◌∷◌, ◌++◌, None, arith, refl, sym, ap, ◌∙◌, append_assoc, append-nil}
+use Rattle.std.proofs.Common.{◌≡◌, ℕ, List, [], ◌∷◌, ◌++◌, None, refl, sym, ap, ◌∙◌, append_assoc, append-nil}
+use Rattle.std.specs.List.{slice_get}
 use Rattle.std.proofs.lemmas.Grind.{flat_map-append}
 use Rattle.sym_records.specs.Canon.{canon, canon_text}
 use Rattle.sym_records.specs.Validity.{first_bad_from}
@@ -26,9 +27,10 @@ pub record_more : (old mid all : List ℕ) (s : SymLine) (rest : List SymLine) �
 record_more old mid all s rest so added =
     ap (λ t. t ++ canon_text rest) added ∙ append_assoc old (canon s) (canon_text rest) ∙ ap (λ t. old ++ t) (sym (canon_more s rest)) ∙ so
 
-pub none_left : {X : Type 0} (xs : List X) → length xs ≡ 0 → xs ≡ []
-none_left [] is = refl
-none_left (x ∷ xs) is = absurd (omega (arith, is))
+-- A list without a first member is empty.
+pub nothing_first : {X : Type 0} (xs : List X) → None ≡ slice_get xs 0 → xs ≡ []
+nothing_first [] is = refl
+nothing_first (x ∷ xs) is = absurd (cc)
 
 pub records_done : (old new : List ℕ) (rest : List SymLine) → rest ≡ [] → old ++ canon_text rest ≡ new → old ≡ new
 records_done old new rest none so = sym (append-nil old) ∙ ap (λ t. old ++ t) (sym (ap canon_text none ∙ canon_none)) ∙ so

@@ -12,7 +12,6 @@ pub mod HoldLemmas
 pub mod PathLemmas
 pub mod LinePathLemmas
 pub mod NumberLemmas
-pub mod GapLemmas
 pub mod OriginLemmas
 pub mod TableLemmas
 pub mod SpellLemmas

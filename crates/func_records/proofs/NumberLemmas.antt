@@ -14,7 +14,7 @@ use Rattle.func_records.specs.internal.Texts.{text_cmp}
 use Rattle.func_records.specs.FuncRecords.{number_in}
 use Rattle.func_records.specs.internal.Gathering.{bytes_of}
 use Rattle.func_records.specs.internal.Spelling.{number_or_0}
-use Rattle.func_records.proofs.ListLemmas.{take_more, take_next}
+use Rattle.func_records.proofs.ListLemmas.{take_next}
 
 -- A text before all others is not one of them.
 other_there : (x : Bor (List ℕ)) (xs : List (Bor (List ℕ))) (n : ℕ) (path : List ℕ) → AllByRecursion (λ y. text_cmp x y ≡ Less) xs → slice_get (bytes_of xs) n ≡ Some path → bytes_eq x.now path ≡ false
@@ -69,13 +69,6 @@ number_none xs path none = go (list_any (bytes_eq path) (bytes_of xs)) refl
     go : (b : Bool) → list_any (bytes_eq path) (bytes_of xs) ≡ b → 0 ≡ cond b (number_in (bytes_of xs) path) 0
     go true is = absurd (none (Any-from_list_any (λ (t : Bor (List ℕ)). bytes_eq path t.now) xs (sym (not_there xs path) ∙ is)))
     go false is = refl
-
--- The number of one path more.
-pub row_more : (paths texts : List (List ℕ)) (n : ℕ) (path : List ℕ) (number : ℕ) (row after : List ℕ) → row ≡ map (number_or_0 texts) (take n paths) → Some path ≡ slice_get paths n → number ≡ number_or_0 texts path → after ≡ row ++ number ∷ [] → after ≡ map (number_or_0 texts) (take (n + 1) paths)
-row_more paths texts n path number row after is there numbered added =
-    added ∙ ap (λ r. r ++ number ∷ []) is ∙ ap (λ k. map (number_or_0 texts) (take n paths) ++ k ∷ []) numbered
-    ∙ sym (map-append (number_or_0 texts) (take n paths) (path ∷ []))
-    ∙ ap (map (number_or_0 texts)) (sym (take_more paths n path (sym there)))
 
 -- A text that is at a place.
 pub number_here : (xs : List (Bor (List ℕ))) (n : ℕ) (x d : Bor (List ℕ)) (text : List ℕ) → IsStrictlySortedBy text_cmp xs → n < length xs → x ≡ get_or xs n d → bytes_eq x.now text ≡ true → n ≡ number_or_0 (bytes_of xs) text

@@ -1,21 +1,51 @@
--- Numbering the paths unit by unit numbers those of all units; for src/path_rows.rt.
-use Rattle.std.proofs.Common.{◌≡◌, ℕ, zero, suc, ◌<◌, length, get_or, map, List, [], ◌∷◌, Some, arith, ap, ◌∙◌}
-use Rattle.std.specs.List.{slice_get}
-use Rattle.std.proofs.lemmas.List.{nil_from_length}
+-- The FILE number of a path, given its unit and its number in the unit's line table.
+use Rattle.std.proofs.Common.{◌≡◌, ℕ, zero, suc, ◌≤◌, length, map, List, [], ◌∷◌, ◌++◌, Option, None, Some, unwrap_or, arith, refl, sym, ap, subst, ◌∙◌}
+use Rattle.std.specs.List.{slice_get, All}
+use Rattle.std.proofs.lemmas.List.Elements.{All-append}
 use Rattle.debug_units.specs.declared.unit_read.UnitRead.{UnitRead}
-use Rattle.func_records.specs.internal.Spelling.{number_or_0, unit_numbers}
+use Rattle.func_records.specs.internal.Spelling.{number_or_0, unit_numbers, row_of, IsNumbered}
+use Rattle.func_records.specs.declared.path_numbers.NumberedPath.{NumberedPath}
 
-pub row_there : (paths : List (List ℕ)) (units : List UnitRead) (k : ℕ) (part : UnitRead) (row : List ℕ) → Some part ≡ slice_get units k → row ≡ map (number_or_0 paths) part.lines.paths → Some row ≡ slice_get (unit_numbers paths units) k
-row_there paths [] k part row there is = cc
-row_there paths (u ∷ units) zero part row there is =
-    let same : part ≡ u = cc in
-    ap Some (is ∙ ap (λ (p : UnitRead). map (number_or_0 paths) p.lines.paths) same)
-row_there paths (u ∷ units) (suc k) part row there is = row_there paths units k part row there is
+-- The numbers of the paths of a unit, if there is one.
+abbrev pub numbers_in : List (List ℕ) → Option UnitRead → List ℕ
+numbers_in paths None = []
+numbers_in paths (Some u) = map (number_or_0 paths) u.lines.paths
 
-pub rows_whole : (paths : List (List ℕ)) (units : List UnitRead) (rows : List (List ℕ)) → length rows ≡ length units → ((k : ℕ) (d : List ℕ) → k < length rows → Some (get_or rows k d) ≡ slice_get (unit_numbers paths units) k) → rows ≡ unit_numbers paths units
-rows_whole paths [] rows count each = nil_from_length rows count
-rows_whole paths (u ∷ units) [] count each = absurd (omega (arith, count))
-rows_whole paths (u ∷ units) (row ∷ rows) count each =
-    let first : row ≡ map (number_or_0 paths) u.lines.paths = (let here : Some row ≡ Some (map (number_or_0 paths) u.lines.paths) = each 0 [] (omega arith) in cc) in
-    ap (λ l. l ∷ rows) first
-    ∙ ap (λ l. map (number_or_0 paths) u.lines.paths ∷ l) (rows_whole paths units rows (omega (arith, count)) (λ k d below. each (suc k) d (omega (arith, below))))
+pub row_is : (paths : List (List ℕ)) (units : List UnitRead) (unit : ℕ) → row_of (unit_numbers paths units) unit ≡ numbers_in paths (slice_get units unit)
+row_is paths [] unit = refl
+row_is paths (u ∷ units) zero = refl
+row_is paths (u ∷ units) (suc unit) = row_is paths units unit
+
+-- What the row of a unit has for a path is what the unit gives.
+row_number : (paths : List (List ℕ)) (units : List UnitRead) (unit path : ℕ) (part : Option UnitRead) → part ≡ slice_get units unit → unwrap_or (slice_get (row_of (unit_numbers paths units) unit) path) 0 ≡ unwrap_or (slice_get (numbers_in paths part) path) 0
+row_number paths units unit path part is = ap (λ row. unwrap_or (slice_get row path) 0) (row_is paths units unit ∙ ap (numbers_in paths) (sym is))
+
+-- Without a unit the number is 0.
+pub no_unit : (paths : List (List ℕ)) (units : List UnitRead) (unit path : ℕ) → None ≡ slice_get units unit → 0 ≡ unwrap_or (slice_get (row_of (unit_numbers paths units) unit) path) 0
+no_unit paths units unit path none = sym (row_number paths units unit path None none)
+
+past : (f : List ℕ → ℕ) (table : List (List ℕ)) (path : ℕ) → length table ≤ path → 0 ≡ unwrap_or (slice_get (map f table) path) 0
+past f [] path beyond = refl
+past f (t ∷ table) zero beyond = absurd (omega (arith, beyond))
+past f (t ∷ table) (suc path) beyond = past f table path (omega (arith, beyond))
+
+-- Without such a path the number is 0.
+pub no_path_there : (paths : List (List ℕ)) (units : List UnitRead) (unit path : ℕ) (part : UnitRead) → Some part ≡ slice_get units unit → length part.lines.paths ≤ path → 0 ≡ unwrap_or (slice_get (row_of (unit_numbers paths units) unit) path) 0
+no_path_there paths units unit path part is beyond = past (number_or_0 paths) part.lines.paths path beyond ∙ sym (row_number paths units unit path (Some part) is)
+
+there : (f : List ℕ → ℕ) (table : List (List ℕ)) (path : ℕ) (text : List ℕ) → Some text ≡ slice_get table path → f text ≡ unwrap_or (slice_get (map f table) path) 0
+there f [] path text is = absurd (cc)
+there f (t ∷ table) zero text is = ap f (let same : text ≡ t = cc in same)
+there f (t ∷ table) (suc path) text is = there f table path text is
+
+-- The number of a path is that of its text.
+pub path_numbered : (paths : List (List ℕ)) (units : List UnitRead) (unit path : ℕ) (part : UnitRead) (text : List ℕ) → Some part ≡ slice_get units unit → Some text ≡ slice_get part.lines.paths path → number_or_0 paths text ≡ unwrap_or (slice_get (row_of (unit_numbers paths units) unit) path) 0
+path_numbered paths units unit path part text is has = there (number_or_0 paths) part.lines.paths path text has ∙ sym (row_number paths units unit path (Some part) is)
+
+-- A list of numbered paths with one more.
+pub numbered_more : (rows : List (List ℕ)) (list after : List NumberedPath) (one : NumberedPath) → All (IsNumbered rows) list → IsNumbered rows one → after ≡ list ++ one ∷ [] → All (IsNumbered rows) after
+numbered_more rows list after one all is added = subst (All (IsNumbered rows)) (sym added) (All-append (IsNumbered rows) list (one ∷ []) all alone)
+  where
+    alone : All (IsNumbered rows) (one ∷ [])
+    alone zero d below = is
+    alone (suc k) d below = absurd (omega (arith, below))

@@ -18,7 +18,7 @@ use Rattle.func_records.specs.declared.found.FoundShare.{FoundShare}
 use Rattle.func_records.specs.declared.path_list.PathRef.{PathRef}
 use Rattle.func_records.specs.FuncRecords.{Part, pieces_of, AreLined, EndBelow, names_path}
 use Rattle.func_records.specs.internal.Calls.{AreAllKnown}
-use Rattle.func_records.specs.internal.Gathering.{bytes_of, path_at, has_path, AreHeld, Gathered, copies_of}
+use Rattle.func_records.specs.internal.Gathering.{path_at, has_path, AreHeld, Gathered, copies_of}
 use Rattle.func_records.specs.internal.Origins.{made_name, entry_names, all_names, all_refs, all_numbers, name_number, ref_numbers}
 use Rattle.func_records.specs.internal.Parts.{part_by, parts_by, AddsParts}
 use Rattle.unit_workers.specs.Shares.{share}

@@ -1,4 +1,4 @@
-use Rattle.std.proofs.Common.{◌≡◌, ℕ, zero, suc, ◌+◌, ◌<◌, ◌≤◌, Bool, true, false, map, length, take, get_or, ◌++◌, List, [], ◌∷◌, Some, arith, refl, sym, ap, subst, ◌∙◌, Bor, IsPermutation, Any, inl, inr}
+use Rattle.std.proofs.Common.{◌≡◌, ℕ, zero, suc, ◌+◌, ◌<◌, ◌≤◌, Bool, true, false, map, length, take, drop, get_or, ◌++◌, List, [], ◌∷◌, Some, arith, refl, sym, ap, subst, ◌∙◌, Bor, IsPermutation, Any, inl, inr}
 use Rattle.std.proofs.lemmas.Bool.Decides.{leb_tells}
 use Rattle.std.specs.List.{slice_get, slice_index_or}
 use Rattle.std.specs.List.Sorted.{IsSorted, IsStrictlySortedBy, IsNonDecreasingBy, IsPartitionPoint}
@@ -6,6 +6,7 @@ use Rattle.std.specs.List.Retain.{IsFiltered, DiffersFromLast}
 use Rattle.std.specs.Str.{bytes_eq}
 use Rattle.std.specs.Ordering.{nat_cmp, eq_by_cmp, is_eq, is_lt, ordering_reverse, ordering_then, ordering_index}
 use Rattle.std.specs.declared.cmp.Ordering.{Ordering}
+use Rattle.std.proofs.Math.Seq.{take-append_seam}
 use Rattle.std.proofs.lemmas.List.{length-map, map-append}
 use Rattle.func_records.proofs.ListLemmas.{take_next}
 use Rattle.std.specs.declared.cmp.Ordering.TheVariants.{Less, Equal, Greater}
@@ -16,7 +17,7 @@ use Rattle.std.proofs.lemmas.Map.Text.{is_eq-slice_cmp}
 use Rattle.std.proofs.lemmas.Slice.Eq.{bytes_eq-Decides}
 use Rattle.std.proofs.lemmas.List.Filters.{dedup_is}
 use Rattle.std.proofs.lemmas.List.Kept.{IsStrictlySortedBy-dedup, Any-dedup, Contains-from_dedup}
-use Rattle.std.proofs.lemmas.List.Sorted.{IsPermutation-sym, IsPermutation-map, Contains-permutation, searchable_from_sorted}
+use Rattle.std.proofs.lemmas.List.Sorted.{length_permutation, IsPermutation-sym, IsPermutation-map, Contains-permutation, searchable_from_sorted}
 use Rattle.func_records.specs.internal.Texts.{text_cmp, SameTexts}
 
 abbrev text_eq : Bor (List ℕ) → Bor (List ℕ) → Bool
@@ -105,3 +106,7 @@ none_there xs t i strict position any =
       | inl late ↦ (let more : text_cmp (slice_index_or xs any.0 any.1) t ≡ Greater = point.1 any.0 any.1 late.1 any.2 in cc)
       | inr early ↦ (let less : text_cmp (slice_index_or xs any.0 any.1) t ≡ Less = point.0 any.0 any.1 (omega arith) early.1 in cc)
     ]
+
+-- A vector whose slice was sorted has the sorted list.
+pub sorted_in_place : {X : Type 0} (old new : List X) (n : ℕ) → n ≡ length old → IsPermutation old new → take n (new ++ drop (length new) old) ≡ new
+sorted_in_place old new n is moved = ap (λ k. take k (new ++ drop (length new) old)) (is ∙ sym (length_permutation old new moved)) ∙ take-append_seam new (drop (length new) old)

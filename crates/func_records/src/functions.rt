@@ -10,11 +10,11 @@ use crate::made_names::{DistinctNames, distinct_names};
 use crate::names::{gather_names, join_refs};
 use crate::numbers::{Numbers, number_of, numbers_at, numbers_of};
 use crate::path_list::no_path;
-use crate::path_rows::number_rows;
-use crate::paths::path_texts;
+use crate::path_numbers::PathNumbers;
+use crate::paths::{UsedPaths, used_paths};
 use crate::speller::{FoundPieces, add_shares};
 use crate::text_numbers::{Numbering, add_texts};
-use crate::text_ranks::ranked_texts;
+use crate::text_ranks::{RankedTexts, ranked_texts};
 use crate::writer::FuncWriter;
 use debug_units::Units;
 use die_names::NameRef;
@@ -37,7 +37,7 @@ fn add_names<R: Threads + Sync>(
     let alloc = crew.alloc();
     let named = gather_names(crew, units, refs)?;
     let DistinctNames { texts, places } = distinct_names(alloc, named.as_slice())?;
-    let ranked = ranked_texts(alloc, texts.as_slice())?;
+    let ranked = ranked_texts(crew, texts.as_slice())?;
     let names = ranked.sorted.as_slice();
     if names.len() > u32::MAX as usize {
         return Err(OutOfMemory);
@@ -69,13 +69,15 @@ pub fn add_functions<R: Threads + Sync>(
     let alloc = crew.alloc();
     let found = find_shares(crew, units, pieces)?;
     let shares = found.as_slice();
-    let used = path_texts(alloc, units, shares)?;
-    let ranked = ranked_texts(alloc, used.as_slice())?;
-    let paths = ranked.sorted.as_slice();
+    let UsedPaths { refs, texts } = used_paths(alloc, units, shares)?;
+    let ranked = ranked_texts(crew, texts.as_slice())?;
+    let RankedTexts { sorted, guesses } = ranked;
+    let paths = sorted.as_slice();
     if paths.len() > u32::MAX as usize {
         return Err(OutOfMemory);
     }
-    let rows = number_rows(crew, units, paths)?;
+    let rows = PathNumbers::of(crew, units, paths, refs.as_slice(), guesses.as_slice())?;
+    let omitted = number_of(paths, no_path());
     let mut text = front;
     add_texts(alloc, Numbering::Files, paths, &mut text)?;
     let numbers = {
@@ -86,8 +88,8 @@ pub fn add_functions<R: Threads + Sync>(
         base,
         units,
         numbers: Numbers {
-            rows: rows.as_slice(),
-            omitted: number_of(paths, no_path()),
+            rows: &rows,
+            omitted,
             entries: shares,
             numbers: numbers.as_slice(),
         },

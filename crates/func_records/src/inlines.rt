@@ -11,7 +11,7 @@ ghost use Rattle.func_records.specs.internal.Spelling.{row_of};
 ghost use Rattle.die_names.specs.Names.{entry_name};
 
 use crate::calls::call_site;
-use crate::numbers::{number_in, row_in};
+use crate::numbers::Numbers;
 use crate::writer::FuncWriter;
 use inline_chain::InlineRun;
 use sym_edges::{OutOfMemory, Span};
@@ -44,12 +44,12 @@ fn fill_ranges(base: u64, spans: &[Span], ranges: &mut Vec<Extent>) -> Result<()
 }
 
 /// The FILE number of a call's path.
-fn file_number(row: &[u32], omitted: u32, path: Option<u32>) -> u32
-    ensures { result ≡ file_by row.now omitted path }
+fn file_number(numbers: Numbers<'_, '_>, unit: u32, path: Option<u32>) -> u32
+    ensures { result ≡ file_by (row_of numbers.entry.rows.now unit) numbers.entry.omitted path }
 {
     match path {
-        Some(path) => number_in(row, path as usize),
-        None => omitted,
+        Some(path) => numbers.rows.number(unit, path).number,
+        None => numbers.omitted,
     }
 }
 
@@ -70,8 +70,7 @@ fn add_copy(
 {
     records_of_functions_fit();
     let site = call_site(writer.units, unit, copy.entry);
-    let row = row_in(writer.numbers.rows, unit as usize);
-    let file = file_number(row, writer.numbers.omitted, site.path);
+    let file = file_number(writer.numbers, unit, site.path);
     fill_ranges(writer.base, copy.spans.spans(), ranges)?;
     add_inline(text, copy.level, site.line, file, origin, ranges.as_slice())
 }

@@ -2,14 +2,14 @@
 //!
 //! [`add_functions`] goes over the pieces of functions twice, share by share. First it finds the inlined copies of each piece and keeps them. It also
 //! gathers which entries name the inlined functions, and which paths line records and calls will name. The names and the paths of all shares are
-//! sorted by their bytes and numbered, the paths unit by unit. Then it spells the records of each piece, and makes the line runs of the piece on the
+//! sorted by their bytes and numbered. Then it spells the records of each piece, and makes the line runs of the piece on the
 //! spot. Nothing is kept for a line record. `specs/FuncRecords.antt` defines these records. `specs/TextNames.antt` defines what a look-up names in a
 //! text that has them: at each address the function that owns it, the calls that are inlined there, and its line in the file
 //! (`laws::names_are_kept`). A checker finds nothing in such a text (`laws::records_have_no_findings`).
 //!
 //! The modules are best read in this order: `functions`; `shares`, `found`, `finder`;
 //! `origin_refs`, `made_names`, `names`; `calls`, `path_list`, `line_paths`, `call_paths`, `paths`;
-//! `text_ranks`, `gaps`, `numbers`, `path_rows`; `text_numbers`, `inlines`, `parts`; `speller`.
+//! `text_ranks`, `numbers`, `path_numbers`; `text_numbers`, `inlines`, `parts`; `speller`.
 #![tactic(auto)]
 
 mod call_paths;
@@ -17,7 +17,6 @@ mod calls;
 mod finder;
 mod found;
 mod functions;
-mod gaps;
 mod inlines;
 pub mod laws;
 mod line_paths;
@@ -27,7 +26,7 @@ mod numbers;
 mod origin_refs;
 mod parts;
 mod path_list;
-mod path_rows;
+mod path_numbers;
 mod paths;
 mod shares;
 mod speller;

@@ -4,17 +4,18 @@ ghost use Rattle.std.specs.Str.{bytes_eq};
 ghost use Rattle.std.specs.List.Sorted.{IsStrictlySortedBy};
 ghost use Rattle.func_records.specs.internal.Texts.{text_cmp};
 ghost use Rattle.func_records.specs.internal.Gathering.{bytes_of};
-ghost use Rattle.func_records.specs.internal.Spelling.{number_or_0, row_of};
+ghost use Rattle.func_records.specs.internal.Spelling.{number_or_0};
 
 use crate::found::FoundShare;
+use crate::path_numbers::PathNumbers;
 use std::alloc::Global;
-use sym_edges::{ListOf, OutOfMemory};
+use sym_edges::OutOfMemory;
 
 /// The numbers in the text: those of the paths in each unit's table, that of the text for an unknown path, and those of the names that the entries of
 /// some shares give.
 #[derive(Clone, Copy)]
-pub struct Numbers<'n> {
-    pub rows: &'n [ListOf<u32>],
+pub struct Numbers<'n, 'a> {
+    pub rows: &'n PathNumbers<'n, 'a>,
     pub omitted: u32,
     pub entries: &'n [FoundShare],
     pub numbers: &'n [u32],
@@ -53,7 +54,7 @@ fn is_text(found: &[u8], text: &[u8]) -> bool
 }
 
 /// The number of a text in use, and 0 for other texts. The place `guess` is tried first.
-fn number_guessed(sorted: &[&[u8]], text: &[u8], guess: u32) -> u32
+pub fn number_guessed(sorted: &[&[u8]], text: &[u8], guess: u32) -> u32
     requires sorted { IsStrictlySortedBy text_cmp sorted.now }
     requires few { length sorted.now < 2 ^ 32 }
     ensures { result ≡ number_or_0 (bytes_of sorted.now) text.now }
@@ -101,21 +102,11 @@ pub fn numbers_at(alloc: Global, numbers: &[u32], places: &[u32]) -> Result<Vec<
     Ok(found)
 }
 
-/// The FILE numbers of a unit's paths.
-pub fn row_in(rows: &[ListOf<u32>], unit: usize) -> &[u32]
-    ensures { result.now ≡ row_of rows.now unit }
+/// The number at a place, or 0.
+pub fn number_in(numbers: &[u32], place: usize) -> u32
+    ensures { result ≡ unwrap_or (slice_get numbers.now place) 0 }
 {
-    match rows.get(unit) {
-        Some(row) => row.as_slice(),
-        None => &[],
-    }
-}
-
-/// The FILE number of a path.
-pub fn number_in(row: &[u32], path: usize) -> u32
-    ensures { result ≡ unwrap_or (slice_get row.now path) 0 }
-{
-    match row.get(path) {
+    match numbers.get(place) {
         Some(number) => *number,
         None => 0,
     }

@@ -1,19 +1,20 @@
 //! Spells the records of functions, their inlined copies and their lines.
-ghost use Rattle.std.specs.Prelude.{◌≡◌, ◌++◌, ◌<◌, ◌^◌, None, true, length, map, unwrap_or, OnOk};
+ghost use Rattle.std.specs.Prelude.{◌≡◌, ◌++◌, ◌<◌, ◌^◌, ◌-◌, None, true, length, map, unwrap_or, OnOk};
 ghost use Rattle.std.specs.List.{list_all, slice_get};
 ghost use Rattle.std.specs.Option.{option_copied};
 ghost use Rattle.sym_records.specs.Canon.{canon, canon_text};
 ghost use Rattle.clean_names.specs.Cleaning.{cleaned};
 ghost use Rattle.sym_records.specs.Spelled.{text_bytes};
 ghost use Rattle.sym_records.specs.Validity.{fields_fit};
+ghost use Rattle.sym_records.specs.declared.line.SymLine.TheVariants.{Line};
 ghost use Rattle.func_flatten.specs.LineRuns.{AreLineRuns};
 ghost use Rattle.func_records.specs.FuncRecords.{func_record};
 ghost use Rattle.func_records.specs.internal.Origins.{copy_numbers, all_numbers};
 ghost use Rattle.func_records.specs.internal.Parts.{AreShort, AreAllShort, AddsPart, AddsParts};
-ghost use Rattle.func_records.specs.internal.Spelling.{line_by};
+ghost use Rattle.func_records.specs.internal.Spelling.{line_by, row_of};
 
 use crate::inlines::add_copies;
-use crate::numbers::{number_in, row_in};
+use crate::path_numbers::PathNumbers;
 use crate::writer::FuncWriter;
 use die_names::{name_of, name_slice, name_text};
 use flat_lists::FlatLists;
@@ -24,26 +25,36 @@ use sym_edges::OutOfMemory;
 use sym_records::laws::{cleaned_bytes_are_names, records_of_functions_fit};
 use sym_records::{Extent, TextPieces, add_func, add_line};
 
-/// Adds the record of a run.
-fn add_run(text: &mut Vec<u8>, base: u64, row: &[u32], run: LineRun) -> Result<(), OutOfMemory>
-    ensures text { OnOk result (text.new.items ≡ text.old.items ++ canon (line_by base row.now run)) }
-    ensures fit { fields_fit (line_by base row.now run) ≡ true }
+/// Adds the record of a run, whose path has the FILE number `file`.
+fn add_run(text: &mut Vec<u8>, base: u64, file: u32, run: LineRun) -> Result<(), OutOfMemory>
+    ensures text { OnOk result (text.new.items ≡ text.old.items ++ canon (Line (run.start - base) (run.end - run.start) run.line file)) }
+    ensures fit { fields_fit (Line (run.start - base) (run.end - run.start) run.line file) ≡ true }
 {
     records_of_functions_fit();
-    let file = number_in(row, run.path as usize);
     let address = run.start.saturating_sub(base);
     let size = run.end.saturating_sub(run.start);
     add_line(text, address, size, run.line, file)
 }
 
-/// Adds the records of some runs.
-fn add_runs(text: &mut Vec<u8>, base: u64, row: &[u32], runs: &[LineRun]) -> Result<(), OutOfMemory>
-    ensures text { OnOk result (text.new.items ≡ text.old.items ++ canon_text (map (line_by base row.now) runs.now)) }
-    ensures fit { OnOk result (list_all fields_fit (map (line_by base row.now) runs.now) ≡ true) }
+/// Adds the records of some runs of a unit.
+fn add_runs(
+    text: &mut Vec<u8>,
+    base: u64,
+    rows: &PathNumbers<'_, '_>,
+    unit: u32,
+    runs: &[LineRun],
+) -> Result<(), OutOfMemory>
+    ensures text { OnOk result (text.new.items ≡ text.old.items ++ canon_text (map (line_by base (row_of rows.now unit)) runs.now)) }
+    ensures fit { OnOk result (list_all fields_fit (map (line_by base (row_of rows.now unit)) runs.now) ≡ true) }
 {
+    let Some(first) = runs.first() else {
+        return Ok(());
+    };
+    let mut known = rows.number(unit, first.path);
     let mut rest = runs;
     'runs: while let Some((run, later)) = rest.split_first() {
-        add_run(text, base, row, *run)?;
+        known = rows.number_after(known, run.path);
+        add_run(text, base, known.number, *run)?;
         rest = later;
     }
     Ok(())
@@ -98,8 +109,9 @@ fn add_part(
     let ranges = &mut lists.ranges;
     add_copies(writer, piece.unit, copies, origins, ranges, &mut text.last)?;
     lines_of(writer.units, piece, &mut lists.runs)?;
-    let row = row_in(writer.numbers.rows, piece.unit as usize);
-    add_runs(&mut text.last, writer.base, row, lists.runs.as_slice())?;
+    let runs = lists.runs.as_slice();
+    let rows = writer.numbers.rows;
+    add_runs(&mut text.last, writer.base, rows, piece.unit, runs)?;
     text.turn(alloc)?;
     Ok(())
 }

@@ -76,7 +76,18 @@ fn path_starts(alloc: Global, units: &Units<'_>) -> Result<(Vec<usize>, usize), 
     Ok((starts, count))
 }
 
-/// The paths that were found, each once.
+/// How many paths were found in all shares together.
+fn found_count(shares: &[FoundShare]) -> usize {
+    let mut count: usize = 0;
+    'shares: for share in shares {
+        count = count.saturating_add(share.paths.len());
+    }
+    count
+}
+
+/// The paths that were found, mostly once each. The number of slots is bounded by what was found,
+/// since units that share a line table of many files have many paths that no record names. A path
+/// without a slot of its own is added each time it is found.
 fn join_paths(
     alloc: Global,
     units: &Units<'_>,
@@ -85,22 +96,32 @@ fn join_paths(
     ensures { IfOk result (λ list. (path : List ℕ) → has_path units.now list path ≡ has_path units.now (all_paths shares.now) path) }
 {
     let (starts, count) = path_starts(alloc, units)?;
-    let mut list = PathList::new(alloc, count)?;
+    let most = found_count(shares)
+        .saturating_mul(16)
+        .saturating_add(SLOTS);
+    let mut list = PathList::new(alloc, count.min(most))?;
     'shares: for k in 0..shares.len() {
         list.add_all(starts.as_slice(), shares[k].paths.as_slice())?;
     }
     Ok(list)
 }
 
-/// The texts of the paths that were found.
-pub fn path_texts<'u>(
+/// The paths in use by their numbers, mostly once each, and their texts.
+#[derive(Drop)]
+pub struct UsedPaths<'u> {
+    pub refs: Vec<PathRef>,
+    pub texts: Vec<&'u [u8]>,
+}
+
+/// The paths that were found.
+pub fn used_paths<'u>(
     alloc: Global,
     units: &'u Units<'_>,
     shares: &[FoundShare],
-) -> Result<Vec<&'u [u8]>, OutOfMemory>
-    ensures { IfOk result (λ texts. (path : List ℕ) → has_text texts.items path ≡ has_path units.now (all_paths shares.now) path) }
+) -> Result<UsedPaths<'u>, OutOfMemory>
+    ensures { IfOk result (λ used. (path : List ℕ) → has_text used.texts.items path ≡ has_path units.now (all_paths shares.now) path) }
 {
     let refs = join_paths(alloc, units, shares)?.into_refs();
     let texts = texts_of(alloc, units, refs.as_slice())?;
-    Ok(texts)
+    Ok(UsedPaths { refs, texts })
 }

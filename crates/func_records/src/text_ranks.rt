@@ -4,7 +4,9 @@ ghost use Rattle.std.specs.List.Sorted.{IsStrictlySortedBy};
 ghost use Rattle.func_records.specs.internal.Texts.{text_cmp, SameTexts};
 
 use std::alloc::Global;
+use std::thread::Threads;
 use sym_edges::OutOfMemory;
+use unit_workers::Crew;
 
 /// A text, and its place among the given texts.
 type PlacedText<'t> = (&'t [u8], u32);
@@ -64,15 +66,19 @@ fn guess_places(alloc: Global, placed: &[PlacedText<'_>]) -> Result<Vec<u32>, Ou
 }
 
 /// The texts in the order of their bytes, each once.
-pub fn ranked_texts<'t>(alloc: Global, texts: &[&'t [u8]]) -> Result<RankedTexts<'t>, OutOfMemory>
+pub fn ranked_texts<'t, R: Threads + Sync>(
+    crew: &Crew<'_, R>,
+    texts: &[&'t [u8]],
+) -> Result<RankedTexts<'t>, OutOfMemory>
     ensures sorted { IfOk result (λ ranked. IsStrictlySortedBy text_cmp ranked.sorted.items) }
     ensures same { IfOk result (λ ranked. SameTexts texts.now ranked.sorted.items) }
 {
     if texts.len() > u32::MAX as usize {
         return Err(OutOfMemory);
     }
+    let alloc = crew.alloc();
     let mut placed = place_texts(alloc, texts)?;
-    placed.sort_unstable();
+    crew.sort(placed.as_mut_slice())?;
     let mut sorted = bare_texts(alloc, placed.as_slice())?;
     sorted.dedup();
     let guesses = guess_places(alloc, placed.as_slice())?;

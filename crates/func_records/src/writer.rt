@@ -7,5 +7,5 @@ use debug_units::Units;
 pub struct FuncWriter<'u, 'a, 'n> {
     pub base: u64,
     pub units: &'u Units<'a>,
-    pub numbers: Numbers<'n>,
+    pub numbers: Numbers<'n, 'a>,
 }

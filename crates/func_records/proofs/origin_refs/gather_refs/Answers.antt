@@ -1,4 +1,4 @@
-use Rattle.std.proofs.Common.{arith, refl, ◌∙◌, subst, take}
+use Rattle.std.proofs.Common.{arith, refl, subst, take}
 use Rattle.func_records.specs.internal.Origins.{RefsSay, all_names}
 use Rattle.func_records.proofs.ListLemmas.{member_at}
 use Rattle.func_records.proofs.OriginLemmas.{names_next, refs_none}

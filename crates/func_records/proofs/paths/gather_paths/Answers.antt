@@ -1,4 +1,4 @@
-use Rattle.std.proofs.Common.{arith, ◌∙◌}
+use Rattle.std.proofs.Common.{arith}
 use Rattle.func_records.proofs.ListLemmas.{member_at}
 use Rattle.func_records.proofs.PathLemmas.{gathered_none, gathered_next}
 use Rattle.func_records.proofs.paths.gather_paths.Goals as goal

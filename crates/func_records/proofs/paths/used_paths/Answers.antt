@@ -1,7 +1,7 @@
 use Rattle.std.proofs.Common.{ap, ◌∙◌}
 use Rattle.func_records.specs.internal.Gathering.{has_path}
 use Rattle.func_records.proofs.UsedLemmas.{paths_had}
-use Rattle.func_records.proofs.paths.path_texts.Goals as goal
+use Rattle.func_records.proofs.paths.used_paths.Goals as goal
 
 pub returns : goal.returns
 returns c = λ path.
