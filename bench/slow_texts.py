@@ -224,6 +224,7 @@ CASES = (
     ("lines of 209,000 rules", CHECK, lambda n: under(INIT, many(whole(b"STACK CFI 0 a: 1", b" a: 1"), 20 * n))),
     ("lines of half a million words", CHECK, lambda n: under(INIT, many(whole(b"STACK CFI 0 a: 1", b" 1"), 20 * n))),
     ("two rules of 262,000 words at each of 1,024 frames", WALK, long_rules),
+    ("a FUNC name of a million bytes at each of 1,024 frames", WALK, lambda n: [b"FUNC 0 8 0 %s\n" % (b"a" * (n * M)), b"STACK CFI INIT 0 8 %s\n" % ENDLESS]),
     ("20,000 fetches of memory in 40,000 runs in no order", FRAME, lambda n: fetches(n * 10_000)),
     ("a million registers", FRAME, lambda n: of_state(many(b"REG r15 1\n", n * M))),
     ("1.8 million runs of memory", FRAME, lambda n: of_state(many(b"MEM 0 00\n", n * 900_000))),
