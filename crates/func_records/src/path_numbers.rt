@@ -26,13 +26,7 @@ pub struct NumberedPath {
 /// The FILE number of a path of a unit: the number of its text among the sorted ones. It is 0 if
 /// the unit has no such path, or the text is not among them. The place `guess` is tried first.
 #[tactic(auto, using(crate::proofs::RowLemmas::no_unit, crate::proofs::RowLemmas::no_path_there, crate::proofs::RowLemmas::path_numbered))]
-fn number_in_table(
-    units: &Units<'_>,
-    sorted: &[&[u8]],
-    unit: u32,
-    path: u32,
-    guess: u32,
-) -> u32
+fn number_in_table(units: &Units<'_>, sorted: &[&[u8]], unit: u32, path: u32, guess: u32) -> u32
     requires sorted { IsStrictlySortedBy text_cmp sorted.now }
     requires few { length sorted.now < 2 ^ 32 }
     ensures { result ≡ unwrap_or (slice_get (row_of (unit_numbers (bytes_of sorted.now) units.now) unit) path) 0 }

@@ -96,9 +96,7 @@ fn join_paths(
     ensures { IfOk result (λ list. (path : List ℕ) → has_path units.now list path ≡ has_path units.now (all_paths shares.now) path) }
 {
     let (starts, count) = path_starts(alloc, units)?;
-    let most = found_count(shares)
-        .saturating_mul(16)
-        .saturating_add(SLOTS);
+    let most = found_count(shares).saturating_mul(16).saturating_add(SLOTS);
     let mut list = PathList::new(alloc, count.min(most))?;
     'shares: for k in 0..shares.len() {
         list.add_all(starts.as_slice(), shares[k].paths.as_slice())?;

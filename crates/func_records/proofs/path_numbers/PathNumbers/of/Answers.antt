@@ -9,6 +9,7 @@ use Rattle.func_records.proofs.path_numbers.PathNumbers.of.Goals as goal
 pub invariant_of-result : goal.invariant_of-result
 invariant_of-result g c =
     let moved : IsPermutation c.in_ok-list.list.items c.sort.new.items = subst (λ old. IsPermutation old c.sort.new.items) c.as_mut_slice.ensures.value c.in_ok-sort.ensures.same in
-    let all : All (IsNumbered (unit_numbers (bytes_of c.args.sorted.now) c.args.units.now)) c.sort.new.items = All-permutation (IsNumbered (unit_numbers (bytes_of c.args.sorted.now) c.args.units.now)) c.in_ok-list.list.items c.sort.new.items moved c.in_ok-list.ensures in
-    (record { sorted = c.requires.sorted; few = c.requires.few },
-     subst (All (IsNumbered (unit_numbers (bytes_of c.args.sorted.now) c.args.units.now))) (sym (sorted_in_place c.in_ok-list.list.items c.sort.new.items c.in_ok-list.list.len c.in_ok-list.list.ok.0 moved)) all)
+    let all : All (IsNumbered (unit_numbers (bytes_of c.args.sorted.now) c.args.units.now)) c.sort.new.items = All-permutation (IsNumbered (unit_numbers (bytes_of c.args.sorted.now) c.args.units.now)) c.in_ok-list.list.items c.sort.new.items moved c.in_ok-list.ensures in (
+      record { sorted = c.requires.sorted; few = c.requires.few },
+      subst (All (IsNumbered (unit_numbers (bytes_of c.args.sorted.now) c.args.units.now))) (sym (sorted_in_place c.in_ok-list.list.items c.sort.new.items c.in_ok-list.list.len c.in_ok-list.list.ok.0 moved)) all,
+    )
