@@ -1,4 +1,4 @@
-use Rattle.std.proofs.Common.{List, ◌++◌, ◌∙◌, IfOk, subst, sym}
+use Rattle.std.proofs.Common.{rules, List, ◌++◌, ◌∙◌, IfOk, subst, sym}
 use Rattle.sym_records.specs.declared.line.SymLine.{SymLine}
 use Rattle.sym_records.specs.Spelled.{text_bytes}
 use Rattle.sym_records.proofs.SpelledLemmas.{spelled_reads}
@@ -6,9 +6,15 @@ use Rattle.rule_postfix.specs.Written.{written, written_lines}
 use Rattle.rule_postfix.proofs.WrittenLemmas.{written_valid}
 use Rattle.dumpsyms_cmd.specs.commands.Dump.{identity_lines, public_lines}
 use Rattle.dumpsyms_cmd.specs.internal.Spelled.{HasHead, HasFrames}
+use Rattle.debug_units.specs.CleanPaths.{HaveCleanPaths}
 use Rattle.debug_read.proofs.PathLemmas.{read_clean}
 use Rattle.dumpsyms_cmd.proofs.CanonLemmas.{whole_spelled, whole_records, file_dumped}
 use Rattle.dumpsyms_cmd.proofs.dump.dump_file.Goals as goal
+
+pub both-front-requires-after_bounds : goal.both-front-requires-after_bounds
+both-front-requires-after_bounds g c κs within =
+    let clean : HaveCleanPaths c.args.debug.now.units = read_clean c.args.image.now c.args.debug.now c.requires.found in
+    (((search rules, clean), search rules), (search rules, search rules))
 
 pub of-requires : goal.of-requires
 of-requires g c =
