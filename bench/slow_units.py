@@ -87,12 +87,6 @@ def functions_of_lines(path, count, version, tables, rows, texts=b""):
     functions_with_lines(path, [0] * count, line_table(version, tables, sequence(CODE, b"\x21" * rows)), texts)
 
 
-def functions_of_files(path, scale):
-    count = 1_000 * scale
-    names = b"".join(b"%d.c\0" % k for k in range(count))
-    functions_of_lines(path, count, 5, b"\x01\x01\x08\x01/\0" + b"\x01\x01\x08" + leb(count) + names, 4)
-
-
 def files_in(path, count, directory):
     names = b"".join(b"%d.c\0" % k for k in range(count))
     functions_of_lines(path, 1, 5, b"\x01\x01\x08\x01" + directory + b"\0\x01\x01\x08" + leb(count) + names, 4)
@@ -201,7 +195,6 @@ def functions_of_one_address(path, scale):
 
 
 CASES = (
-    ("4,000 units with a function that share a line table of as many files", functions_of_files),
     ("10,000 files in a directory of 65,000 bytes", files_of_a_long_directory),
     ("4,000 functions whose lists begin at other places of one list of as many ranges", lists_in_a_list),
     ("20,000 symbols of one name that begins with 500,000 spaces", symbols_of_spaces),
