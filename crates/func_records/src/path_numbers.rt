@@ -9,6 +9,7 @@ ghost use Rattle.func_records.specs.internal.Spelling.{unit_numbers, row_of, IsN
 use crate::numbers::{number_guessed, number_in};
 use crate::path_list::PathRef;
 use debug_units::Units;
+use place_guesses::PlaceGuesses;
 use std::alloc::Global;
 use std::marker::Model;
 use std::thread::Threads;
@@ -81,13 +82,35 @@ fn first_places(
     Ok(firsts)
 }
 
+/// A key that distinguishes a path of a unit from all others.
+fn key_of(unit: u32, path: u32) -> u64 {
+    u64::from(unit) << 32 | u64::from(path)
+}
+
+/// For each member of a list, its place in the slot of its key, unless a later member has the same
+/// slot.
+fn note_places(alloc: Global, list: &[NumberedPath]) -> Result<PlaceGuesses, OutOfMemory> {
+    let mut guesses = PlaceGuesses::new(alloc, list.len().saturating_mul(4))?;
+    'list: for place in 0..list.len() {
+        let one = list[place];
+        let slot = guesses.slot_of(key_of(one.unit, one.path));
+        if place < u32::MAX as usize {
+            guesses.note(slot, place as u32);
+        }
+    }
+    Ok(guesses)
+}
+
 /// The FILE numbers of the paths in use. Only these are stored, so a line table that many units
-/// share takes no memory for each of them. `firsts` only says where a path is looked for.
+/// share takes no memory for each of them. `guesses` and `firsts` only say where a path is looked
+/// for: first at one place, which gains two hundredths of the instructions on a Rust program, and
+/// then among the paths of the unit.
 #[derive(Drop)]
 pub struct PathNumbers<'n, 'a> {
     units: &'n Units<'a>,
     sorted: &'n [&'n [u8]],
     list: Vec<NumberedPath>,
+    guesses: PlaceGuesses,
     firsts: Vec<usize>,
 }
 
@@ -120,13 +143,41 @@ impl<'n, 'a> PathNumbers<'n, 'a> {
         let alloc = crew.alloc();
         let mut list = number_refs(alloc, units, sorted, refs, guesses)?;
         crew.sort(list.as_mut_slice())?;
+        let guesses = note_places(alloc, list.as_slice())?;
         let firsts = first_places(alloc, list.as_slice(), units.as_slice().len())?;
         Ok(PathNumbers {
             units,
             sorted,
             list,
+            guesses,
             firsts,
         })
+    }
+
+    /// The member at a place of the list, if it is this path.
+    #[inline]
+    fn stored_at(&self, place: usize, unit: u32, path: u32) -> Option<NumberedPath>
+        ensures numbered { IfSome result (IsNumbered self.now) }
+        ensures same { IfSome result (λ one. (one.unit ≡ unit) × (one.path ≡ path)) }
+    {
+        let one = *self.list.get(place)?;
+        if one.unit == unit && one.path == path {
+            return Some(one);
+        }
+        None
+    }
+
+    /// The place in the list of a path, if it is among those of its unit.
+    fn place_of(&self, unit: u32, path: u32) -> Option<usize> {
+        let list = self.list.as_slice();
+        let from = *self.firsts.get(unit as usize)?;
+        let to = *self.firsts.get(unit as usize + 1)?;
+        let (front, _) = list.split_at(to.min(list.len()));
+        let (_, among) = front.split_at(from.min(front.len()));
+        match among.binary_search_by_key(&path, |one| one.path) {
+            Ok(place) => Some(from.saturating_add(place)),
+            Err(_) => None,
+        }
     }
 
     /// The stored number of a path.
@@ -134,23 +185,12 @@ impl<'n, 'a> PathNumbers<'n, 'a> {
         ensures numbered { IfSome result (IsNumbered self.now) }
         ensures same { IfSome result (λ one. (one.unit ≡ unit) × (one.path ≡ path)) }
     {
-        let list = self.list.as_slice();
-        let from = *self.firsts.get(unit as usize)?;
-        let to = *self.firsts.get(unit as usize + 1)?;
-        let (front, _) = list.split_at(to.min(list.len()));
-        let (_, among) = front.split_at(from.min(front.len()));
-        let Ok(place) = among.binary_search_by_key(&path, |one| one.path) else {
-            return None;
-        };
-        let one = *list.get(from.saturating_add(place))?;
-        if one.unit == unit && one.path == path {
-            return Some(one);
-        }
-        None
+        let place = self.place_of(unit, path)?;
+        self.stored_at(place, unit, path)
     }
 
-    /// The FILE number of a path of a unit, or 0.
-    pub fn number(&self, unit: u32, path: u32) -> NumberedPath
+    /// The FILE number of a path that is not at its guess.
+    fn search(&self, unit: u32, path: u32) -> NumberedPath
         ensures numbered { IsNumbered self.now result }
         ensures same { (result.unit ≡ unit) × (result.path ≡ path) }
     {
@@ -159,6 +199,19 @@ impl<'n, 'a> PathNumbers<'n, 'a> {
         }
         let number = number_in_table(self.units, self.sorted, unit, path, 0);
         NumberedPath { unit, path, number }
+    }
+
+    /// The FILE number of a path of a unit, or 0.
+    #[inline]
+    pub fn number(&self, unit: u32, path: u32) -> NumberedPath
+        ensures numbered { IsNumbered self.now result }
+        ensures same { (result.unit ≡ unit) × (result.path ≡ path) }
+    {
+        let slot = self.guesses.slot_of(key_of(unit, path));
+        match self.stored_at(self.guesses.guess(slot) as usize, unit, path) {
+            Some(one) => one,
+            None => self.search(unit, path),
+        }
     }
 
     /// The FILE number of a path of the same unit as `last`, which is often the path itself.
