@@ -1,9 +1,12 @@
 -- Leading spaces of a name (for `unspaced` and `clean`).
-use Rattle.std.proofs.Common.{◌≡◌, ◌≢◌, ℕ, ◌+◌, ◌<◌, ◌≤◌, ◌==◌, cond, Bool, true, false, List, [], ◌∷◌, length, drop, get_or, refl, sym, ◌∙◌, ap, arith}
+use Rattle.std.proofs.Common.{◌≡◌, ◌≢◌, ℕ, ◌+◌, ◌<◌, ◌≤◌, ◌==◌, cond, Bool, true, false, List, [], ◌∷◌, ◌++◌, length, take, drop, get_or, refl, sym, ◌∙◌, ap, arith}
 use Rattle.std.proofs.lemmas.Grind.{common_steps}
-use Rattle.std.proofs.lemmas.List.{at_drop_more}
+use Rattle.std.proofs.lemmas.List.{at_drop_more, take-append-drop}
+use Rattle.std.specs.List.{list_all}
+use Rattle.std.proofs.lemmas.Bool.{eqb-true}
 use Rattle.std.proofs.lemmas.Bool.Decides.{nat_tests}
 use Rattle.clean_names.specs.Names.{is_space, skip}
+use Rattle.clean_names.proofs.BoolLemmas.{and_true}
 
 pub skip_here : (x : ℕ) (xs : List ℕ) → x ≢ 32 → skip is_space (x ∷ xs) ≡ x ∷ xs
 unfolding skip
@@ -27,6 +30,16 @@ skip_none = refl
 
 pub skip_end : (bytes : List ℕ) (i : ℕ) → length bytes ≤ i → skip is_space (drop i bytes) ≡ []
 skip_end bytes i past = ap (skip is_space) (grind (arith, common_steps)) ∙ skip_none
+
+-- A block of spaces in front.
+spaces_before : (spaces bytes : List ℕ) → list_all is_space spaces ≡ true → skip is_space (spaces ++ bytes) ≡ skip is_space bytes
+spaces_before [] bytes all = refl
+spaces_before (b ∷ spaces) bytes all =
+    skip_space b (spaces ++ bytes) (eqb-true b 32 (and_true all).0) ∙ spaces_before spaces bytes (and_true all).1
+
+pub skip_front : (bytes block after : List ℕ) (n : ℕ) → block ≡ take n bytes → after ≡ drop n bytes → list_all is_space block ≡ true → skip is_space after ≡ skip is_space bytes
+skip_front bytes block after n front back all =
+    ap (skip is_space) back ∙ sym (spaces_before (take n bytes) (drop n bytes) (ap (list_all is_space) (sym front) ∙ all)) ∙ ap (skip is_space) (take-append-drop n bytes)
 
 -- The first byte, if there is one, is not a space.
 abbrev pub Begins : List ℕ → Type 0

@@ -11,6 +11,9 @@ use sym_edges::{ByteRun, OutOfMemory};
 /// The greatest length of a cleaned name, in bytes.
 pub const NAME_LIMIT: usize = 65_536;
 
+/// How many leading spaces are passed at once.
+const BLOCK: usize = 64;
+
 /// The text that replaces a name that is empty or not known.
 #[inline]
 pub fn name_omitted() -> &'static [u8]
@@ -19,9 +22,36 @@ pub fn name_omitted() -> &'static [u8]
     b"<name omitted>"
 }
 
-/// The bytes without the leading spaces. Allocates no memory.
+/// Whether all bytes are spaces. The loop never ends early, so that it can test many bytes at once.
+fn are_spaces(bytes: &[u8]) -> bool
+    ensures { result ≡ list_all is_space bytes.now }
+{
+    let mut spaces = true;
+    for at in 0..bytes.len() {
+        spaces = spaces & (bytes[at] == b' ');
+    }
+    spaces
+}
+
+/// The bytes without whole blocks of leading spaces.
+#[inline(never)]
+fn after_blocks(bytes: &[u8]) -> &[u8]
+    ensures { skip is_space result.now ≡ skip is_space bytes.now }
+{
+    let mut rest = bytes;
+    'passed: while rest.len() > BLOCK {
+        let (block, after) = rest.split_at(BLOCK);
+        if !are_spaces(block) {
+            return rest;
+        }
+        rest = after;
+    }
+    rest
+}
+
+/// The bytes without the leading spaces, which are passed one by one.
 #[tactic(auto, using(crate::proofs::SkipLemmas::skip_stop, crate::proofs::SkipLemmas::skip_more, crate::proofs::SkipLemmas::skip_end))]
-pub fn unspaced(bytes: &[u8]) -> &[u8]
+fn after_spaces(bytes: &[u8]) -> &[u8]
     ensures { result.now ≡ skip is_space bytes.now }
 {
     for (at, b) in bytes.iter().enumerate() {
@@ -30,6 +60,17 @@ pub fn unspaced(bytes: &[u8]) -> &[u8]
         }
     }
     &[]
+}
+
+/// The bytes without the leading spaces. Allocates no memory.
+#[inline]
+pub fn unspaced(bytes: &[u8]) -> &[u8]
+    ensures { result.now ≡ skip is_space bytes.now }
+{
+    if bytes.starts_with(b" ") {
+        return after_spaces(after_blocks(bytes));
+    }
+    after_spaces(bytes)
 }
 
 /// The byte, or `?` for a control byte.
