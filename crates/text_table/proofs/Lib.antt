@@ -1,0 +1,3 @@
+pub mod StopLemmas
+pub mod SpaceLemmas
+pub mod AlikeLemmas
