@@ -1,3 +1,3 @@
-pub mod StopLemmas
+pub mod EndLemmas
 pub mod SpaceLemmas
 pub mod AlikeLemmas

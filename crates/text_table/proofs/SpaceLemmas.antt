@@ -1,18 +1,18 @@
 -- Texts with fewer leading spaces.
-use Rattle.std.proofs.Common.{◌≡◌, ℕ, ◌+◌, ◌-◌, ◌<◌, ◌≤◌, ◌==◌, Bool, true, false, not, nat_le, List, [], ◌∷◌, Option, Some, None, length, take, drop, suc, refl, sym, ◌∙◌, ap, arith, length-drop, ◌⊎◌, inl, inr}
+use Rattle.std.proofs.Common.{◌≡◌, ℕ, ◌+◌, ◌-◌, ◌<◌, ◌≤◌, ◌==◌, Bool, true, false, not, nat_le, List, [], ◌∷◌, Option, Some, None, unwrap_or, length, take, drop, suc, refl, sym, ◌∙◌, ap, arith, length-drop, ◌⊎◌, inl, inr, min, subst}
 use Rattle.std.proofs.lemmas.Grind.{common_steps}
-use Rattle.std.proofs.lemmas.Bool.{cases_lt}
+use Rattle.std.proofs.lemmas.Bool.{cases_lt, false_from_ne_true}
 use Rattle.std.proofs.lemmas.Bool.Decides.{nat_tests}
-use Rattle.std.proofs.lemmas.List.{drop-take}
+use Rattle.std.proofs.lemmas.List.{drop-take, length-take, take_all, take-take, take_min}
+use Rattle.std.proofs.lemmas.List.Sums.{position_or_len_is}
+use Rattle.memchr.specs.Find.{IsFirstByte, is_byte}
 use Rattle.std.specs.List.{position_or_len, prefix_len}
 use Rattle.std.specs.Option.{option_map, is_none, is_some}
 use Rattle.clean_names.specs.Names.{is_space}
 use Rattle.leb_cursor.specs.Texts.{front_text}
-use Rattle.text_table.specs.Spaces.{fewer_spaces}
-use Rattle.text_table.specs.Stops.{stop_from}
-use Rattle.text_table.specs.Tables.{later_start}
-use Rattle.text_table.specs.declared.stops.Sought.TheVariants as sought
-use Rattle.text_table.proofs.StopLemmas.{span_drop, front_found, front_missing}
+use Rattle.text_table.specs.Spaces.{fewer_spaces, held_text, held_front}
+use Rattle.text_table.specs.Ends.{spaces_end, later_start}
+use Rattle.text_table.proofs.EndLemmas.{span_drop, span_front, span_past, front_found, front_missing}
 
 -- Zero bytes are no spaces, so the leading spaces of a text are those of the bytes from its place on.
 abbrev zeros : List ℕ → ℕ
@@ -86,11 +86,11 @@ pub inside : (bytes : List ℕ) (place end : ℕ) → is_none (front_text (drop 
 inside bytes place end are below = omega (arith, there bytes place end are below, length-drop place bytes)
 
 pub start_behind : (bytes : List ℕ) (place end : ℕ) → is_none (front_text (drop place bytes)) ≡ nat_le end place → place < end → option_map fewer_spaces (front_text (drop place bytes)) ≡ front_text (drop (later_start bytes place) bytes)
-unfolding stop_from
+unfolding spaces_end
 start_behind bytes place end are below =
     fewer_text (drop place bytes) (there bytes place end are below) ∙ ap front_text (grind (arith, common_steps))
 
-pub start_here : (bytes : List ℕ) (place end : ℕ) → is_none (front_text (drop place bytes)) ≡ nat_le end place → place < end → stop_from sought.NoSpace bytes place ≤ place + 65536 → option_map fewer_spaces (front_text (drop place bytes)) ≡ front_text (drop place bytes)
+pub start_here : (bytes : List ℕ) (place end : ℕ) → is_none (front_text (drop place bytes)) ≡ nat_le end place → place < end → spaces_end bytes place ≤ place + 65536 → option_map fewer_spaces (front_text (drop place bytes)) ≡ front_text (drop place bytes)
 start_here bytes place end are below near =
     start_behind bytes place end are below ∙ (let e : later_start bytes place ≡ place = omega (arith, near) in ap (λ n. front_text (drop n bytes)) e)
 
@@ -111,10 +111,72 @@ pub start_inside : (bytes : List ℕ) (start : ℕ) → is_some (front_text (dro
 start_inside bytes start found =
     omega (arith, there_by (drop start bytes) (cases_lt (zeros (drop start bytes)) (length (drop start bytes))) (there_some (front_text (drop start bytes)) found), length-drop start bytes)
 
--- The text from its start to its zero byte.
-pub text_found : (bytes : List ℕ) (start stop : ℕ) → is_some (front_text (drop start bytes)) ≡ true → stop ≡ stop_from sought.Zero bytes start → Some (take (stop - start) (drop start bytes)) ≡ front_text (drop start bytes)
-unfolding stop_from
-text_found bytes start stop found is =
-    let e : stop - start ≡ zeros (drop start bytes) = omega (arith, is) in
-    ap (λ n. Some (take n (drop start bytes))) e
-    ∙ sym (front_found (drop start bytes) (there_by (drop start bytes) (cases_lt (zeros (drop start bytes)) (length (drop start bytes))) (there_some (front_text (drop start bytes)) found)))
+-- The first zero byte.
+zero_found : (xs : List ℕ) (k : ℕ) → IsFirstByte (is_byte 0) xs (Some k) → zeros xs ≡ k
+zero_found xs k first =
+    let high : k < length xs = first.0.high in
+    position_or_len_is (λ b. b == 0) xs k 0 (omega arith)
+    (λ i lt. false_from_ne_true _ (first.0.before i (omega arith) lt)) (λ _. first.1)
+
+zero_missing : (xs : List ℕ) → IsFirstByte (is_byte 0) xs None → zeros xs ≡ length xs
+zero_missing xs none =
+    position_or_len_is (λ b. b == 0) xs (length xs) 0 (omega arith)
+    (λ i lt. false_from_ne_true _ (none i (omega arith) lt)) (λ past. absurd (omega arith))
+
+-- What is held of the bytes before a zero byte, if there is one among the first m, and if not.
+front_is : (xs : List ℕ) → unwrap_or (front_text xs) xs ≡ take (zeros xs) xs
+front_is xs = front_by xs (cases_lt (zeros xs) (length xs))
+  where
+    front_by : (xs : List ℕ) → (zeros xs < length xs) ⊎ (length xs ≤ zeros xs) → unwrap_or (front_text xs) xs ≡ take (zeros xs) xs
+    front_by xs (inl less) = ap (λ t. unwrap_or t xs) (front_found xs less)
+    front_by xs (inr past) = ap (λ t. unwrap_or t xs) (front_missing xs past) ∙ sym (take_all (zeros xs) xs past)
+
+held_some : (m k : ℕ) (xs : List ℕ) → zeros (take m xs) ≡ k → k < length (take m xs) → take k (take m xs) ≡ take m (unwrap_or (front_text xs) xs)
+held_some m k xs is less =
+    let size = length-take m xs in
+    let found = span_front (λ b. b == 0) xs m (omega (arith, is, less)) in
+    let end : zeros xs ≡ k = omega (arith, found, is) in
+    take-take k m xs (omega (arith, size, less)) ∙ sym (take_all m (take k xs) (omega (arith, size, less, length-take k xs)))
+    ∙ ap (λ n. take m (take n xs)) (sym end) ∙ ap (take m) (sym (front_is xs))
+
+held_none_by : (m : ℕ) (xs : List ℕ) → (length xs < m) ⊎ (m ≤ length xs) → zeros (take m xs) ≡ length (take m xs) → take m xs ≡ take m (take (zeros xs) xs)
+held_none_by m xs (inl less) is =
+    let whole = take_all m xs (omega (arith, less)) in
+    let end : length xs ≤ zeros xs = omega (arith, ap zeros whole, ap length whole, is) in
+    ap (take m) (sym (take_all (zeros xs) xs end))
+held_none_by m xs (inr le) is = sym (take-take m (zeros xs) xs (span_past (λ b. b == 0) xs m is le))
+
+held_none : (m : ℕ) (xs : List ℕ) → zeros (take m xs) ≡ length (take m xs) → take m xs ≡ take m (unwrap_or (front_text xs) xs)
+held_none m xs is = held_none_by m xs (cases_lt (length xs) m) is ∙ ap (take m) (sym (front_is xs))
+
+pub front_held : (xs front : List ℕ) (k : ℕ) → front ≡ take (min 131072 (length xs)) xs → IsFirstByte (is_byte 0) front (Some k) → take k front ≡ held_front xs
+unfolding held_front
+front_held xs front k cut first =
+    let whole = cut ∙ take_min 131072 xs in
+    let high : k < length front = first.0.high in
+    ap (take k) whole ∙ held_some 131072 k xs (ap zeros (sym whole) ∙ zero_found front k first) (subst (λ (l : List ℕ). k < length l) whole high)
+
+pub front_whole : (xs front : List ℕ) → front ≡ take (min 131072 (length xs)) xs → IsFirstByte (is_byte 0) front None → front ≡ held_front xs
+unfolding held_front
+front_whole xs front cut none =
+    let whole = cut ∙ take_min 131072 xs in
+    whole ∙ held_none 131072 xs (ap zeros (sym whole) ∙ zero_missing front none ∙ ap length whole)
+
+-- What is held of a text.
+passed_by : (x : ℕ) (xs : List ℕ) (space : Bool) → (x == 32) ≡ space → prefix_len is_space xs ≡ spaces xs → prefix_len is_space (x ∷ xs) ≡ spaces (x ∷ xs)
+passed_by x xs true is later = rw is (ap (λ n. 1 + n) later)
+passed_by x xs false is later = rw is refl
+
+passed : (xs : List ℕ) → prefix_len is_space xs ≡ spaces xs
+passed [] = refl
+passed (x ∷ xs) = passed_by x xs (x == 32) refl (passed xs)
+
+pub held_is : (text rest front : List ℕ) (n : ℕ) → n ≡ position_or_len (λ b. not (is_space b)) text → rest ≡ drop (n - 65536) text → front ≡ take (min 131072 (length rest)) rest → front ≡ held_text text
+unfolding held_text fewer_spaces
+held_is text rest front n is later cut =
+    cut ∙ take_min 131072 rest ∙ ap (take 131072) (later ∙ ap (λ k. drop (k - 65536) text) (is ∙ sym (passed text)))
+
+pub text_held : (text : Option (List ℕ)) (rest : List ℕ) → option_map fewer_spaces text ≡ front_text rest → is_some (front_text rest) ≡ true → Some (held_front rest) ≡ option_map held_text text
+unfolding held_front held_text
+text_held None rest is found = absurd (grind (arith, is, found))
+text_held (Some y) rest is found = ap (λ t. Some (take 131072 (unwrap_or t rest))) (sym is)

@@ -1,3 +1,2 @@
 pub mod Spaces
-pub mod Stops
-pub mod Tables
+pub mod Ends

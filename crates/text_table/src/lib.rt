@@ -1,12 +1,12 @@
 //! Zero-terminated texts of a section, which are found by their places: string tables of ELF files (System V gABI, "String Table") and the text
 //! sections of DWARF 5 (7.5.5, 7.26).
 //!
-//! Many places may be in one long text, or in one long run of spaces. A [`TextTable`] looks at each byte of the section a few times when it is made.
-//! Then each text is found in a time that does not depend on how long the text is, and has at most 65,536 leading spaces (`specs/Spaces.antt`).
+//! Many places may be in one long text, or in one long run of spaces. So at most 131,072 bytes are held of a text, and at most 65,536 of its leading
+//! spaces: no more are shown (`specs/Spaces.antt`). A [`TextTable`] knows where long runs of spaces end, and where the last text does.
 #![tactic(auto)]
 
 pub mod laws;
-mod stops;
+mod spaces;
 mod table;
 
-pub use crate::table::TextTable;
+pub use crate::table::{TextTable, end_of_texts, held_front, held_text};

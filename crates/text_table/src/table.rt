@@ -2,40 +2,22 @@
 ghost use Rattle.std.specs.Prelude.{◌≡◌, ℕ, ◌<◌, nat_le, true, length, drop, IfOk, IfSome, option_and_then};
 ghost use Rattle.std.specs.Option.{option_copied, option_map, is_none, is_some};
 ghost use Rattle.leb_cursor.specs.Texts.{front_text};
-ghost use Rattle.text_table.specs.Spaces.{fewer_spaces};
-ghost use Rattle.text_table.specs.Tables.{later_start};
+ghost use Rattle.text_table.specs.Spaces.{fewer_spaces, held_text, held_front};
+ghost use Rattle.text_table.specs.Ends.{later_start};
 
-use crate::stops::{Sought, Stops};
-use memchr::memrchr;
+use crate::spaces::{SpaceEnds, count_spaces};
+use memchr::{memchr, memrchr};
 use std::alloc::{AllocError, Global};
 use std::marker::Model;
 
-/// How many leading spaces a text has at most.
+/// How many leading spaces of a text are held.
 const SPACES: usize = 65_536;
 
-/// A section of zero-terminated texts.
-#[derive(Drop)]
-pub struct TextTable<'a> {
-    bytes: &'a [u8],
-    zeros: Stops<'a>,
-    spaces: Stops<'a>,
-    end: usize,
-    far: bool,
-}
-
-impl<'a> Model for TextTable<'a> {
-    ghost use Rattle.std.specs.Prelude.{List, ℕ};
-    ghost use Rattle.text_table.specs.Tables.{IsTable};
-
-    ghost Value = { List ℕ };
-
-    ghost view = { λ t. t.bytes.now };
-
-    ghost invariant = { λ t. IsTable t.bytes.now t.zeros t.spaces t.end t.far };
-}
+/// How many bytes of a text are held.
+const HELD: usize = 131_072;
 
 /// The place after the last zero byte, or 0 if there is none. A text begins at each place below it, and at no other.
-#[tactic(auto, using(crate::proofs::StopLemmas::texts_below, crate::proofs::StopLemmas::no_text))]
+#[tactic(auto, using(crate::proofs::EndLemmas::texts_below, crate::proofs::EndLemmas::no_text))]
 pub fn end_of_texts(bytes: &[u8]) -> usize
     ensures { (at : ℕ) → is_none (front_text (drop at bytes.now)) ≡ nat_le result at }
 {
@@ -45,16 +27,55 @@ pub fn end_of_texts(bytes: &[u8]) -> usize
     }
 }
 
+/// What is held of a text.
+pub fn held_text(text: &[u8]) -> &[u8]
+    ensures { result.now ≡ held_text text.now }
+{
+    let spaces = count_spaces(text).saturating_sub(SPACES);
+    let rest = text.split_at(spaces).1;
+    rest.split_at(HELD.min(rest.len())).0
+}
+
+/// What is held of the bytes up to the first zero byte, or up to the end if there is none.
+#[inline]
+pub fn held_front(bytes: &[u8]) -> &[u8]
+    ensures { result.now ≡ held_front bytes.now }
+{
+    let front = bytes.split_at(HELD.min(bytes.len())).0;
+    match memchr(0, front) {
+        Some(end) => front.split_at(end).0,
+        None => front,
+    }
+}
+
+/// A section of zero-terminated texts.
+#[derive(Drop)]
+pub struct TextTable<'a> {
+    bytes: &'a [u8],
+    spaces: SpaceEnds<'a>,
+    end: usize,
+    far: bool,
+}
+
+impl<'a> Model for TextTable<'a> {
+    ghost use Rattle.std.specs.Prelude.{List, ℕ};
+    ghost use Rattle.text_table.specs.Ends.{IsTable};
+
+    ghost Value = { List ℕ };
+
+    ghost view = { λ t. t.bytes.now };
+
+    ghost invariant = { λ t. IsTable t.bytes.now t.spaces t.end t.far };
+}
+
 impl<'a> TextTable<'a> {
     pub fn new(alloc: Global, bytes: &'a [u8]) -> Result<TextTable<'a>, AllocError>
         ensures { IfOk result (λ table. table ≡ bytes.now) }
     {
-        let zeros = Stops::of(alloc, Sought::Zero, bytes)?;
-        let spaces = Stops::of(alloc, Sought::NoSpace, bytes)?;
+        let spaces = SpaceEnds::of(alloc, bytes)?;
         let far = spaces.are_far();
         Ok(TextTable {
             bytes,
-            zeros,
             spaces,
             end: end_of_texts(bytes),
             far,
@@ -79,7 +100,8 @@ impl<'a> TextTable<'a> {
         place + (past - place).saturating_sub(SPACES)
     }
 
-    /// Where the text at a place begins once it has at most 65,536 leading spaces; `None` if there is no zero-terminated text.
+    /// Where the text at a place begins once it has at most 65,536 leading spaces; `None` if there is no zero-terminated text. The time does not
+    /// depend on the text.
     #[inline]
     pub fn start(&self, place: u64) -> Option<usize>
         ensures text { option_map fewer_spaces (front_text (drop place self.now)) ≡ option_and_then (λ start. front_text (drop start self.now)) result }
@@ -94,12 +116,12 @@ impl<'a> TextTable<'a> {
         Some(self.later_start(place as usize))
     }
 
-    /// The text at a place, with at most 65,536 leading spaces; `None` if no zero byte follows.
+    /// What is held of the text at a place; `None` if no zero byte follows.
+    #[inline]
     pub fn text(&self, place: u64) -> Option<&'a [u8]>
-        ensures { option_copied result ≡ option_map fewer_spaces (front_text (drop place self.now)) }
+        ensures { option_copied result ≡ option_map held_text (front_text (drop place self.now)) }
     {
         let start = self.start(place)?;
-        let end = self.zeros.from(start);
-        Some(self.bytes.split_at(start).1.split_at(end - start).0)
+        Some(held_front(self.bytes.split_at(start).1))
     }
 }

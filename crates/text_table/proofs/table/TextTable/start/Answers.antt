@@ -2,7 +2,7 @@ use Rattle.std.proofs.Common.{List, ℕ, None, subst, arith, sym, ap, ◌∙◌,
 use Rattle.std.specs.Option.{option_map, is_some}
 use Rattle.leb_cursor.specs.Texts.{front_text}
 use Rattle.text_table.specs.Spaces.{fewer_spaces}
-use Rattle.text_table.specs.Tables.{later_start}
+use Rattle.text_table.specs.Ends.{later_start}
 use Rattle.text_table.proofs.SpaceLemmas.{no_start, start_here, start_behind, inside, stays, start_inside}
 use Rattle.text_table.proofs.table.TextTable.start.Goals as goal
 

@@ -1,4 +1,4 @@
--- Where certain bytes of a section are.
+-- Where spaces end in a section.
 use Rattle.std.proofs.Common.{◌≡◌, ℕ, ◌+◌, ◌-◌, ◌*◌, ◌/◌, ◌%◌, ◌<◌, ◌≤◌, ◌==◌, Bool, true, false, not, List, [], ◌∷◌, ◌++◌, Some, None, length, take, drop, get_or, nat_lt, nat_le, subst, refl, sym, ◌∙◌, ap, arith, length-drop, inl, inr, ◌⊎◌}
 use Rattle.std.proofs.lemmas.Grind.{common_steps}
 use Rattle.std.proofs.lemmas.Bool.{cases_lt, false_from_ne_true, lt-ltb, le-ltb, le-leb, lt-leb}
@@ -9,30 +9,20 @@ use Rattle.std.proofs.Math.Seq.{get_or-append_seam}
 use Rattle.std.proofs.Math.Nat.{mul-le-mul_right, le-div_iff_mul-le}
 use Rattle.std.specs.List.{position_or_len}
 use Rattle.std.specs.Option.{is_none}
-use Rattle.memchr.specs.Find.{IsFirstByte, IsLastByte, is_byte}
+use Rattle.memchr.specs.Find.{IsLastByte, is_byte}
 use Rattle.clean_names.specs.Names.{is_space, skip}
 use Rattle.leb_cursor.specs.Texts.{front_text}
-use Rattle.text_table.specs.Stops.{is_sought, stop_from, AreStops}
-use Rattle.text_table.specs.declared.stops.Sought.{Sought}
+use Rattle.text_table.specs.Ends.{spaces_end, AreEnds}
 
--- The first byte of a kind, or the length.
+-- The first byte for which p is true, or the length.
+abbrev is_shown : ℕ → Bool
+is_shown b = not (is_space b)
+
 abbrev span : (ℕ → Bool) → List ℕ → ℕ
 span p xs = position_or_len p xs
 
--- The first zero byte.
-pub zero_found : (xs : List ℕ) (k : ℕ) → IsFirstByte (is_byte 0) xs (Some k) → k ≡ position_or_len (λ b. b == 0) xs
-zero_found xs k first =
-    let high : k < length xs = first.0.high in
-    sym (position_or_len_is (λ b. b == 0) xs k 0 (omega arith)
-    (λ i lt. false_from_ne_true _ (first.0.before i (omega arith) lt)) (λ _. first.1))
-
-pub zero_missing : (xs : List ℕ) → IsFirstByte (is_byte 0) xs None → length xs ≡ position_or_len (λ b. b == 0) xs
-zero_missing xs none =
-    sym (position_or_len_is (λ b. b == 0) xs (length xs) 0 (omega arith)
-    (λ i lt. false_from_ne_true _ (none i (omega arith) lt)) (λ past. absurd (omega arith)))
-
 -- The first byte that is no space.
-passed_by : (x : ℕ) (xs : List ℕ) (space : Bool) → (x == 32) ≡ space → length xs - length (skip is_space xs) ≡ span (λ b. not (is_space b)) xs → length (skip is_space xs) ≤ length xs → length (x ∷ xs) - length (skip is_space (x ∷ xs)) ≡ span (λ b. not (is_space b)) (x ∷ xs)
+passed_by : (x : ℕ) (xs : List ℕ) (space : Bool) → (x == 32) ≡ space → length xs - length (skip is_space xs) ≡ span is_shown xs → length (skip is_space xs) ≤ length xs → length (x ∷ xs) - length (skip is_space (x ∷ xs)) ≡ span is_shown (x ∷ xs)
 unfolding skip
 passed_by x xs true is later less = grind (arith, is, later, less)
 passed_by x xs false is later less = grind (arith, is, later, less)
@@ -47,7 +37,7 @@ unfolding skip
 skip_less [] = omega arith
 skip_less (x ∷ xs) = skip_by x xs (x == 32) refl (skip_less xs)
 
-pub spaces_passed : (xs : List ℕ) → length xs - length (skip is_space xs) ≡ position_or_len (λ b. not (is_space b)) xs
+pub spaces_passed : (xs : List ℕ) → length xs - length (skip is_space xs) ≡ position_or_len is_shown xs
 unfolding skip
 spaces_passed [] = refl
 spaces_passed (x ∷ xs) = passed_by x xs (x == 32) refl (spaces_passed xs) (skip_less xs)
@@ -72,14 +62,14 @@ span_drop p xs n le =
     ∙ passes_at_first p xs 0 (omega arith)) in
     omega (arith, is)
 
-span_front : (p : ℕ → Bool) (xs : List ℕ) (n : ℕ) → span p (take n xs) < length (take n xs) → span p xs ≡ span p (take n xs)
+pub span_front : (p : ℕ → Bool) (xs : List ℕ) (n : ℕ) → span p (take n xs) < length (take n xs) → span p xs ≡ span p (take n xs)
 span_front p xs n less =
     let size = length-take n xs in
     position_or_len_is p xs (span p (take n xs)) 0 (omega arith)
     (λ k lt. ap p (sym (get_or-take n xs k 0 (omega arith))) ∙ fails_before_first p (take n xs) k 0 lt)
     (λ lt. ap p (sym (get_or-take n xs (span p (take n xs)) 0 (omega arith))) ∙ passes_at_first p (take n xs) 0 less)
 
-span_past : (p : ℕ → Bool) (xs : List ℕ) (n : ℕ) → span p (take n xs) ≡ length (take n xs) → n ≤ length xs → n ≤ span p xs
+pub span_past : (p : ℕ → Bool) (xs : List ℕ) (n : ℕ) → span p (take n xs) ≡ length (take n xs) → n ≤ length xs → n ≤ span p xs
 span_past p xs n same le =
     let size = length-take n xs in
     elim (cases_lt (span p xs) n) [
@@ -91,45 +81,45 @@ span_past p xs n same le =
       | inr past ↦ past
     ]
 
--- All places up to a stop have the same stop.
-pub stop_again : (s : Sought) (bytes : List ℕ) (p q : ℕ) → p ≤ q → q ≤ stop_from s bytes p → stop_from s bytes q ≡ stop_from s bytes p
-unfolding stop_from
-stop_again s bytes p q le inside =
+-- All places up to the end of spaces have the same end.
+pub end_again : (bytes : List ℕ) (p q : ℕ) → p ≤ q → q ≤ spaces_end bytes p → spaces_end bytes q ≡ spaces_end bytes p
+unfolding spaces_end
+end_again bytes p q le inside =
     let same : drop (q - p) (drop p bytes) ≡ drop q bytes = grind (arith, common_steps) in
-    let moved = span_drop (is_sought s) (drop p bytes) (q - p) (omega arith) in
-    omega (arith, moved, ap (span (is_sought s)) same)
+    let moved = span_drop is_shown (drop p bytes) (q - p) (omega arith) in
+    omega (arith, moved, ap (span is_shown) same)
 
-pub stop_order : (s : Sought) (bytes : List ℕ) (at : ℕ) → at ≤ stop_from s bytes at
-unfolding stop_from
-stop_order s bytes at = omega arith
+pub end_order : (bytes : List ℕ) (at : ℕ) → at ≤ spaces_end bytes at
+unfolding spaces_end
+end_order bytes at = omega arith
 
-pub stop_within : (s : Sought) (bytes : List ℕ) (at : ℕ) → at ≤ length bytes → stop_from s bytes at ≤ length bytes
-unfolding stop_from
-stop_within s bytes at inside = omega (arith, span_within (is_sought s) (drop at bytes), length-drop at bytes)
+pub end_within : (bytes : List ℕ) (at : ℕ) → at ≤ length bytes → spaces_end bytes at ≤ length bytes
+unfolding spaces_end
+end_within bytes at inside = omega (arith, span_within is_shown (drop at bytes), length-drop at bytes)
 
--- The stop if the rest of the block has it, and if not.
-pub stop_in_block : (s : Sought) (bytes : List ℕ) (at n first : ℕ) → first ≡ position_or_len (is_sought s) (take n (drop at bytes)) → first < length (take n (drop at bytes)) → stop_from s bytes at ≡ at + first
-unfolding stop_from
-stop_in_block s bytes at n first is less =
-    omega (arith, is, span_front (is_sought s) (drop at bytes) n (omega (arith, is, less)))
+-- The end if the rest of the block has it, and if not.
+pub end_in_block : (bytes : List ℕ) (at n first : ℕ) → first ≡ position_or_len is_shown (take n (drop at bytes)) → first < length (take n (drop at bytes)) → spaces_end bytes at ≡ at + first
+unfolding spaces_end
+end_in_block bytes at n first is less =
+    omega (arith, is, span_front is_shown (drop at bytes) n (omega (arith, is, less)))
 
-behind : (s : Sought) (bytes : List ℕ) (at n next : ℕ) → span (is_sought s) (take n (drop at bytes)) ≡ length (take n (drop at bytes)) → at + n ≡ next → next ≤ length bytes → next ≤ stop_from s bytes at
-unfolding stop_from
-behind s bytes at n next same is inside = omega (arith, span_past (is_sought s) (drop at bytes) n same (omega (arith, length-drop at bytes)))
+behind : (bytes : List ℕ) (at n next : ℕ) → span is_shown (take n (drop at bytes)) ≡ length (take n (drop at bytes)) → at + n ≡ next → next ≤ length bytes → next ≤ spaces_end bytes at
+unfolding spaces_end
+behind bytes at n next same is inside = omega (arith, span_past is_shown (drop at bytes) n same (omega (arith, length-drop at bytes)))
 
-stop_behind_block : (s : Sought) (bytes : List ℕ) (at n next : ℕ) → span (is_sought s) (take n (drop at bytes)) ≡ length (take n (drop at bytes)) → at + n ≡ next → next ≤ length bytes → stop_from s bytes next ≡ stop_from s bytes at
-stop_behind_block s bytes at n next none is inside =
-    stop_again s bytes at next (omega arith) (behind s bytes at n next none is inside)
+end_behind_block : (bytes : List ℕ) (at n next : ℕ) → span is_shown (take n (drop at bytes)) ≡ length (take n (drop at bytes)) → at + n ≡ next → next ≤ length bytes → spaces_end bytes next ≡ spaces_end bytes at
+end_behind_block bytes at n next none is inside =
+    end_again bytes at next (omega arith) (behind bytes at n next none is inside)
 
-stops_by : (s : Sought) (bytes stops : List ℕ) (block k stop : ℕ) → length stops ≡ k → ((j : ℕ) → j < k → get_or stops j 0 ≡ stop_from s bytes (j * block)) → stop ≡ stop_from s bytes (k * block) → (j : ℕ) → j < k + 1 → (b : Bool) → nat_lt j k ≡ b → get_or (stops ++ stop ∷ []) j 0 ≡ stop_from s bytes (j * block)
-stops_by s bytes stops block k stop size each is j lt true test =
-    let below : j < k = grind (arith, nat_tests) in get_or_append_left stops (stop ∷ []) 0 j (omega arith) ∙ each j below
-stops_by s bytes stops block k stop size each is j lt false test =
-    let same : j ≡ length stops = (let ge : k ≤ j = grind (arith, nat_tests) in omega arith) in
-    ap (λ i. get_or (stops ++ stop ∷ []) i 0) same ∙ get_or-append_seam stops stop [] 0 ∙ is ∙ (let e : k ≡ j = omega arith in ap (λ i. stop_from s bytes (i * block)) e)
+ends_by : (bytes ends : List ℕ) (block k end : ℕ) → length ends ≡ k → ((j : ℕ) → j < k → get_or ends j 0 ≡ spaces_end bytes (j * block)) → end ≡ spaces_end bytes (k * block) → (j : ℕ) → j < k + 1 → (b : Bool) → nat_lt j k ≡ b → get_or (ends ++ end ∷ []) j 0 ≡ spaces_end bytes (j * block)
+ends_by bytes ends block k end size each is j lt true test =
+    let below : j < k = grind (arith, nat_tests) in get_or_append_left ends (end ∷ []) 0 j (omega arith) ∙ each j below
+ends_by bytes ends block k end size each is j lt false test =
+    let same : j ≡ length ends = (let ge : k ≤ j = grind (arith, nat_tests) in omega arith) in
+    ap (λ i. get_or (ends ++ end ∷ []) i 0) same ∙ get_or-append_seam ends end [] 0 ∙ is ∙ (let e : k ≡ j = omega arith in ap (λ i. spaces_end bytes (i * block)) e)
 
-pub stops_more : (s : Sought) (bytes stops : List ℕ) (block k stop : ℕ) → length stops ≡ k → ((j : ℕ) → j < k → get_or stops j 0 ≡ stop_from s bytes (j * block)) → stop ≡ stop_from s bytes (k * block) → (j : ℕ) → j < k + 1 → get_or (stops ++ stop ∷ []) j 0 ≡ stop_from s bytes (j * block)
-stops_more s bytes stops block k stop size each is j lt = stops_by s bytes stops block k stop size each is j lt (nat_lt j k) refl
+pub ends_more : (bytes ends : List ℕ) (block k end : ℕ) → length ends ≡ k → ((j : ℕ) → j < k → get_or ends j 0 ≡ spaces_end bytes (j * block)) → end ≡ spaces_end bytes (k * block) → (j : ℕ) → j < k + 1 → get_or (ends ++ end ∷ []) j 0 ≡ spaces_end bytes (j * block)
+ends_more bytes ends block k end size each is j lt = ends_by bytes ends block k end size each is j lt (nat_lt j k) refl
 
 pub start_inside : (len block k : ℕ) → 0 < block → k < len / block + 1 → k * block ≤ len
 start_inside len block k some below =
@@ -146,20 +136,20 @@ order_by at block some false test = let less : at < (at / block + 1) * block = g
 pub block_order : (at block : ℕ) → 0 < block → at ≤ (at / block + 1) * block
 block_order at block some = order_by at block some (nat_le ((at / block + 1) * block) at) refl
 
--- If the rest of a block has no such byte, the stop is that from the start of the next block.
-next_is : (s : Sought) (bytes stops : List ℕ) (block at : ℕ) → AreStops s bytes block stops → at / block + 1 < length stops → span (is_sought s) (take ((at / block + 1) * block - at) (drop at bytes)) ≡ length (take ((at / block + 1) * block - at) (drop at bytes)) → get_or stops (at / block + 1) 0 ≡ stop_from s bytes at
-next_is s bytes stops block at are inside none =
+-- If the rest of a block has no such byte, the end is that from the start of the next block.
+next_is : (bytes ends : List ℕ) (block at : ℕ) → AreEnds bytes block ends → at / block + 1 < length ends → span is_shown (take ((at / block + 1) * block - at) (drop at bytes)) ≡ length (take ((at / block + 1) * block - at) (drop at bytes)) → get_or ends (at / block + 1) 0 ≡ spaces_end bytes at
+next_is bytes ends block at are inside none =
     let i = at / block + 1 in
     let next = i * block in
     let order : at ≤ next = block_order at block are.some in
     let within : next ≤ length bytes = start_inside (length bytes) block i are.some (omega (arith, are.count)) in
-    are.each i inside ∙ stop_behind_block s bytes at (next - at) next none (omega arith) within
+    are.each i inside ∙ end_behind_block bytes at (next - at) next none (omega arith) within
 
-pub stop_by_next : (s : Sought) (bytes stops front : List ℕ) (block at value first : ℕ) → AreStops s bytes block stops → at / block + 1 < length stops → value ≡ get_or stops (at / block + 1) value → front ≡ take ((at / block + 1) * block - at) (drop at bytes) → first ≡ position_or_len (is_sought s) front → length front ≤ first → value ≡ stop_from s bytes at
-stop_by_next s bytes stops front block at value first are inside is cut found past =
-    let all : span (is_sought s) front ≡ length front = omega (arith, found, past, span_within (is_sought s) front) in
-    is ∙ get_or_default stops (at / block + 1) value 0 inside
-    ∙ next_is s bytes stops block at are inside (ap (span (is_sought s)) (sym cut) ∙ all ∙ ap length cut)
+pub end_by_next : (bytes ends front : List ℕ) (block at value first : ℕ) → AreEnds bytes block ends → at / block + 1 < length ends → value ≡ get_or ends (at / block + 1) value → front ≡ take ((at / block + 1) * block - at) (drop at bytes) → first ≡ position_or_len is_shown front → length front ≤ first → value ≡ spaces_end bytes at
+end_by_next bytes ends front block at value first are inside is cut found past =
+    let all : span is_shown front ≡ length front = omega (arith, found, past, span_within is_shown front) in
+    is ∙ get_or_default ends (at / block + 1) value 0 inside
+    ∙ next_is bytes ends block at are inside (ap (span is_shown) (sym cut) ∙ all ∙ ap length cut)
 
 below_by_next : (n block : ℕ) → 0 < block → (b : Bool) → nat_le ((n / block + 1) * block) n ≡ b → n < (n / block + 1) * block
 below_by_next n block some true test =
@@ -167,21 +157,21 @@ below_by_next n block some true test =
     absurd (let more : n / block + 1 ≤ n / block = (le-div_iff_mul-le some).1 past in omega arith)
 below_by_next n block some false test = grind (arith, nat_tests)
 
-near_by_one : (stops : List ℕ) (k block : ℕ) → 0 < block → get_or stops k 0 / block ≤ k → get_or stops k 0 ≤ (k + 1) * block
-near_by_one stops k block some le =
-    let below = below_by_next (get_or stops k 0) block some (nat_le ((get_or stops k 0 / block + 1) * block) (get_or stops k 0)) refl in
-    let up : get_or stops k 0 / block + 1 ≤ k + 1 = omega (arith, le) in
+near_by_one : (ends : List ℕ) (k block : ℕ) → 0 < block → get_or ends k 0 / block ≤ k → get_or ends k 0 ≤ (k + 1) * block
+near_by_one ends k block some le =
+    let below = below_by_next (get_or ends k 0) block some (nat_le ((get_or ends k 0 / block + 1) * block) (get_or ends k 0)) refl in
+    let up : get_or ends k 0 / block + 1 ≤ k + 1 = omega (arith, le) in
     let most = mul-le-mul_right block up in
     grind (arith, below, most)
 
-near_by_two : (stops : List ℕ) (k block : ℕ) → get_or stops k 0 ≤ (k + 1) * block → ((j : ℕ) → j < k → get_or stops j 0 ≤ (j + 1) * block) → (j : ℕ) → (j < k) ⊎ (k ≤ j) → j < k + 1 → get_or stops j 0 ≤ (j + 1) * block
-near_by_two stops k block here each j (inl below) lt = each j below
-near_by_two stops k block here each j (inr past) lt =
+near_by_two : (ends : List ℕ) (k block : ℕ) → get_or ends k 0 ≤ (k + 1) * block → ((j : ℕ) → j < k → get_or ends j 0 ≤ (j + 1) * block) → (j : ℕ) → (j < k) ⊎ (k ≤ j) → j < k + 1 → get_or ends j 0 ≤ (j + 1) * block
+near_by_two ends k block here each j (inl below) lt = each j below
+near_by_two ends k block here each j (inr past) lt =
     let e : k ≡ j = omega (arith, past, lt) in
-    subst (λ (i : ℕ). get_or stops i 0 ≤ (i + 1) * block) e here
+    subst (λ (i : ℕ). get_or ends i 0 ≤ (i + 1) * block) e here
 
-pub near_so_far : (stops : List ℕ) (k block : ℕ) → 0 < block → get_or stops k 0 / block ≤ k → ((j : ℕ) → j < k → get_or stops j 0 ≤ (j + 1) * block) → (j : ℕ) → j < k + 1 → get_or stops j 0 ≤ (j + 1) * block
-near_so_far stops k block some le each j lt = near_by_two stops k block (near_by_one stops k block some le) each j (cases_lt j k) lt
+pub near_so_far : (ends : List ℕ) (k block : ℕ) → 0 < block → get_or ends k 0 / block ≤ k → ((j : ℕ) → j < k → get_or ends j 0 ≤ (j + 1) * block) → (j : ℕ) → j < k + 1 → get_or ends j 0 ≤ (j + 1) * block
+near_so_far ends k block some le each j lt = near_by_two ends k block (near_by_one ends k block some le) each j (cases_lt j k) lt
 
 past_last : (len count block at : ℕ) → 0 < block → count ≡ len / block + 1 → count ≤ at / block + 1 → len < (at / block + 1) * block
 past_last len count block at some is none =
@@ -190,18 +180,18 @@ past_last len count block at some is none =
     let most : (len / block + 1) * block ≤ (at / block + 1) * block = mul-le-mul_right block le in
     grind (arith, below, most)
 
--- If no stop is behind the start of the next block, no stop is far.
-near_behind : (s : Sought) (bytes stops : List ℕ) (block at : ℕ) → AreStops s bytes block stops → ((k : ℕ) → k < length stops → get_or stops k 0 ≤ (k + 1) * block) → at / block + 1 < length stops → (at / block + 1) * block ≤ stop_from s bytes at → stop_from s bytes at ≤ (at / block + 2) * block
-near_behind s bytes stops block at are near inside past =
+-- If no end is behind the start of the next block, no end is far.
+near_behind : (bytes ends : List ℕ) (block at : ℕ) → AreEnds bytes block ends → ((k : ℕ) → k < length ends → get_or ends k 0 ≤ (k + 1) * block) → at / block + 1 < length ends → (at / block + 1) * block ≤ spaces_end bytes at → spaces_end bytes at ≤ (at / block + 2) * block
+near_behind bytes ends block at are near inside past =
     let i = at / block + 1 in
     let next = i * block in
-    let same : stop_from s bytes next ≡ stop_from s bytes at = stop_again s bytes at next (block_order at block are.some) past in
-    let le : get_or stops i 0 ≤ (i + 1) * block = near i inside in
+    let same : spaces_end bytes next ≡ spaces_end bytes at = end_again bytes at next (block_order at block are.some) past in
+    let le : get_or ends i 0 ≤ (i + 1) * block = near i inside in
     let e : i + 1 ≡ at / block + 2 = omega arith in
     grind (arith, le, same, are.each i inside, ap (λ n. n * block) e)
 
-pub all_near : (s : Sought) (bytes stops : List ℕ) (block : ℕ) → AreStops s bytes block stops → ((k : ℕ) → k < length stops → get_or stops k 0 ≤ (k + 1) * block) → (at : ℕ) → at ≤ length bytes → stop_from s bytes at ≤ at + 65536
-all_near s bytes stops block are near at within = near_by (cases_lt (stop_from s bytes at) ((at / block + 1) * block)) (cases_lt (at / block + 1) (length stops))
+pub all_near : (bytes ends : List ℕ) (block : ℕ) → AreEnds bytes block ends → ((k : ℕ) → k < length ends → get_or ends k 0 ≤ (k + 1) * block) → (at : ℕ) → at ≤ length bytes → spaces_end bytes at ≤ at + 65536
+all_near bytes ends block are near at within = near_by (cases_lt (spaces_end bytes at) ((at / block + 1) * block)) (cases_lt (at / block + 1) (length ends))
   where
     floor : at / block * block ≤ at
     floor = (le-div_iff_mul-le are.some).0 (omega arith)
@@ -212,12 +202,12 @@ all_near s bytes stops block are near at within = near_by (cases_lt (stop_from s
     two : (at / block + 2) * block ≡ at / block * block + 2 * block
     two = grind arith
 
-    near_by : (stop_from s bytes at < (at / block + 1) * block) ⊎ ((at / block + 1) * block ≤ stop_from s bytes at) → (at / block + 1 < length stops) ⊎ (length stops ≤ at / block + 1) → stop_from s bytes at ≤ at + 65536
+    near_by : (spaces_end bytes at < (at / block + 1) * block) ⊎ ((at / block + 1) * block ≤ spaces_end bytes at) → (at / block + 1 < length ends) ⊎ (length ends ≤ at / block + 1) → spaces_end bytes at ≤ at + 65536
     near_by (inl below) any = omega (arith, below, floor, one, are.small)
-    near_by (inr past) (inl inside) = omega (arith, near_behind s bytes stops block at are near inside past, floor, two, are.small)
+    near_by (inr past) (inl inside) = omega (arith, near_behind bytes ends block at are near inside past, floor, two, are.small)
     near_by (inr past) (inr none) =
-        let less : length bytes < (at / block + 1) * block = past_last (length bytes) (length stops) block at are.some are.count none in
-        omega (arith, stop_within s bytes at within, less, floor, one, are.small)
+        let less : length bytes < (at / block + 1) * block = past_last (length bytes) (length ends) block at are.some are.count none in
+        omega (arith, end_within bytes at within, less, floor, one, are.small)
 
 -- The texts of a section.
 pub front_found : (xs : List ℕ) → span (λ b. b == 0) xs < length xs → front_text xs ≡ Some (take (span (λ b. b == 0) xs) xs)
