@@ -1,4 +1,4 @@
-mod TextLemmas
+pub mod TextLemmas
 pub mod OkLemmas
 pub mod BehindLemmas
 pub mod UnitLemmas

@@ -1,7 +1,9 @@
 -- The text of a value of class string (DWARF 5, 7.5.5 and 7.26).
 use Rattle.std.specs.Prelude.{ℕ, ◌+◌, ◌*◌, Bool, if◌then◌else◌, List, drop, Option, None, Some, option_and_then, Result, Ok, Err}
+use Rattle.std.specs.Option.{option_map}
 use Rattle.leb_cursor.specs.Ahead.{Ahead}
 use Rattle.leb_cursor.specs.Readings.{fixed_at, text_at}
+use Rattle.text_table.specs.Spaces.{held_text}
 use Rattle.abbrev_units.specs.declared.value.Value.{Value}
 use Rattle.abbrev_units.specs.declared.value.Value.TheVariants as value
 use Rattle.abbrev_units.specs.DebugSections.{DebugSections}
@@ -15,9 +17,9 @@ abbrev pub read_or_none : {A E : Type 0} → Result (A × Ahead) E → Option A
 read_or_none (Ok x) = Some x.0
 read_or_none (Err fault) = None
 
--- the zero-terminated text at a place of a section
+-- what is held of the zero-terminated text at a place of a section
 unfoldable pub text_in : List ℕ → ℕ → Option (List ℕ)
-text_in bytes place = read_or_none (text_at (ahead_from place bytes))
+text_in bytes place = option_map held_text (read_or_none (text_at (ahead_from place bytes)))
 
 -- the number of `width` bytes at a place of a section
 unfoldable pub number_in : ℕ → List ℕ → ℕ → Option ℕ

@@ -8,6 +8,7 @@ ghost use Rattle.abbrev_units.specs.Texts.{ahead_from, place_width, text_in, num
 use crate::sections::Sections;
 use crate::value::Value;
 use leb_cursor::{Cursor, CursorFault};
+use text_table::held_text;
 
 /// A cursor at a place of a section.
 #[inline]
@@ -19,7 +20,7 @@ pub fn cursor_from(bytes: &[u8], place: usize) -> Cursor<'_>
     Cursor::new(bytes, place, bytes.len())
 }
 
-/// The zero-terminated text at a place of a section.
+/// What is held of the zero-terminated text at a place of a section.
 #[inline]
 #[tactic(auto, using(crate::proofs::TextLemmas::text_beyond), unfolding(crate::specs::Texts::text_in))]
 pub fn text_in(bytes: &[u8], place: u64) -> Option<&[u8]>
@@ -29,7 +30,7 @@ pub fn text_in(bytes: &[u8], place: u64) -> Option<&[u8]>
         return None;
     }
     let mut cursor = cursor_from(bytes, place as usize);
-    cursor.text().ok()
+    Some(held_text(cursor.text().ok()?))
 }
 
 /// Reads a section offset: four bytes, or eight in the 64-bit format (DWARF 5, 7.4). After a fault the cursor is where it was.
@@ -69,11 +70,11 @@ pub fn text_place(offsets: &[u8], wide: bool, base: Option<u64>, index: u64) -> 
     place_in(offsets, place, wide)
 }
 
-/// The text of a value of class string. `home` is the section that the value is in, `wide` says whether its unit has the 64-bit format, and `base` is
+/// What is held of the text of a value of class string. `home` is the section that the value is in, `wide` says whether its unit has the 64-bit format, and `base` is
 /// the unit's str_offsets_base. None if the value has another class, the text is not terminated by a zero byte, or the base is missing. Allocates no
 /// memory.
 #[inline]
-#[tactic(auto, unfolding(crate::specs::Texts::text_of))]
+#[tactic(auto, unfolding(crate::specs::Texts::text_of), using(crate::proofs::TextLemmas::text_is))]
 pub fn read_text<'a>(
     sections: &Sections<'a>,
     home: &'a [u8],
@@ -85,12 +86,13 @@ pub fn read_text<'a>(
 {
     match value {
         Value::InlineText(place) => text_in(home, place as u64),
-        Value::StrAt(place) => text_in(sections.strs, place),
-        Value::LineStrAt(place) => text_in(sections.line_str, place),
-        Value::StrIndex(index) => text_in(
-            sections.strs,
-            text_place(sections.str_offsets, wide, base, index)?,
-        ),
+        Value::StrAt(place) => sections.strs.text(place),
+        Value::LineStrAt(place) => sections.line_str.text(place),
+        Value::StrIndex(index) => {
+            sections
+                .strs
+                .text(text_place(sections.str_offsets, wide, base, index)?)
+        }
         _ => None,
     }
 }

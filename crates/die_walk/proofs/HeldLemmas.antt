@@ -8,23 +8,11 @@ use Rattle.std.proofs.lemmas.List.Sums.{prefix_len_passes}
 use Rattle.std.proofs.lemmas.Bool.{ltb-false}
 use Rattle.std.proofs.lemmas.Bool.Decides.{nat_tests}
 use Rattle.std.proofs.lemmas.List.{get_or-drop}
-use Rattle.leb_cursor.specs.Ahead.{Ahead}
 use Rattle.leb_cursor.specs.Texts.{front_text}
-use Rattle.leb_cursor.specs.Readings.{text_at, text_by}
-use Rattle.abbrev_units.specs.Texts.{ahead_from, read_or_none, text_in}
+use Rattle.text_table.specs.Spaces.{held_text, held_front}
+use Rattle.abbrev_units.specs.Texts.{text_in}
+use Rattle.abbrev_units.proofs.TextLemmas.{text_is}
 use Rattle.die_walk.specs.internal.Heads.{IsClosed, text_from}
-
--- The text at a place is the text at the start of the bytes from there on.
-read_by : (c : Ahead) (text : Option (List ℕ)) → read_or_none (text_by c text) ≡ text
-read_by c (Some text) = refl
-read_by c None = refl
-
-pub text_is : (bytes : List ℕ) (place : ℕ) → text_in bytes place ≡ front_text (drop place bytes)
-unfolding text_in text_at
-text_is bytes place = read_by (ahead_from place bytes) (front_text (drop place bytes))
-
-pub front_of : (bytes : List ℕ) → text_in bytes 0 ≡ front_text bytes
-front_of bytes = text_is bytes 0
 
 -- In a section that ends with a zero byte each text is terminated.
 said : {A : Type 0} (x : Option A) (other : A) → is_some x ≡ true → x ≡ Some (unwrap_or x other)
@@ -59,14 +47,27 @@ behind bytes place last there =
 open_by : (bytes : List ℕ) (place : ℕ) (said_so : Bool) → IsClosed said_so bytes → said_so ≡ true → place < length bytes → is_some (front_text (drop place bytes)) ≡ true
 open_by bytes place said_so last is there = behind bytes place (grind (arith, is, last)) there
 
-pub open_text : (bytes : List ℕ) (place : ℕ) (said_so : Bool) → IsClosed said_so bytes → said_so ≡ true → place < length bytes → text_in bytes place ≡ text_from bytes place
-open_text bytes place said_so last is there =
-    text_is bytes place ∙ said (front_text (drop place bytes)) (drop place bytes) (open_by bytes place said_so last is there)
+-- A place with a text: `start` is where it is held from.
+held_some : (y : List ℕ) (text : Option (List ℕ)) → is_some text ≡ true → option_map (λ (t : List ℕ). y) text ≡ Some y
+held_some y (Some t) found = refl
+held_some y None found = absurd (grind (arith, found))
 
--- A place with a text, and a place without one.
-pub here_text : (bytes : List ℕ) (place : ℕ) (found : Bool) → found ≡ is_some (text_in bytes place) → found ≡ true → text_in bytes place ≡ text_from bytes place
-here_text bytes place found is so =
-    text_is bytes place ∙ said (front_text (drop place bytes)) (drop place bytes) (ap is_some (sym (text_is bytes place)) ∙ sym is ∙ so)
+abbrev pub IsStart : List ℕ → ℕ → ℕ → Type 0
+IsStart bytes place start = option_map held_text (front_text (drop place bytes)) ≡ option_map (λ (t : List ℕ). held_front (drop start bytes)) (front_text (drop place bytes))
+
+held : (bytes : List ℕ) (place start : ℕ) → IsStart bytes place start → is_some (front_text (drop place bytes)) ≡ true → text_in bytes place ≡ text_from bytes start
+held bytes place start is found = text_is bytes place ∙ is ∙ held_some (held_front (drop start bytes)) (front_text (drop place bytes)) found
+
+pub open_text : (bytes : List ℕ) (place start : ℕ) (said_so : Bool) → IsStart bytes place start → IsClosed said_so bytes → said_so ≡ true → place < length bytes → text_in bytes place ≡ text_from bytes start
+open_text bytes place start said_so from last is there = held bytes place start from (open_by bytes place said_so last is there)
+
+map_some : (text : Option (List ℕ)) → is_some (option_map held_text text) ≡ true → is_some text ≡ true
+map_some (Some t) found = refl
+map_some None found = found
+
+pub here_text : (bytes : List ℕ) (place start : ℕ) (found : Bool) → IsStart bytes place start → found ≡ is_some (text_in bytes place) → found ≡ true → text_in bytes place ≡ text_from bytes start
+here_text bytes place start found from is so =
+    held bytes place start from (map_some (front_text (drop place bytes)) (ap is_some (sym (text_is bytes place)) ∙ sym is ∙ so))
 
 pub no_text : (bytes : List ℕ) (place : ℕ) (found : Bool) → found ≡ is_some (text_in bytes place) → found ≡ false → text_in bytes place ≡ None
 no_text bytes place found is not_so = none_of (text_in bytes place) (sym is ∙ not_so)
@@ -77,4 +78,11 @@ no_text bytes place found is not_so = none_of (text_in bytes place) (sym is ∙ 
 
 pub past_text : (bytes : List ℕ) (place : ℕ) → length bytes ≤ place → text_in bytes place ≡ None
 unfolding front_text
-past_text bytes place past = text_is bytes place ∙ ap front_text (drop_of_length-le bytes past)
+past_text bytes place past = text_is bytes place ∙ ap (λ rest. option_map held_text (front_text rest)) (drop_of_length-le bytes past)
+
+-- A place of a table of texts.
+pub started : (bytes : List ℕ) (place start : ℕ) → option_map held_text (front_text (drop place bytes)) ≡ Some (held_front (drop start bytes)) → text_in bytes place ≡ text_from bytes start
+started bytes place start is = text_is bytes place ∙ is
+
+pub not_started : (bytes : List ℕ) (place : ℕ) → option_map held_text (front_text (drop place bytes)) ≡ None → text_in bytes place ≡ None
+not_started bytes place is = text_is bytes place ∙ is

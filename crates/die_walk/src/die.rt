@@ -7,12 +7,13 @@ ghost use Rattle.die_walk.specs.internal.Sites.{Homes};
 ghost use Rattle.die_walk.specs.internal.Heads.{held_in, link_of, text_from, text_at_home, where_said};
 
 use crate::heads::{DieParts, Head, Home, ORIGIN, SPECIFICATION, Texts, site_of, wide_of};
-use abbrev_units::{Class, Pick, Value, text_in};
+use abbrev_units::{Class, Pick, Value};
 use code_table::{
     DW_TAG_class_type, DW_TAG_inlined_subroutine, DW_TAG_namespace, DW_TAG_structure_type,
     DW_TAG_subprogram, DW_TAG_union_type,
 };
 use std::marker::Model;
+use text_table::held_front;
 
 /// A kept entry with the attributes that matter here (DWARF 5, 7.5.4). An attribute is absent if it is not given, has a value of another class, or
 /// leads to no text. Each call returns one attribute.
@@ -43,14 +44,12 @@ fn bytes_from(bytes: &[u8], place: usize) -> &[u8]
     bytes.split_at(place).1
 }
 
-/// The text at a place: up to the next zero byte or, without one, up to the end of the section.
+/// What is held of the text at a place: up to the next zero byte or, without one, up to the end of the section.
 #[inline]
-#[tactic(auto, using(crate::proofs::HeldLemmas::front_of))]
 fn text_from(bytes: &[u8], place: u32) -> &[u8]
     ensures { Some result.now ≡ text_from bytes.now place }
 {
-    let rest = bytes_from(bytes, place as usize);
-    text_in(rest, 0).unwrap_or(rest)
+    held_front(bytes_from(bytes, place as usize))
 }
 
 /// A text, given its section and its place there.

@@ -12,6 +12,7 @@ use crate::heads::{EntryList, Head, Home, ORIGIN, SPECIFICATION, Site, Wide, fla
 use crate::root::Root;
 use abbrev_units::{Class, Pick, Picks, Sections, Slot, Unit, text_in, text_place};
 use sym_edges::{FILE_LIMIT, OutOfMemory};
+use text_table::{TextTable, start_of};
 
 /// Where a text is: its section, and its place there.
 #[derive(Clone, Copy)]
@@ -60,8 +61,8 @@ fn is_closed(bytes: &[u8]) -> bool
     }
 }
 
-/// Whether there is a terminated text at a place of a section. This is seldom called, since nearly
-/// all sections end with a zero byte, so it is not inlined.
+/// Whether there is a terminated text at a place of `.debug_info`. This is seldom called, since nearly
+/// all files have a zero byte at its end, so it is not inlined.
 #[inline(never)]
 fn is_text(bytes: &[u8], place: u64) -> bool
     ensures { result ≡ is_some (text_in bytes.now place) }
@@ -69,20 +70,36 @@ fn is_text(bytes: &[u8], place: u64) -> bool
     text_in(bytes, place).is_some()
 }
 
-/// The place of a text in a section, if there is a terminated text. In a section that ends with a zero byte each text is terminated.
+/// Where a text in an entry is held from, if it is terminated. In a section that ends with a zero byte each text is.
 #[inline(always)]
 #[tactic(auto, using(crate::proofs::HeldLemmas::open_text, crate::proofs::HeldLemmas::past_text, crate::proofs::HeldLemmas::here_text, crate::proofs::HeldLemmas::no_text))]
-fn place_in(bytes: &[u8], place: u64) -> Option<u32>
+fn place_within(bytes: &[u8], place: u64) -> Option<u32>
     requires { length bytes.now ≤ 2 ^ 29 }
     ensures { FitsPlace bytes.now result (text_in bytes.now place) }
 {
     if place >= bytes.len() as u64 {
         return None;
     }
-    if is_closed(bytes) || is_text(bytes, place) {
-        return Some(place as u32);
+    if is_closed(bytes) {
+        return Some(start_of(bytes, place as usize) as u32);
+    }
+    if is_text(bytes, place) {
+        return Some(start_of(bytes, place as usize) as u32);
     }
     None
+}
+
+/// Where a text of a section is held from, if it is terminated.
+#[inline(always)]
+#[tactic(auto, using(crate::proofs::HeldLemmas::started, crate::proofs::HeldLemmas::not_started))]
+fn place_in(texts: &TextTable<'_>, place: u64) -> Option<u32>
+    requires { length texts.now ≤ 2 ^ 29 }
+    ensures { FitsPlace texts.now result (text_in texts.now place) }
+{
+    match texts.start(place) {
+        Some(start) => Some(start as u32),
+        None => None,
+    }
 }
 
 /// The place of a text in `.debug_str`, given its index in `.debug_str_offsets`; none if there is
@@ -98,7 +115,7 @@ fn place_by_index(
     ensures { FitsPlace sections.now.strs result (option_and_then (text_in sections.now.strs) (text_place sections.now.str_offsets unit.now.wide base index)) }
 {
     let place = text_place(sections.str_offsets, unit.wide, base, index)?;
-    place_in(sections.strs, place)
+    place_in(&sections.strs, place)
 }
 
 /// Where a text of a section is.
@@ -121,7 +138,7 @@ fn sup_home(sections: &Sections<'_>, place: u64) -> Named
     ensures text { text_at_home (homes_of sections.now) result.home result.place ≡ option_and_then (λ strs. text_in strs place) sections.now.sup_strs }
     ensures elsewhere { is_elsewhere_home result.home ≡ is_none sections.now.sup_strs }
 {
-    match sections.sup_strs {
+    match &sections.sup_strs {
         Some(strs) => at_home(Home::SupStrs, place_in(strs, place)),
         None => Named {
             home: Home::Elsewhere,
@@ -139,13 +156,13 @@ fn text_home(sections: &Sections<'_>, unit: &Unit, base: Option<u64>, pick: Pick
     ensures elsewhere { is_elsewhere_home result.home ≡ is_elsewhere sections.now (value_in pick.class pick.number) }
 {
     match pick.class {
-        Class::StrAt => at_home(Home::Strs, place_in(sections.strs, pick.number)),
+        Class::StrAt => at_home(Home::Strs, place_in(&sections.strs, pick.number)),
         Class::StrIndex => at_home(
             Home::Strs,
             place_by_index(sections, unit, base, pick.number),
         ),
-        Class::LineStrAt => at_home(Home::LineStrs, place_in(sections.line_str, pick.number)),
-        Class::InlineText => at_home(Home::Info, place_in(sections.info, pick.number)),
+        Class::LineStrAt => at_home(Home::LineStrs, place_in(&sections.line_str, pick.number)),
+        Class::InlineText => at_home(Home::Info, place_within(sections.info, pick.number)),
         Class::SupStrAt => sup_home(sections, pick.number),
         _ => NO_NAME,
     }

@@ -267,9 +267,12 @@ impl<'a> EntryList<'a> {
             parts: DieParts {
                 texts: Texts {
                     info: sections.info,
-                    strs: sections.strs,
-                    line_strs: sections.line_str,
-                    sup_strs: sections.sup_strs.unwrap_or(&[]),
+                    strs: sections.strs.bytes(),
+                    line_strs: sections.line_str.bytes(),
+                    sup_strs: match &sections.sup_strs {
+                        Some(strs) => strs.bytes(),
+                        None => &[],
+                    },
                 },
                 sites: Vec::with_capacity(alloc, (room / 4).max(8).min(64))?,
                 wides: Vec::new(alloc),

@@ -5,7 +5,7 @@ ghost use Rattle.abbrev_units.specs.Attributes.{as_place};
 ghost use Rattle.abbrev_units.specs.Picks.{value_in};
 ghost use Rattle.die_walk.specs.Picking.{root_by, text_by};
 
-use abbrev_units::{Class, Pick, Picks, Sections, Slot, Unit, Value, read_text, text_in};
+use abbrev_units::{Class, Pick, Picks, Sections, Slot, Unit, Value, read_text};
 use std::marker::Model;
 
 /// The attributes of a unit's root that hold for the whole unit. `low` is the low address, from
@@ -49,7 +49,8 @@ fn place_of(pick: Pick) -> Option<u64>
     }
 }
 
-/// The text of a value; `base` is the unit's str_offsets_base.
+/// What is held of the text of a value; `base` is the unit's str_offsets_base.
+#[tactic(auto, using(abbrev_units::proofs::TextLemmas::text_is))]
 fn text_of<'a>(
     sections: &Sections<'a>,
     unit: &Unit,
@@ -59,7 +60,10 @@ fn text_of<'a>(
     ensures { option_copied result ≡ text_by sections.now unit.now base value }
 {
     match value? {
-        Value::SupStrAt(place) => text_in(sections.sup_strs?, place),
+        Value::SupStrAt(place) => match &sections.sup_strs {
+            Some(strs) => strs.text(place),
+            None => None,
+        },
         value => read_text(sections, sections.info, unit.wide, base, value),
     }
 }

@@ -1,5 +1,5 @@
 //! The table of a unit's entries.
-ghost use Rattle.std.specs.Prelude.{◌≡◌, ◌≤◌, ◌^◌, [], length, map, OnOk};
+ghost use Rattle.std.specs.Prelude.{◌≡◌, ◌≤◌, ◌^◌, [], length, map, unwrap_or, OnOk};
 ghost use Rattle.std.specs.List.{slice_get};
 ghost use Rattle.sym_edges.specs.Rising.{RisesFrom, StandBelow};
 ghost use Rattle.abbrev_units.specs.Faults.{Gives};
@@ -145,6 +145,16 @@ fn walk_all<'a>(
 /// depends on it. Unused room is given back.
 const BYTES_A_KEPT_ENTRY: u64 = 32;
 
+/// The size of the `.debug_str` of the supplementary file, if it was read.
+fn sup_size(sections: &Sections<'_>) -> usize
+    ensures { result ≡ length (unwrap_or sections.now.sup_strs []) }
+{
+    match &sections.sup_strs {
+        Some(strs) => strs.bytes().len(),
+        None => 0,
+    }
+}
+
 /// The entries of a unit (DWARF 5, 7.5.2), or their first fault, which is in `.debug_info`: `Ends`, `LebLong` or `NoZero` at the code or the value,
 /// `UnknownForm` where a value of an unknown form would begin, `NoAbbrev` at the entry. The root is kept, and classes, structures, unions, inlined
 /// subroutines, subprograms and namespaces. If `.debug_info` or a section of texts has more than 2^29 bytes, the result is out of memory, since
@@ -160,9 +170,9 @@ pub fn walk<'a>(
     ensures { Gives result (entry_table sections.now unit.now abbrevs.now) }
 {
     if sections.info.len() > FILE_LIMIT
-        || sections.strs.len() > FILE_LIMIT
-        || sections.line_str.len() > FILE_LIMIT
-        || sections.sup_strs.unwrap_or(&[]).len() > FILE_LIMIT
+        || sections.strs.bytes().len() > FILE_LIMIT
+        || sections.line_str.bytes().len() > FILE_LIMIT
+        || sup_size(sections) > FILE_LIMIT
     {
         return Err(Stop::NoMemory);
     }

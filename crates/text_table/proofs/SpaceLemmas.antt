@@ -1,9 +1,9 @@
 -- Texts with fewer leading spaces.
-use Rattle.std.proofs.Common.{◌≡◌, ℕ, ◌+◌, ◌-◌, ◌<◌, ◌≤◌, ◌==◌, Bool, true, false, not, nat_le, List, [], ◌∷◌, Option, Some, None, unwrap_or, length, take, drop, suc, refl, sym, ◌∙◌, ap, arith, length-drop, ◌⊎◌, inl, inr, min, subst}
+use Rattle.std.proofs.Common.{◌≡◌, ℕ, ◌+◌, ◌-◌, ◌<◌, ◌≤◌, ◌==◌, Bool, true, false, not, nat_le, List, [], ◌∷◌, Option, Some, None, unwrap_or, length, take, drop, suc, refl, sym, ◌∙◌, ap, arith, length-drop, ◌⊎◌, inl, inr, min, subst, get_or, ◌≢◌}
 use Rattle.std.proofs.lemmas.Grind.{common_steps}
 use Rattle.std.proofs.lemmas.Bool.{cases_lt, false_from_ne_true}
 use Rattle.std.proofs.lemmas.Bool.Decides.{nat_tests}
-use Rattle.std.proofs.lemmas.List.{drop-take, length-take, take_all, take-take, take_min}
+use Rattle.std.proofs.lemmas.List.{at_drop_more, drop-take, length-take, take_all, take-take, take_min}
 use Rattle.std.proofs.lemmas.List.Sums.{position_or_len_is}
 use Rattle.memchr.specs.Find.{IsFirstByte, is_byte}
 use Rattle.std.specs.List.{position_or_len, prefix_len}
@@ -12,7 +12,7 @@ use Rattle.clean_names.specs.Names.{is_space}
 use Rattle.leb_cursor.specs.Texts.{front_text}
 use Rattle.text_table.specs.Spaces.{fewer_spaces, held_text, held_front}
 use Rattle.text_table.specs.Ends.{spaces_end, later_start}
-use Rattle.text_table.proofs.EndLemmas.{span_drop, span_front, span_past, front_found, front_missing}
+use Rattle.text_table.proofs.EndLemmas.{end_within, span_drop, span_front, span_past, front_found, front_missing}
 
 -- Zero bytes are no spaces, so the leading spaces of a text are those of the bytes from its place on.
 abbrev zeros : List ℕ → ℕ
@@ -71,45 +71,12 @@ fewer_text xs less =
     ∙ ap (λ n. Some (drop (n - 65536) (take (zeros xs) xs))) (spaces_are xs)
     ∙ sym (cut xs (spaces xs - 65536) (omega (arith, spaces_before xs)) less)
 
-pub no_start : (bytes : List ℕ) (place end : ℕ) → is_none (front_text (drop place bytes)) ≡ nat_le end place → end ≤ place → option_map fewer_spaces (front_text (drop place bytes)) ≡ None
-no_start bytes place end are past = none_of (front_text (drop place bytes)) (grind (arith, nat_tests, are, past))
-  where
-    none_of : (x : Option (List ℕ)) → is_none x ≡ true → option_map fewer_spaces x ≡ None
-    none_of (Some y) said = absurd (grind (arith, said))
-    none_of None said = refl
-
-there : (bytes : List ℕ) (place end : ℕ) → is_none (front_text (drop place bytes)) ≡ nat_le end place → place < end → zeros (drop place bytes) < length (drop place bytes)
-there bytes place end are below =
-    there_by (drop place bytes) (cases_lt (zeros (drop place bytes)) (length (drop place bytes))) (grind (arith, nat_tests, are, below))
+there : (bytes : List ℕ) (place end : ℕ) → is_none (front_text (drop place bytes)) ≡ nat_le end place → place < end → is_none (front_text (drop place bytes)) ≡ false
+there bytes place end are below = grind (arith, nat_tests, are, below)
 
 pub inside : (bytes : List ℕ) (place end : ℕ) → is_none (front_text (drop place bytes)) ≡ nat_le end place → place < end → place < length bytes
-inside bytes place end are below = omega (arith, there bytes place end are below, length-drop place bytes)
-
-pub start_behind : (bytes : List ℕ) (place end : ℕ) → is_none (front_text (drop place bytes)) ≡ nat_le end place → place < end → option_map fewer_spaces (front_text (drop place bytes)) ≡ front_text (drop (later_start bytes place) bytes)
-unfolding spaces_end
-start_behind bytes place end are below =
-    fewer_text (drop place bytes) (there bytes place end are below) ∙ ap front_text (grind (arith, common_steps))
-
-pub start_here : (bytes : List ℕ) (place end : ℕ) → is_none (front_text (drop place bytes)) ≡ nat_le end place → place < end → spaces_end bytes place ≤ place + 65536 → option_map fewer_spaces (front_text (drop place bytes)) ≡ front_text (drop place bytes)
-start_here bytes place end are below near =
-    start_behind bytes place end are below ∙ (let e : later_start bytes place ≡ place = omega (arith, near) in ap (λ n. front_text (drop n bytes)) e)
-
-some_map : {A B : Type 0} (f : A → B) (x : Option A) → is_none x ≡ false → is_some (option_map f x) ≡ true
-some_map f (Some y) found = refl
-some_map f None found = absurd (grind (arith, found))
-
--- Where a text begins, there is one.
-pub stays : (bytes : List ℕ) (place start end : ℕ) → is_none (front_text (drop place bytes)) ≡ nat_le end place → place < end → option_map fewer_spaces (front_text (drop place bytes)) ≡ front_text (drop start bytes) → is_some (front_text (drop start bytes)) ≡ true
-stays bytes place start end are below is =
-    ap is_some (sym is) ∙ some_map fewer_spaces (front_text (drop place bytes)) (grind (arith, nat_tests, are, below))
-
-there_some : (x : Option (List ℕ)) → is_some x ≡ true → is_none x ≡ false
-there_some (Some y) found = refl
-there_some None found = absurd (grind (arith, found))
-
-pub start_inside : (bytes : List ℕ) (start : ℕ) → is_some (front_text (drop start bytes)) ≡ true → start < length bytes
-start_inside bytes start found =
-    omega (arith, there_by (drop start bytes) (cases_lt (zeros (drop start bytes)) (length (drop start bytes))) (there_some (front_text (drop start bytes)) found), length-drop start bytes)
+inside bytes place end are below =
+    omega (arith, there_by (drop place bytes) (cases_lt (zeros (drop place bytes)) (length (drop place bytes))) (there bytes place end are below), length-drop place bytes)
 
 -- The first zero byte.
 zero_found : (xs : List ℕ) (k : ℕ) → IsFirstByte (is_byte 0) xs (Some k) → zeros xs ≡ k
@@ -180,3 +147,59 @@ pub text_held : (text : Option (List ℕ)) (rest : List ℕ) → option_map fewe
 unfolding held_front held_text
 text_held None rest is found = absurd (grind (arith, is, found))
 text_held (Some y) rest is found = ap (λ t. Some (take 131072 (unwrap_or t rest))) (sym is)
+
+-- Where a text is held from.
+none_of : (text : Option (List ℕ)) → is_none text ≡ true → text ≡ None
+none_of (Some y) said = absurd (grind (arith, said))
+none_of None said = refl
+
+some_of : (y : List ℕ) (text : Option (List ℕ)) → is_none text ≡ false → option_map (λ (t : List ℕ). y) text ≡ Some y
+some_of y (Some t) said = refl
+some_of y None said = absurd (grind (arith, said))
+
+some_after : (text after : Option (List ℕ)) → option_map fewer_spaces text ≡ after → is_none text ≡ false → is_some after ≡ true
+some_after (Some t) after is said = ap is_some (sym is)
+some_after None after is said = absurd (grind (arith, said))
+
+held_by : (xs : List ℕ) (none : Bool) → is_none (front_text xs) ≡ none → option_map held_text (front_text xs) ≡ option_map (λ (t : List ℕ). held_front (drop (spaces xs - 65536) xs)) (front_text xs)
+held_by xs true is = ap (option_map held_text) (none_of (front_text xs) is) ∙ sym (ap (option_map (λ (t : List ℕ). held_front (drop (spaces xs - 65536) xs))) (none_of (front_text xs) is))
+held_by xs false is =
+    let less = there_by xs (cases_lt (zeros xs) (length xs)) is in
+    let rest = drop (spaces xs - 65536) xs in
+    let same = fewer_text xs less in
+    sym (text_held (front_text xs) rest same (some_after (front_text xs) (front_text rest) same is)) ∙ sym (some_of (held_front rest) (front_text xs) is)
+
+pub held_from : (bytes : List ℕ) (place : ℕ) → option_map held_text (front_text (drop place bytes)) ≡ option_map (λ (t : List ℕ). held_front (drop (later_start bytes place) bytes)) (front_text (drop place bytes))
+unfolding spaces_end
+held_from bytes place =
+    let same : drop (spaces (drop place bytes) - 65536) (drop place bytes) ≡ drop (later_start bytes place) bytes = grind (arith, common_steps) in
+    held_by (drop place bytes) (is_none (front_text (drop place bytes))) refl
+    ∙ ap (λ (rest : List ℕ). option_map (λ (t : List ℕ). held_front rest) (front_text (drop place bytes))) same
+
+held_near : (bytes : List ℕ) (place : ℕ) → spaces_end bytes place ≤ place + 65536 → option_map held_text (front_text (drop place bytes)) ≡ option_map (λ (t : List ℕ). held_front (drop place bytes)) (front_text (drop place bytes))
+held_near bytes place near =
+    held_from bytes place ∙ (let e : later_start bytes place ≡ place = omega (arith, near) in ap (λ n. option_map (λ (t : List ℕ). held_front (drop n bytes)) (front_text (drop place bytes))) e)
+
+none_spaced : (x : ℕ) (xs : List ℕ) → x ≢ 32 → spaces (x ∷ xs) ≡ 0
+none_spaced x xs other = grind (arith, nat_tests, other)
+
+pub held_unspaced : (bytes : List ℕ) (place : ℕ) → place < length bytes → get_or bytes place 0 ≢ 32 → option_map held_text (front_text (drop place bytes)) ≡ option_map (λ (t : List ℕ). held_front (drop place bytes)) (front_text (drop place bytes))
+unfolding spaces_end
+held_unspaced bytes place below other =
+    let none : spaces (drop place bytes) ≡ 0 = at_drop_more spaces bytes place 0 below ∙ none_spaced (get_or bytes place 0) (drop (place + 1) bytes) other in
+    held_near bytes place (omega (arith, none))
+
+pub later_inside : (bytes : List ℕ) (place : ℕ) → place < length bytes → later_start bytes place < length bytes
+later_inside bytes place below = omega (arith, end_within bytes place (omega (arith, below)), below)
+
+pub start_behind : (bytes : List ℕ) (place end : ℕ) → is_none (front_text (drop place bytes)) ≡ nat_le end place → place < end → option_map held_text (front_text (drop place bytes)) ≡ Some (held_front (drop (later_start bytes place) bytes))
+start_behind bytes place end are below =
+    held_from bytes place ∙ some_of (held_front (drop (later_start bytes place) bytes)) (front_text (drop place bytes)) (there bytes place end are below)
+
+pub start_here : (bytes : List ℕ) (place end : ℕ) → is_none (front_text (drop place bytes)) ≡ nat_le end place → place < end → spaces_end bytes place ≤ place + 65536 → option_map held_text (front_text (drop place bytes)) ≡ Some (held_front (drop place bytes))
+start_here bytes place end are below near =
+    held_near bytes place near ∙ some_of (held_front (drop place bytes)) (front_text (drop place bytes)) (there bytes place end are below)
+
+pub no_start : (bytes : List ℕ) (place end : ℕ) → is_none (front_text (drop place bytes)) ≡ nat_le end place → end ≤ place → option_map held_text (front_text (drop place bytes)) ≡ None
+no_start bytes place end are past =
+    ap (option_map held_text) (none_of (front_text (drop place bytes)) (grind (arith, nat_tests, are, past)))

@@ -9,4 +9,4 @@ pub mod laws;
 mod spaces;
 mod table;
 
-pub use crate::table::{TextTable, end_of_texts, held_front, held_text};
+pub use crate::table::{TextTable, end_of_texts, held_front, held_text, start_of};

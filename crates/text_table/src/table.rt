@@ -1,8 +1,8 @@
 //! The texts of a section.
-ghost use Rattle.std.specs.Prelude.{◌≡◌, ℕ, ◌<◌, nat_le, true, length, drop, IfOk, IfSome, option_and_then};
-ghost use Rattle.std.specs.Option.{option_copied, option_map, is_none, is_some};
+ghost use Rattle.std.specs.Prelude.{◌≡◌, ℕ, ◌<◌, ◌≤◌, nat_le, length, drop, IfOk, IfSome};
+ghost use Rattle.std.specs.Option.{option_copied, option_map, is_none};
 ghost use Rattle.leb_cursor.specs.Texts.{front_text};
-ghost use Rattle.text_table.specs.Spaces.{fewer_spaces, held_text, held_front};
+ghost use Rattle.text_table.specs.Spaces.{held_text, held_front};
 ghost use Rattle.text_table.specs.Ends.{later_start};
 
 use crate::spaces::{SpaceEnds, count_spaces};
@@ -46,6 +46,30 @@ pub fn held_front(bytes: &[u8]) -> &[u8]
         Some(end) => front.split_at(end).0,
         None => front,
     }
+}
+
+/// The place from which on there are at most 65,536 spaces.
+#[inline(never)]
+#[tactic(auto, unfolding(crate::specs::Ends::spaces_end), using(crate::proofs::EndLemmas::span_within))]
+fn spaced_start(bytes: &[u8], place: usize) -> usize
+    requires { place ≤ length bytes.now }
+    ensures { result ≡ later_start bytes.now place }
+{
+    place + count_spaces(bytes.split_at(place).1).saturating_sub(SPACES)
+}
+
+/// The place from which on the text at a place is held, if it is zero-terminated. All its leading spaces are passed.
+#[inline]
+#[tactic(auto, using(crate::proofs::SpaceLemmas::held_from, crate::proofs::SpaceLemmas::held_unspaced, crate::proofs::SpaceLemmas::later_inside))]
+pub fn start_of(bytes: &[u8], place: usize) -> usize
+    requires { place < length bytes.now }
+    ensures text { option_map held_text (front_text (drop place bytes.now)) ≡ option_map (λ text. held_front (drop result bytes.now)) (front_text (drop place bytes.now)) }
+    ensures inside { result < length bytes.now }
+{
+    if bytes[place] == b' ' {
+        return spaced_start(bytes, place);
+    }
+    place
 }
 
 /// A section of zero-terminated texts.
@@ -100,12 +124,11 @@ impl<'a> TextTable<'a> {
         place + (past - place).saturating_sub(SPACES)
     }
 
-    /// Where the text at a place begins once it has at most 65,536 leading spaces; `None` if there is no zero-terminated text. The time does not
-    /// depend on the text.
+    /// The place from which on the text at a place is held; `None` if there is no zero-terminated text. The time does not depend on the text.
     #[inline]
     pub fn start(&self, place: u64) -> Option<usize>
-        ensures text { option_map fewer_spaces (front_text (drop place self.now)) ≡ option_and_then (λ start. front_text (drop start self.now)) result }
-        ensures inside { IfSome result (λ start. (start < length self.now) × (is_some (front_text (drop start self.now)) ≡ true)) }
+        ensures text { option_map held_text (front_text (drop place self.now)) ≡ option_map (λ start. held_front (drop start self.now)) result }
+        ensures inside { IfSome result (λ start. start < length self.now) }
     {
         if place >= self.end as u64 {
             return None;

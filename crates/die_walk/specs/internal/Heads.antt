@@ -2,7 +2,7 @@
 use Rattle.std.specs.Prelude.{ℕ, ◌<◌, ◌≤◌, ◌≡◌, ◌==◌, ◌/◌, ◌%◌, ◌^◌, ◌*◌, ◌+◌, Bool, true, false, if◌then◌else◌, List, [], ◌∷◌, ◌++◌, length, drop, get_or, ◌-◌, Option, None, Some, unwrap_or}
 use Rattle.std.specs.List.{slice_get}
 use Rattle.std.specs.Option.{option_and_then}
-use Rattle.leb_cursor.specs.Texts.{front_text}
+use Rattle.text_table.specs.Spaces.{held_front}
 use Rattle.abbrev_units.specs.DebugSections.{DebugSections}
 use Rattle.abbrev_units.specs.Picks.{PickFields}
 use Rattle.die_walk.specs.declared.heads.Head.{Head}
@@ -20,9 +20,9 @@ use Rattle.abbrev_units.specs.declared.unit.Unit.{Unit}
 abbrev pub homes_of : DebugSections → Homes
 homes_of sections = record { info = sections.info; strs = sections.strs; line_strs = sections.line_str; sup_strs = unwrap_or sections.sup_strs [] }
 
--- the text at a place: up to the next zero byte, or else up to the end of the section
+-- what is held of the text at a place: up to the next zero byte, or else up to the end of the section
 abbrev pub text_from : List ℕ → ℕ → Option (List ℕ)
-text_from bytes place = Some (unwrap_or (front_text (drop place bytes)) (drop place bytes))
+text_from bytes place = Some (held_front (drop place bytes))
 
 -- a text, given its section and its place there
 abbrev pub text_at_home : Homes → Home → ℕ → Option (List ℕ)
