@@ -3,7 +3,6 @@ pub mod ProgramLemmas
 pub mod NoteLemmas
 pub mod WalkedLemmas
 pub mod IdentityLemmas
-pub mod StringLemmas
 pub mod SymbolLemmas
 pub mod CodeLemmas
 pub mod PairLemmas

@@ -1,8 +1,10 @@
 use Rattle.std.proofs.Common.{◌≡◌, ℕ, ◌%◌, ◌==◌, ◌||◌, not, cond, Bool, true, false, List, [], ◌∷◌, Option, Some, None, map, refl, sym, ◌∙◌, ap}
 use Rattle.std.specs.List.{filter, filter_map, cons_option}
+use Rattle.std.specs.Option.{option_map}
 use Rattle.std.proofs.lemmas.Bool.{and_parts}
 use Rattle.sym_edges.specs.Addresses.{Range}
 use Rattle.range_set.specs.Members.{holds_any}
+use Rattle.text_table.specs.Spaces.{held_text}
 use Rattle.elf_sections.specs.declared.section.SectionHeader.{SectionHeader}
 use Rattle.elf_sections.specs.declared.symbols.SymbolEntry.{SymbolEntry}
 use Rattle.elf_sections.specs.declared.symbols.Symbol.{Symbol}
@@ -42,7 +44,7 @@ function_at false address name s is = cc
 function_in_code : (ranges : List Range) (strings : List ℕ) (e : SymbolEntry) (s : SymbolParts) → function_of ranges strings e ≡ Some s → is_in_code ranges s.address ≡ true
 unfolding function_of is_function
 function_in_code ranges strings e s is =
-    let at = function_at (is_function ranges e) e.value (string_at strings e.name) s is in
+    let at = function_at (is_function ranges e) e.value (option_map held_text (string_at strings e.name)) s is in
     let kind = and_parts (e.info % 16 == stt_func || e.info % 16 == stt_gnu_ifunc) _ at.0 in
     let defined = and_parts (not (e.section == shn_undef)) _ kind.1 in
     ap (is_in_code ranges) at.1 ∙ defined.1

@@ -88,6 +88,11 @@ which_symbols : map (λ s. s.name) (symbols (in_three (typed (codes "object") 0x
 unfolding elf_sections_computes elf_builds
 which_symbols = refl
 
+-- A few leading spaces of a name are held.
+spaced_names : map (λ s. s.name) (symbols (in_three (function (codes " f") 0x1000 ∷ function (codes "  g") 0x1000 ∷ []))) ≡ codes " f" ∷ codes "  g" ∷ []
+unfolding elf_sections_computes elf_builds
+spaced_names = refl
+
 -- A file with a table of symbols of the given type and one of dynamic symbols.
 abbrev two_tables : ℕ → List ℕ
 two_tables kind = file_of 0 (plain [] 0 [] ∷ code_at 0x1000 (bytes (codes "55905dc3")) ∷ symbol_table 11 (function (codes "f") 0x1001 ∷ [])

@@ -1,7 +1,5 @@
--- What the code stores of a file and of a string table while it reads. No public contract cites
--- these definitions.
-use Rattle.std.specs.Prelude.{◌≡◌, ℕ, ◌+◌, ◌*◌, ◌/◌, ◌^◌, ◌<◌, ◌==◌, true, List, None, length, drop, slice_index}
-use Rattle.std.specs.List.{position_or_len}
+-- What the code stores of a file while it reads. No public contract cites these definitions.
+use Rattle.std.specs.Prelude.{◌≡◌, ℕ, ◌^◌, ◌<◌, true, List, None, length}
 use Rattle.std.specs.declared.cmp.Ordering.{Ordering}
 use Rattle.std.specs.Ordering.{ordering_then, nat_cmp}
 use Rattle.std.specs.BTreeSet.{BTreeSet, contains}
@@ -26,13 +24,3 @@ run_cmp x y = ordering_then (nat_cmp x.0 y.0) (nat_cmp x.1 y.1)
 -- a section of notes whose offset and size are in the set has no build id
 abbrev pub GaveNone : List ℕ → BTreeSet (ℕ × ℕ) → Type 0
 GaveNone file runs = (s : SectionHeader) → s.kind ≡ sht_note → contains run_cmp runs (s.offset, s.size) ≡ true → first_id (notes_of file s) ≡ None
-
--- the place of the first zero byte at or after `at`, or the table's end
-unfoldable pub string_end : List ℕ → ℕ → ℕ
-string_end table at = at + position_or_len (λ b. b == 0) (drop at table)
-
--- for the start of each block, the place of the first zero byte from there on, or the table's end
-pub record AreEnds (table : List ℕ) (block : ℕ) (ends : List ℕ) : Type 0 where
-  pub some : 0 < block
-  pub count : length ends ≡ length table / block + 1
-  pub each : (k : ℕ) → k < length ends → slice_index ends k ≡ string_end table (k * block)

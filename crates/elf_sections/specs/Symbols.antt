@@ -1,8 +1,9 @@
 -- The symbol table and the functions in it (System V gABI, "Symbol Table").
 use Rattle.std.specs.Prelude.{ℕ, ◌+◌, ◌*◌, ◌/◌, ◌%◌, ◌==◌, ◌||◌, ◌&&◌, Bool, not, List, [], ◌∷◌, Option, Some, None, length, map, find, is_none, slice_get, slice_index, option_and_then, if◌then◌else◌}
 use Rattle.std.specs.List.{list_any, range_with_len, filter_map}
-use Rattle.std.specs.Option.{option_or}
+use Rattle.std.specs.Option.{option_map, option_or}
 use Rattle.sym_edges.specs.Addresses.{Range}
+use Rattle.text_table.specs.Spaces.{held_text}
 use Rattle.elf_sections.specs.Numbers.{u16_at, u32_at, u64_at}
 use Rattle.elf_sections.specs.Strings.{string_at}
 use Rattle.sym_edges.specs.Results.{fault_if}
@@ -67,9 +68,10 @@ named_symbol address None = None
 named_symbol address (Some []) = None
 named_symbol address (Some (b ∷ text)) = Some (record { address = address; name = b ∷ text })
 
--- the function symbol of an entry, if the entry is a function in code with a name
+-- the function symbol of an entry, if the entry is a function in code with a name. A symbol has what is held of its name, and so has a name exactly
+-- if the name in the file is not empty
 unfoldable pub function_of : List Range → List ℕ → SymbolEntry → Option SymbolParts
-function_of ranges strings e = if is_function ranges e then named_symbol e.value (string_at strings e.name) else None
+function_of ranges strings e = if is_function ranges e then named_symbol e.value (option_map held_text (string_at strings e.name)) else None
 
 -- some function has no zero-ended name
 unfoldable pub has_nameless : List Range → List ℕ → List SymbolEntry → Bool

@@ -15,12 +15,12 @@ use crate::links::{find_altlink, find_debug_sup};
 use crate::notes::find_build_id;
 use crate::program::read_base;
 use crate::section::{find_named, read_content};
-use crate::strings::StringTable;
 use crate::symbols::{Symbol, find_linked, find_symbol_table, read_functions};
 use crate::tables::{Tables, read_tables};
 use crate::text_identity::{fold_text, pad_id};
 use std::alloc::Global;
 use sym_edges::{OutOfMemory, Part, Sect, Span, Stop};
+use text_table::TextTable;
 
 /// How many bytes of `.text` give the identity of a file without a build id.
 const IDENTITY_BYTES: usize = 4096;
@@ -82,7 +82,7 @@ fn find_symbols<'a>(
     let Some(linked) = find_linked(sections, table) else {
         return Err(Stop::Fault(ElfFault::SymbolTable));
     };
-    let strings = StringTable::new(alloc, read_content(file, linked).unwrap_or(&[]))?;
+    let strings = TextTable::new(alloc, read_content(file, linked).unwrap_or(&[]))?;
     let entries = read_content(file, table).unwrap_or(&[]);
     match read_functions(alloc, spans, entries, &strings)? {
         Some(symbols) => Ok(symbols),

@@ -26,7 +26,6 @@ mod notes;
 mod numbers;
 mod program;
 mod section;
-mod strings;
 mod symbols;
 mod tables;
 mod text_identity;

@@ -3,7 +3,6 @@ ghost use Rattle.std.specs.Prelude.{◌≡◌, ◌≤◌, IfOk, ◌+◌, ◌*◌
 ghost use Rattle.std.specs.List.{filter_map, list_any};
 ghost use Rattle.std.specs.Option.{option_copied, option_map};
 ghost use Rattle.sym_edges.specs.Outside.{MatchStop};
-ghost use Rattle.elf_sections.specs.Strings.{string_at};
 ghost use Rattle.elf_sections.specs.Programs.{is_in_code};
 ghost use Rattle.elf_sections.specs.Symbols.{symbol_at, is_function, symbol_table, linked, entries_of};
 ghost use Rattle.elf_sections.specs.internal.Steps.{Classifies, ReadsSymbols};
@@ -15,12 +14,12 @@ use crate::constants::{
 };
 use crate::numbers::{read_u16, read_u32, read_u64};
 use crate::section::SectionHeader;
-use crate::strings::StringTable;
 use range_set::{RangeSet, of_ranges};
 use std::alloc::{AllocError, Global};
 use sym_edges::{OutOfMemory, Span};
+use text_table::TextTable;
 
-/// A function in code, from the symbol table: its ELF address, and its name as the file has it.
+/// A function in code, from the symbol table: its ELF address, and what is held of its name (`text_table`).
 #[derive(Clone, Copy, Debug)]
 pub struct Symbol<'a> {
     pub address: u64,
@@ -108,14 +107,14 @@ enum Found<'a> {
     Function(Symbol<'a>),
 }
 
-#[tactic(auto, unfolding(crate::specs::Symbols::is_nameless, crate::specs::Symbols::function_of))]
-fn classify<'a>(code: &RangeSet, strings: &StringTable<'a>, entry: &SymbolEntry) -> Found<'a>
+#[tactic(auto, unfolding(crate::specs::Symbols::is_nameless, crate::specs::Symbols::function_of, crate::specs::Strings::string_at))]
+fn classify<'a>(code: &RangeSet, strings: &TextTable<'a>, entry: &SymbolEntry) -> Found<'a>
     ensures { Classifies result code.now strings.now entry.now }
 {
     if !names_function(code, entry) {
         return Found::Other;
     }
-    match strings.string(entry.name as usize) {
+    match strings.text(u64::from(entry.name)) {
         None => Found::Nameless,
         Some([]) => Found::Other,
         Some(name) => Found::Function(Symbol {
@@ -132,7 +131,7 @@ fn read_symbols<'a>(
     alloc: Global,
     code: &RangeSet,
     table: &[u8],
-    strings: &StringTable<'a>,
+    strings: &TextTable<'a>,
 ) -> Result<Option<Vec<Symbol<'a>>>, AllocError>
     ensures { IfOk result (λ found. ReadsSymbols (option_map (λ v. v.items) found) code.now strings.now (entries_of table.now (length table.now / symbol_size))) }
 {
@@ -155,7 +154,7 @@ pub fn read_functions<'a>(
     alloc: Global,
     code: &[Span],
     table: &[u8],
-    strings: &StringTable<'a>,
+    strings: &TextTable<'a>,
 ) -> Result<Option<Vec<Symbol<'a>>>, OutOfMemory>
     ensures { IfOk result (λ found. ReadsSymbols (option_map (λ v. v.items) found) code.now strings.now (entries_of table.now (length table.now / symbol_size))) }
 {

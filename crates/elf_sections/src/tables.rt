@@ -15,10 +15,10 @@ use crate::header::{FileHeader, read_header, read_sup_header};
 use crate::section::{
     SectionHeader, begins, does_leave, is_compressed_section, read_content, read_section,
 };
-use memchr::memrchr;
 use std::alloc::{AllocError, Global};
 use std::marker::Model;
 use sym_edges::Stop;
+use text_table::end_of_texts;
 
 /// A file whose file header, section headers and names have been read.
 #[derive(Drop)]
@@ -173,18 +173,6 @@ pub fn content_at<'a>(file: &'a [u8], sections: &[SectionHeader], index: usize) 
     }
 }
 
-/// The place after the last zero byte, or 0 if there is none. A string begins at each place below
-/// it, and at no other.
-#[tactic(auto, using(crate::proofs::StringLemmas::strings_below, crate::proofs::StringLemmas::no_string))]
-fn end_of_strings(table: &[u8]) -> usize
-    ensures { (at : ℕ) → is_none (string_at table.now at) ≡ nat_le result at }
-{
-    match memrchr(0, table) {
-        None => 0,
-        Some(last) => last + 1,
-    }
-}
-
 fn is_past(section: &SectionHeader, table: &[u8], end: usize) -> bool
     requires { (at : ℕ) → is_none (string_at table.now at) ≡ nat_le end at }
     ensures { result ≡ is_none (string_at table.now section.now.name) }
@@ -193,10 +181,11 @@ fn is_past(section: &SectionHeader, table: &[u8], end: usize) -> bool
 }
 
 /// Whether some section's name is not zero-ended inside the table.
+#[tactic(auto, unfolding(crate::specs::Strings::string_at))]
 pub fn has_open_name(table: &[u8], sections: &[SectionHeader]) -> bool
     ensures { result ≡ list_any (λ s. is_none (string_at table.now s.name)) sections.now }
 {
-    let end = end_of_strings(table);
+    let end = end_of_texts(table);
     sections.iter().any(|section| is_past(section, table, end))
 }
 

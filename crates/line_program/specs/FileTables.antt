@@ -5,6 +5,7 @@ use Rattle.sym_edges.specs.Results.{◌>>=◌}
 use Rattle.leb_cursor.specs.Ahead.{Ahead}
 use Rattle.leb_cursor.specs.Lists.{list_at}
 use Rattle.leb_cursor.specs.Readings.{fixed_at, uleb_at, text_at}
+use Rattle.text_table.specs.Spaces.{held_text}
 use Rattle.abbrev_units.specs.declared.fault.DwarfKind.TheVariants.{UnknownForm, LineHeader}
 use Rattle.abbrev_units.specs.declared.value.Value.{Value}
 use Rattle.abbrev_units.specs.declared.value.Value.TheVariants.{Num}
@@ -24,13 +25,13 @@ pub record Tables : Type 0 where
   pub files : List FileFields
 
 -- an entry of include_directories or, if `of_files`, of file_names, in versions 2 to 4. It has a
--- path; a file has more fields after its path. An empty path ends the list
+-- path; a file has more fields after its path. An empty path ends the list. What is held of a path is kept
 unfoldable pub old_entry_at : Bool → Ahead → Result (Option FileFields × Ahead) Fault
 old_entry_at of_files c =
     in_line (text_at c) >>= λ path.
     if length path.0 == 0 then Ok (None, path.1) else
     if of_files then (file_behind path.0 path.1 >>= λ file. Ok (Some file.0, file.1)) else
-    Ok (Some (record { path = path.0; directory = 0 }), path.1)
+    Ok (Some (record { path = held_text path.0; directory = 0 }), path.1)
 
 -- the tables of versions 2 to 4
 unfoldable pub old_tables_at : Ahead → Result Tables Fault

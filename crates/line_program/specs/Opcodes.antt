@@ -6,6 +6,7 @@ use Rattle.leb_cursor.specs.Ahead.{Ahead}
 use Rattle.leb_cursor.specs.Lists.{list_at}
 use Rattle.leb_cursor.specs.Readings.{fixed_at, uleb_at, sleb_at, text_at, part_at}
 use Rattle.abbrev_units.specs.declared.fault.DwarfKind.TheVariants.{LineOpcode}
+use Rattle.text_table.specs.Spaces.{held_text}
 use Rattle.line_program.specs.declared.opcode.Opcode.{Opcode}
 use Rattle.line_program.specs.declared.opcode.Opcode.TheVariants.{Special, Copy, AdvancePc, AdvanceLine, SetFile, SetColumn, NegateStmt, SetBasicBlock, ConstAddPc, FixedAdvancePc, SetPrologueEnd, SetEpilogueBegin, SetIsa, UnknownStandard, EndSequence, SetAddress, DefineFile, OtherExtended}
 use Rattle.line_program.specs.Faults.{Fault, fault_at, in_line}
@@ -24,13 +25,13 @@ unfoldable pub pass_ulebs : ℕ → Ahead → Result Ahead Fault
 pass_ulebs zero c = Ok c
 pass_ulebs (suc n) c = in_line (uleb_at c) >>= λ operand. pass_ulebs n operand.1
 
--- the fields after a file's path: the number of its directory, its time and its size (DWARF 4, 6.2.4, file_names)
+-- a file, given its path: the fields after the path are the number of its directory, its time and its size (DWARF 4, 6.2.4, file_names)
 unfoldable pub file_behind : List ℕ → Ahead → Result (FileFields × Ahead) Fault
 file_behind path c =
     in_line (uleb_at c) >>= λ directory.
     in_line (uleb_at directory.1) >>= λ time.
     in_line (uleb_at time.1) >>= λ size.
-    Ok (record { path = path; directory = directory.0 }, size.1)
+    Ok (record { path = held_text path; directory = directory.0 }, size.1)
 
 -- DW_LNE_define_file: a path, and the fields after it (DWARF 4, 6.2.5.3)
 unfoldable pub define_file_at : Ahead → Result Opcode Fault

@@ -12,6 +12,7 @@ use crate::opcode_reader::read_file_behind;
 use abbrev_units::{DwarfKind, Sections, Value, read_form, read_place, read_text};
 use code_table::{DW_FORM_flag_present, DW_FORM_implicit_const, DW_FORM_line_strp, DW_FORM_udata};
 use leb_cursor::Cursor;
+use text_table::held_text;
 
 // The content types of version 5 whose values are used (DWARF 5, table 7.27).
 pub const DW_LNCT_path: u64 = 1;
@@ -34,6 +35,7 @@ pub fn read_old_entry<'a>(
         let file = read_file_behind(cursor, path)?;
         return Ok(Some(file));
     }
+    let path = held_text(path);
     Ok(Some(FileEntry { path, directory: 0 }))
 }
 

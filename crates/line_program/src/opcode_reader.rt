@@ -15,6 +15,7 @@ use code_table::{
     DW_LNS_set_epilogue_begin, DW_LNS_set_file, DW_LNS_set_isa, DW_LNS_set_prologue_end,
 };
 use leb_cursor::Cursor;
+use text_table::held_text;
 
 /// Skips `count` unsigned operands.
 #[tactic(auto, using(crate::proofs::ReadLemmas::pass_none, crate::proofs::ReadLemmas::pass_more, crate::proofs::ReadLemmas::pass_cut))]
@@ -38,6 +39,7 @@ pub fn read_file_behind<'a>(
     let directory = cursor.uleb()?;
     let _time = cursor.uleb()?;
     let _size = cursor.uleb()?;
+    let path = held_text(path);
     Ok(FileEntry { path, directory })
 }
 
