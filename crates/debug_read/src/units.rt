@@ -323,12 +323,13 @@ pub fn read_both<'a, R: Threads + Sync, G: Gate + Sync>(
         (λ fault. both_says image.now ≡ Err fault)
         (Prim.Unit {0}) }
 {
-    let own = sections_of(image);
+    let alloc = crew.alloc();
+    let own = sections_of(alloc, image)?;
     let file = match read_file(crew, &own, image.code(), gate) {
         Ok(file) => file,
         Err(stop) => return Err(dwarf_stop(stop)),
     };
-    let sup = sup_sections_of(image.sup());
+    let sup = sup_sections_of(alloc, image.sup())?;
     let other = match read_file(crew, &sup, image.code(), &NoGate) {
         Ok(other) => other,
         Err(stop) => return Err(sup_stop(stop)),

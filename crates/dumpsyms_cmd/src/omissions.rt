@@ -169,7 +169,7 @@ fn add_own_units(
     ensures { OnOk result (text.new.items ≡ text.old.items ++ units_text full (sections_of image.now) units.now) }
 {
     if full {
-        add_units_left(text, &mut Splits::of(alloc, image), units)?;
+        add_units_left(text, &mut Splits::of(alloc, image)?, units)?;
     } else {
         add_units(text, units)?;
     }

@@ -127,15 +127,15 @@ impl<'a> Model for Splits<'a> {
 }
 
 impl<'a> Splits<'a> {
-    pub fn of(alloc: Global, image: &Image<'a>) -> Splits<'a>
-        ensures { result ≡ sections_of image.now }
+    pub fn of(alloc: Global, image: &Image<'a>) -> Result<Splits<'a>, OutOfMemory>
+        ensures { IfOk result (λ splits. splits ≡ sections_of image.now) }
     {
-        Splits {
+        Ok(Splits {
             alloc,
-            sections: sections_of(image),
+            sections: sections_of(alloc, image)?,
             held: None,
             scratch: AbbrevScratch::new(alloc),
-        }
+        })
     }
 
     /// Whether the first entry of a unit names another file.
