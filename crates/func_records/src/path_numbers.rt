@@ -1,5 +1,5 @@
 //! The FILE numbers of the paths in use, found by the unit and the number in its line table.
-ghost use Rattle.std.specs.Prelude.{◌≡◌, ◌<◌, ◌^◌, length, slice_get, unwrap_or, IfOk, IfSome};
+ghost use Rattle.std.specs.Prelude.{◌≡◌, ℕ, List, ◌<◌, ◌^◌, length, slice_get, unwrap_or, IfOk, IfSome};
 ghost use Rattle.std.specs.List.{All};
 ghost use Rattle.std.specs.List.Sorted.{IsStrictlySortedBy};
 ghost use Rattle.func_records.specs.internal.Texts.{text_cmp};
@@ -9,12 +9,14 @@ ghost use Rattle.func_records.specs.internal.Spelling.{unit_numbers, row_of, IsN
 use crate::numbers::{number_guessed, number_in};
 use crate::path_list::PathRef;
 use debug_units::Units;
-use place_guesses::PlaceGuesses;
 use std::alloc::Global;
 use std::marker::Model;
 use std::thread::Threads;
 use sym_edges::OutOfMemory;
 use unit_workers::Crew;
+
+/// How many slots there may be beside four for each path.
+const SPARE_SLOTS: usize = 1024;
 
 /// A path of a unit, by its number in the unit's line table, and its FILE number.
 #[derive(Clone, Copy, Debug, PartialEq, Eq, PartialOrd, Ord)]
@@ -67,51 +69,51 @@ fn number_refs(
     Ok(list)
 }
 
-/// For each unit the place of its first path in a list that is sorted by units; then the length of
-/// the list.
-fn first_places(
+/// The paths of a sorted list in slots, and for each unit the place at which its path 0 would be.
+/// Most paths stand at that place plus their number, and what stands between two of them is the
+/// later one. A path that would need more than four slots for each path before it and `SPARE_SLOTS`
+/// stands in the next slot.
+fn spread(
     alloc: Global,
     list: &[NumberedPath],
     units: usize,
-) -> Result<Vec<usize>, OutOfMemory> {
-    let mut firsts = Vec::with_capacity(alloc, units.saturating_add(1))?;
-    'units: for unit in 0..units {
-        firsts.push(list.partition_point(|one| (one.unit as usize) < unit))?;
-    }
-    firsts.push(list.len())?;
-    Ok(firsts)
-}
-
-/// A key that distinguishes a path of a unit from all others.
-fn key_of(unit: u32, path: u32) -> u64 {
-    u64::from(unit) << 32 | u64::from(path)
-}
-
-/// For each member of a list, its place in the slot of its key, unless a later member has the same
-/// slot.
-fn note_places(alloc: Global, list: &[NumberedPath]) -> Result<PlaceGuesses, OutOfMemory> {
-    let mut guesses = PlaceGuesses::new(alloc, list.len().saturating_mul(4))?;
+) -> Result<(Vec<NumberedPath>, Vec<usize>), OutOfMemory>
+    ensures { IfOk result (λ made. (rows : List (List ℕ)) → All (IsNumbered rows) list.now → All (IsNumbered rows) made.0.items) }
+{
+    let mut slots = Vec::with_capacity(alloc, list.len())?;
+    let mut origins = vec![in alloc; 0; units]?;
+    let mut unit = usize::MAX;
+    let mut origin: usize = 0;
     'list: for place in 0..list.len() {
         let one = list[place];
-        let slot = guesses.slot_of(key_of(one.unit, one.path));
-        if place < u32::MAX as usize {
-            guesses.note(slot, place as u32);
+        if one.unit as usize != unit {
+            unit = one.unit as usize;
+            origin = slots.len().wrapping_sub(one.path as usize);
+            if unit < units {
+                origins[unit] = origin;
+            }
         }
+        let at = origin.wrapping_add(one.path as usize);
+        let most = place.saturating_mul(4).saturating_add(SPARE_SLOTS);
+        let end = if at < most {
+            at + 1
+        } else {
+            slots.len().saturating_add(1)
+        };
+        slots.resize(end, one)?;
     }
-    Ok(guesses)
+    Ok((slots, origins))
 }
 
 /// The FILE numbers of the paths in use. Only these are stored, so a line table that many units
-/// share takes no memory for each of them. `guesses` and `firsts` only say where a path is looked
-/// for: first at one place, which gains two hundredths of the instructions on a Rust program, and
-/// then among the paths of the unit.
+/// share takes no memory for each of them. `origins` only says where a path is looked for first. In
+/// the Rust, C++ and C programs that were measured each path was there.
 #[derive(Drop)]
 pub struct PathNumbers<'n, 'a> {
     units: &'n Units<'a>,
     sorted: &'n [&'n [u8]],
-    list: Vec<NumberedPath>,
-    guesses: PlaceGuesses,
-    firsts: Vec<usize>,
+    slots: Vec<NumberedPath>,
+    origins: Vec<usize>,
 }
 
 impl<'n, 'a> Model for PathNumbers<'n, 'a> {
@@ -124,7 +126,7 @@ impl<'n, 'a> Model for PathNumbers<'n, 'a> {
 
     ghost view = { λ p. unit_numbers (bytes_of p.sorted.now) p.units.now };
 
-    ghost invariant = { λ p. CanNumber p.sorted.now × All (IsNumbered (unit_numbers (bytes_of p.sorted.now) p.units.now)) p.list.items };
+    ghost invariant = { λ p. CanNumber p.sorted.now × All (IsNumbered (unit_numbers (bytes_of p.sorted.now) p.units.now)) p.slots.items };
 }
 
 impl<'n, 'a> PathNumbers<'n, 'a> {
@@ -143,58 +145,41 @@ impl<'n, 'a> PathNumbers<'n, 'a> {
         let alloc = crew.alloc();
         let mut list = number_refs(alloc, units, sorted, refs, guesses)?;
         crew.sort(list.as_mut_slice())?;
-        let guesses = note_places(alloc, list.as_slice())?;
-        let firsts = first_places(alloc, list.as_slice(), units.as_slice().len())?;
+        let (slots, origins) = spread(alloc, list.as_slice(), units.as_slice().len())?;
         Ok(PathNumbers {
             units,
             sorted,
-            list,
-            guesses,
-            firsts,
+            slots,
+            origins,
         })
     }
 
-    /// The member at a place of the list, if it is this path.
+    /// The path in a slot, if it is this one.
     #[inline]
     fn stored_at(&self, place: usize, unit: u32, path: u32) -> Option<NumberedPath>
         ensures numbered { IfSome result (IsNumbered self.now) }
         ensures same { IfSome result (λ one. (one.unit ≡ unit) × (one.path ≡ path)) }
     {
-        let one = *self.list.get(place)?;
+        let one = *self.slots.get(place)?;
         if one.unit == unit && one.path == path {
             return Some(one);
         }
         None
     }
 
-    /// The place in the list of a path, if it is among those of its unit.
-    fn place_of(&self, unit: u32, path: u32) -> Option<usize> {
-        let list = self.list.as_slice();
-        let from = *self.firsts.get(unit as usize)?;
-        let to = *self.firsts.get(unit as usize + 1)?;
-        let (front, _) = list.split_at(to.min(list.len()));
-        let (_, among) = front.split_at(from.min(front.len()));
-        match among.binary_search_by_key(&path, |one| one.path) {
-            Ok(place) => Some(from.saturating_add(place)),
-            Err(_) => None,
-        }
-    }
-
-    /// The stored number of a path.
-    fn find(&self, unit: u32, path: u32) -> Option<NumberedPath>
-        ensures numbered { IfSome result (IsNumbered self.now) }
-        ensures same { IfSome result (λ one. (one.unit ≡ unit) × (one.path ≡ path)) }
-    {
-        let place = self.place_of(unit, path)?;
-        self.stored_at(place, unit, path)
-    }
-
-    /// The FILE number of a path that is not at its guess.
+    /// The FILE number of a path that is not where it is looked for first.
+    #[inline(never)]
     fn search(&self, unit: u32, path: u32) -> NumberedPath
         ensures numbered { IsNumbered self.now result }
         ensures same { (result.unit ≡ unit) × (result.path ≡ path) }
     {
-        if let Some(one) = self.find(unit, path) {
+        let sought = NumberedPath {
+            unit,
+            path,
+            number: 0,
+        };
+        let place = self.slots.partition_point(|one| *one < sought);
+        if let Some(one) = self.stored_at(place, unit, path) {
             return one;
         }
         let number = number_in_table(self.units, self.sorted, unit, path, 0);
@@ -202,13 +187,13 @@ impl<'n, 'a> PathNumbers<'n, 'a> {
     }
 
     /// The FILE number of a path of a unit, or 0.
-    #[inline]
+    #[inline(always)]
     pub fn number(&self, unit: u32, path: u32) -> NumberedPath
         ensures numbered { IsNumbered self.now result }
         ensures same { (result.unit ≡ unit) × (result.path ≡ path) }
     {
-        let slot = self.guesses.slot_of(key_of(unit, path));
-        match self.stored_at(self.guesses.guess(slot) as usize, unit, path) {
+        let origin = self.origins.get(unit as usize).copied().unwrap_or(0);
+        match self.stored_at(origin.wrapping_add(path as usize), unit, path) {
             Some(one) => one,
             None => self.search(unit, path),
         }
