@@ -70,9 +70,9 @@ pub fn text_place(offsets: &[u8], wide: bool, base: Option<u64>, index: u64) -> 
     place_in(offsets, place, wide)
 }
 
-/// What is held of the text of a value of class string. `home` is the section that the value is in, `wide` says whether its unit has the 64-bit format, and `base` is
-/// the unit's str_offsets_base. None if the value has another class, the text is not terminated by a zero byte, or the base is missing. Allocates no
-/// memory.
+/// What is held of the text of a value of class string. `home` is the section that the value is in, `wide` says whether its unit has the 64-bit
+/// format, and `base` is the unit's str_offsets_base. None if the value has another class, the text is not terminated by a zero byte, or the base is
+/// missing. Allocates no memory.
 #[inline]
 #[tactic(auto, unfolding(crate::specs::Texts::text_of), using(crate::proofs::TextLemmas::text_is))]
 pub fn read_text<'a>(
