@@ -2,6 +2,7 @@
 pub mod Texts
 pub mod Calls
 pub mod Gathering
+pub mod HeldNames
 pub mod Noting
 pub mod Numbering
 pub mod Origins

@@ -1,27 +1,37 @@
 //! Names that were made, and the same names once each.
-ghost use Rattle.std.specs.Prelude.{◌≡◌, IfOk};
+ghost use Rattle.std.specs.Prelude.{◌≡◌, IfOk, IfSome};
 ghost use Rattle.func_records.specs.internal.Gathering.{bytes_of};
-ghost use Rattle.func_records.specs.internal.Origins.{TextsSay};
+ghost use Rattle.func_records.specs.internal.Origins.{made_name, TextsSay};
 
-use die_names::EntryNameText;
+use debug_units::Units;
+use die_names::{EntryNameText, NameRef, clean_slice, name_text};
 use place_guesses::PlaceGuesses;
 use std::alloc::Global;
 use std::marker::Model;
+use std::sync::Arc;
 use sym_edges::OutOfMemory;
+
+/// A name whose bytes are in the file, or one that was made. Several entries may have a made name, which is in memory once.
+#[derive(Drop)]
+pub enum HeldName<'a> {
+    Whole(&'a [u8]),
+    Made(Arc<EntryNameText<'a>, Global>),
+}
 
 /// The name that an entry gives, and a key that few other names have.
 #[derive(Drop)]
 pub struct MadeName<'a> {
-    text: EntryNameText<'a>,
+    text: HeldName<'a>,
     key: u64,
 }
 
 impl<'a> Model for MadeName<'a> {
     ghost use Rattle.std.specs.Prelude.{List, ℕ};
+    ghost use Rattle.func_records.specs.internal.HeldNames.{held_name};
 
     ghost Value = { List ℕ };
 
-    ghost view = { λ m. m.text };
+    ghost view = { λ m. held_name m.text };
 }
 
 /// A key that few other texts have. Eight bytes at a time are mixed in, and then each byte that is left.
@@ -45,18 +55,88 @@ fn mixed(key: u64, word: u64) -> u64 {
 }
 
 impl<'a> MadeName<'a> {
-    pub fn of(text: EntryNameText<'a>) -> MadeName<'a>
-        ensures { result ≡ text.entry }
+    /// A name whose bytes are in the file.
+    fn whole(bytes: &'a [u8]) -> MadeName<'a>
+        ensures { result ≡ bytes.now }
+    {
+        MadeName {
+            text: HeldName::Whole(bytes),
+            key: key_of(bytes),
+        }
+    }
+
+    /// A name that was made.
+    fn of(alloc: Global, text: EntryNameText<'a>) -> Result<MadeName<'a>, OutOfMemory>
+        ensures { IfOk result (λ name. name ≡ text.entry) }
     {
         let key = key_of(text.as_slice());
-        MadeName { text, key }
+        Ok(MadeName {
+            text: HeldName::Made(Arc::new(alloc, text)?),
+            key,
+        })
+    }
+
+    /// The same name, for one more entry.
+    fn again(&self) -> Result<MadeName<'a>, OutOfMemory>
+        ensures { IfOk result (λ name. name ≡ self.now) }
+    {
+        let text = match &self.text {
+            HeldName::Whole(bytes) => HeldName::Whole(bytes),
+            HeldName::Made(text) => HeldName::Made(Arc::try_clone(text)?),
+        };
+        Ok(MadeName {
+            text,
+            key: self.key,
+        })
     }
 
     pub fn as_slice(&self) -> &[u8]
         ensures { result.now ≡ self.now }
     {
-        self.text.as_slice()
+        match &self.text {
+            HeldName::Whole(bytes) => bytes,
+            HeldName::Made(text) => text.as_slice(),
+        }
     }
+}
+
+/// The name at a place of a list, if it has the same bytes.
+fn same_name<'t, 'a>(
+    names: &'t [MadeName<'a>],
+    place: u32,
+    name: &MadeName<'_>,
+) -> Option<&'t MadeName<'a>>
+    ensures { IfSome result (λ same. same.now ≡ name.now) }
+{
+    let same = names.get(place as usize)?;
+    if same.key == name.key && same.as_slice() == name.as_slice() {
+        return Some(same);
+    }
+    None
+}
+
+/// The cleaned name that an entry gives. If it is made, and an earlier one is equal, that one is taken. `guesses` has the places of earlier ones.
+pub fn name_of_entry<'a>(
+    alloc: Global,
+    units: &Units<'a>,
+    name: NameRef,
+    earlier: &[MadeName<'a>],
+    guesses: &mut PlaceGuesses,
+) -> Result<MadeName<'a>, OutOfMemory>
+    ensures { IfOk result (λ text. text ≡ made_name units.now name) }
+{
+    if let Some(bytes) = clean_slice(units, name) {
+        return Ok(MadeName::whole(bytes));
+    }
+    let made = MadeName::of(alloc, name_text(alloc, units, name)?)?;
+    let slot = guesses.slot_of(made.key);
+    if let Some(same) = same_name(earlier, guesses.guess(slot), &made) {
+        return same.again();
+    }
+    if earlier.len() < u32::MAX as usize {
+        guesses.note(slot, earlier.len() as u32);
+    }
+    Ok(made)
 }
 
 /// Names, most of them once each, and for each given name its place among them.

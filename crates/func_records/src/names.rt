@@ -5,10 +5,11 @@ ghost use Rattle.func_records.specs.internal.Origins.{made_name, all_refs};
 ghost use Rattle.unit_workers.specs.Shares.{share};
 
 use crate::found::FoundShare;
-use crate::made_names::MadeName;
+use crate::made_names::{MadeName, name_of_entry};
 use crate::shares::{SHARE, share_count};
 use debug_units::Units;
-use die_names::{NameRef, name_text};
+use die_names::NameRef;
+use place_guesses::PlaceGuesses;
 use std::alloc::Global;
 use std::marker::Model;
 use std::thread::Threads;
@@ -35,7 +36,7 @@ pub fn join_refs(alloc: Global, shares: &[FoundShare]) -> Result<Vec<NameRef>, O
     Ok(refs)
 }
 
-/// The cleaned names that entries give.
+/// The cleaned names that entries give. Those that are made are in memory once each, as a rule.
 fn make_names<'a>(
     alloc: Global,
     units: &Units<'a>,
@@ -44,9 +45,11 @@ fn make_names<'a>(
     ensures { IfOk result (λ texts. texts.items ≡ map (made_name units.now) refs.now) }
 {
     let mut texts = Vec::with_capacity(alloc, refs.len())?;
+    let mut guesses = PlaceGuesses::new(alloc, refs.len())?;
     let mut rest = refs;
     'refs: while let Some((name, later)) = rest.split_first() {
-        texts.push(MadeName::of(name_text(alloc, units, *name)?))?;
+        let text = name_of_entry(alloc, units, *name, texts.as_slice(), &mut guesses)?;
+        texts.push(text)?;
         rest = later;
     }
     Ok(texts)
