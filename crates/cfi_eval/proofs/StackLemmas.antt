@@ -1,5 +1,5 @@
 -- Stacks of values, and words that are evaluated one after another.
-use Rattle.std.proofs.Common.{◌≡◌, ℕ, ◌+◌, ◌<◌, ◌≤◌, true, false, List, [], ◌∷◌, ◌++◌, length, get_or, drop, reverse, Option, Result, Ok, Err, refl, sym, ap, ◌∙◌}
+use Rattle.std.proofs.Common.{◌≡◌, ℕ, ◌+◌, ◌<◌, ◌≤◌, false, List, [], ◌∷◌, ◌++◌, length, get_or, drop, reverse, Option, Result, Ok, Err, refl, sym, ap, ◌∙◌}
 use Rattle.std.proofs.lemmas.List.{drop_more, drop_all, reverse-append}
 use Rattle.sym_rules.specs.declared.rules.Token.{Token}
 use Rattle.sym_rules.specs.declared.rules.Token.TheVariants.{Undef}
@@ -8,7 +8,7 @@ use Rattle.cfi_eval.specs.declared.memory.MemRun.{MemRun}
 use Rattle.cfi_eval.specs.declared.outcome.Cause.{Cause}
 use Rattle.cfi_eval.specs.declared.outcome.Cause.TheVariants as cause
 use Rattle.cfi_eval.specs.declared.outcome.Outcome.{Outcome}
-use Rattle.cfi_eval.specs.declared.outcome.Outcome.TheVariants.{Undefined, Failed}
+use Rattle.cfi_eval.specs.declared.outcome.Outcome.TheVariants.{Failed}
 use Rattle.cfi_eval.specs.Postfix.{on_one, on_two, with_token, or_failed, postfix_from, rule_value, one_value}
 use Rattle.cfi_eval.specs.internal.Stacks.{HasNoTwo, HasNone, is_undefined}
 
@@ -29,12 +29,6 @@ pub one_no_two : (stack below : List ℕ) (b : ℕ) → reverse stack ≡ b ∷ 
 one_no_two stack below b e h sign = rw e (one_no_two_of (reverse below) h b sign)
 
 -- A rule is evaluated word by word, unless `.undef` is its only word.
-pub rule_undefined : (regs : Regs) (memory : List MemRun) (cfa : Option Outcome) (tokens : List Token) → is_undefined tokens ≡ true → rule_value regs memory cfa tokens ≡ Undefined
-unfolding rule_value
-rule_undefined regs memory cfa [] h = cc
-rule_undefined regs memory cfa (Undef ∷ []) h = refl
-rule_undefined regs memory cfa (_ ∷ _) h = cc
-
 pub rule_defined : (regs : Regs) (memory : List MemRun) (cfa : Option Outcome) (tokens : List Token) → is_undefined tokens ≡ false → rule_value regs memory cfa tokens ≡ postfix_from regs memory cfa tokens []
 unfolding rule_value
 rule_defined regs memory cfa [] h = refl

@@ -64,26 +64,6 @@ register_at a p h = go (nat_lt a 16) refl h
 some_at : (n p : ℕ) → Some n ≡ Some p → n ≡ p
 some_at n p h = cc
 
-pub place_other : (a t : Target) (p q : ℕ) → target_place a ≡ Some p → target_place t ≡ Some q → same_target a t ≡ false → p ≡ q → ⊥
-place_other Cfa Cfa p q h k s e = cc
-place_other Cfa Ra p q h k s e = let one = some_at 16 p h in let two = some_at 17 q k in omega arith
-place_other Cfa (Reg b) p q h k s e = let one = some_at 16 p h in let two = register_at b q k in omega (arith, two.0, two.1)
-place_other Cfa (Other b) p q h k s e = cc
-place_other Ra Cfa p q h k s e = let one = some_at 17 p h in let two = some_at 16 q k in omega arith
-place_other Ra Ra p q h k s e = cc
-place_other Ra (Reg b) p q h k s e = let one = some_at 17 p h in let two = register_at b q k in omega (arith, two.0, two.1)
-place_other Ra (Other b) p q h k s e = cc
-place_other (Reg a) Cfa p q h k s e = let one = register_at a p h in let two = some_at 16 q k in omega (arith, one.0, one.1)
-place_other (Reg a) Ra p q h k s e = let one = register_at a p h in let two = some_at 17 q k in omega (arith, one.0, one.1)
-place_other (Reg a) (Reg b) p q h k s e =
-    let one = register_at a p h in
-    let two = register_at b q k in
-    let same : a ≡ b = omega (arith, one.0, two.0) in
-    let not_same : (a == b) ≡ false = s in
-    grind (arith, nat_tests)
-place_other (Reg a) (Other b) p q h k s e = cc
-place_other (Other a) t p q h k s e = cc
-
 -- One more rule in a table.
 words_set : (table : Table) (p : ℕ) (words : Option (Bor (List Token))) → p < length table → words_at (set table p words) p ≡ option_copied words
 words_set [] p words l = absurd (omega arith)
@@ -96,28 +76,6 @@ words_kept (w ∷ table) zero zero words d = absurd (d refl)
 words_kept (w ∷ table) zero (suc q) words d = refl
 words_kept (w ∷ table) (suc p) zero words d = refl
 words_kept (w ∷ table) (suc p) (suc q) words d = words_kept table p q words (λ e. d (ap suc e))
-
-pub rule_put : (find : Find) (table : Table) (rule : RuleText) (p : ℕ) (words : Bor (List Token)) → p < length table → Some p ≡ target_place rule.target → words.now ≡ rule.tokens → IsTable find table
-    → IsTable (λ t. option_or (rule_in t rule) (find t)) (set table p (Some words))
-rule_put find table rule p words l at is h = λ t. go t (same_target rule.target t) refl (target_place t) refl (h t)
-  where
-    go : (t : Target) (b : Bool) → same_target rule.target t ≡ b → (place : Option ℕ) → target_place t ≡ place → IfSome place (λ q. words_at table q ≡ find t)
-        → IfSome place (λ q. words_at (set table p (Some words)) q ≡ option_or (cond (same_target rule.target t) (Some rule.tokens) None) (find t))
-    go t b s None k old = tt
-    go t true s (Some q) k old =
-        let one : p ≡ q = some_at p q (at ∙ sym (place_same rule.target t s) ∙ k) in
-        rw s (ap (words_at (set table p (Some words))) (sym one) ∙ words_set table p (Some words) l ∙ ap Some is)
-    go t false s (Some q) k old =
-        rw s (words_kept table p q (Some words) (place_other rule.target t p q (sym at) k s) ∙ old)
-
-pub rule_past : (find : Find) (table : Table) (rule : RuleText) → None ≡ target_place rule.target → IsTable find table → IsTable (λ t. option_or (rule_in t rule) (find t)) table
-rule_past find table rule at h = λ t. go t (same_target rule.target t) refl (target_place t) refl (h t)
-  where
-    go : (t : Target) (b : Bool) → same_target rule.target t ≡ b → (place : Option ℕ) → target_place t ≡ place → IfSome place (λ q. words_at table q ≡ find t)
-        → IfSome place (λ q. words_at table q ≡ option_or (cond (same_target rule.target t) (Some rule.tokens) None) (find t))
-    go t b s None k old = tt
-    go t true s (Some q) k old = let none : None ≡ Some q = at ∙ sym (place_same rule.target t s) ∙ k in cc
-    go t false s (Some q) k old = rw s old
 
 -- The invariant of `put_rules`: the rules that are left override those in the table.
 abbrev pub Puts : List RuleText → Table → Table → Type 0

@@ -199,15 +199,6 @@ pub stream_past : (b : Blocks) → IsStream b → (bytes : List ℕ) → is_past
 unfolding is_too_long
 stream_past b stream bytes = rw (stream.size, stream.limit, stream.room) refl
 
-pub stream_more : (a b : Blocks) → IsStream a → SameSizes a b → IsHeld b → length b.tail.items < b.size → IsStream b
-stream_more a b stream sizes held short = record {
-  held = held;
-  short = short;
-  size = sizes.size ∙ stream.size;
-  limit = sizes.limit ∙ stream.limit;
-  room = sizes.room ∙ stream.room;
-}
-
 -- An empty stream.
 pub new_stream : (b : Blocks) → b.size ≡ 4096 → b.limit ≡ 2 ^ 40 → b.room ≡ 2 ^ 32 → b.count ≡ 0 → b.places.items ≡ [] → b.held.items ≡ [] → b.tail.items ≡ [] → IsStream b
 unfolding joined

@@ -1,5 +1,5 @@
 -- The scopes around an entry, and the prefix that they give to its name.
-use Rattle.std.proofs.Common.{◌≡◌, ◌<◌, ◌++◌, ◌==◌, if◌then◌else◌, ℕ, zero, suc, Bool, false, List, [], ◌∷◌, Option, None, Some, option_and_then, refl, sym, ap, ◌∙◌, arith, append-nil}
+use Rattle.std.proofs.Common.{◌≡◌, ◌<◌, ◌++◌, if◌then◌else◌, ℕ, zero, suc, false, List, [], ◌∷◌, Option, None, Some, option_and_then, refl, sym, ap, ◌∙◌, arith, append-nil}
 use Rattle.std.specs.List.{slice_get, filter}
 use Rattle.std.specs.Option.{option_map_or}
 use Rattle.std.proofs.lemmas.Bool.{cond-false}
@@ -19,9 +19,6 @@ scopes_in dies limit parent = filter (is_scope_at dies) (around dies limit paren
 abbrev pub hopped : List DieFields → Option ℕ → List ℕ
 hopped dies None = []
 hopped dies (Some number) = number ∷ scopes_of dies number
-
-abbrev is_parent : Option ℕ → ℕ → Bool
-is_parent parent number = option_map_or (λ p. p == number) parent false
 
 abbrev from_here : List DieFields → ℕ → DieFields → Option ℕ
 from_here dies number die = if is_scope die then Some number else scope_around dies number die.parent

@@ -1,6 +1,6 @@
 -- A text is stored by its place, and its end is found when it is read; for `place_in` and
 -- `text_from`.
-use Rattle.std.proofs.Common.{◌≡◌, ◌<◌, ◌≤◌, ◌+◌, ◌-◌, ℕ, nat_eq, nat_lt, Bool, true, false, cond, List, length, drop, get_or, Option, None, Some, unwrap_or, is_some, refl, sym, ap, ◌∙◌, arith, position, not, take, length-drop}
+use Rattle.std.proofs.Common.{◌≡◌, ◌<◌, ◌≤◌, ◌+◌, ◌-◌, ℕ, nat_eq, nat_lt, Bool, true, false, cond, List, length, drop, get_or, Option, None, Some, is_some, refl, sym, ap, ◌∙◌, arith, position, not, take, length-drop}
 use Rattle.std.specs.Option.{option_map}
 use Rattle.std.proofs.Math.ListN.{drop_of_length-le}
 use Rattle.std.specs.List.{position_or_len}
@@ -15,10 +15,6 @@ use Rattle.abbrev_units.proofs.TextLemmas.{text_is}
 use Rattle.die_walk.specs.internal.Heads.{IsClosed, text_from}
 
 -- In a section that ends with a zero byte each text is terminated.
-said : {A : Type 0} (x : Option A) (other : A) → is_some x ≡ true → x ≡ Some (unwrap_or x other)
-said (Some y) other there = refl
-said None other there = absurd (grind (arith, there))
-
 mapped : {A B : Type 0} (f : A → B) (x : Option A) → is_some x ≡ true → is_some (option_map f x) ≡ true
 mapped f (Some y) there = refl
 mapped f None there = absurd (grind (arith, there))

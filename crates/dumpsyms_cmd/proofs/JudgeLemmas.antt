@@ -1,6 +1,6 @@
 -- The judgement on an ELF file and a symbol file, for `judge_files`, `answer_sym` and
 -- `answer_judge`.
-use Rattle.std.proofs.Common.{◌≡◌, inl, inr, ℕ, suc, ◌+◌, ◌≤◌, ◌<◌, Bool, true, false, cond, List, [], ◌∷◌, ◌++◌, take, Option, Some, None, Ok, Err, Result, length, nat_lt, refl, sym, ◌∙◌, ap, arith, append-nil, append_assoc, subst, IfOk}
+use Rattle.std.proofs.Common.{◌≡◌, inl, inr, ℕ, suc, ◌+◌, ◌≤◌, ◌<◌, Bool, List, [], ◌∷◌, ◌++◌, take, Option, Some, None, Ok, Err, Result, refl, sym, ◌∙◌, ap, arith, append-nil, append_assoc, subst, IfOk}
 use Rattle.sym_edges.specs.Outside.{Files, Tells}
 use Rattle.sym_edges.specs.WholeFile.{HoldsFile}
 use Rattle.sym_edges.specs.declared.fault.Stop.{Stop}
@@ -22,14 +22,14 @@ use Rattle.sym_judge.specs.declared.ruling.Ruling.{Ruling}
 use Rattle.sym_judge.specs.declared.ruling.Ruling.TheVariants.{Yes, No}
 use Rattle.dumpsyms_cmd.specs.Words.{judge, last_name, if_image, if_dumped, dumped_told}
 use Rattle.dumpsyms_cmd.specs.Refusals.{unread_lines}
-use Rattle.dumpsyms_cmd.specs.ElfInput.{ElfSource, given_image, elf_names}
+use Rattle.dumpsyms_cmd.specs.ElfInput.{ElfSource, given_image}
 use Rattle.dumpsyms_cmd.specs.Verdict.{Verdict, refused, LIMIT}
-use Rattle.dumpsyms_cmd.specs.Observed.{Asks, AsksRow}
+use Rattle.dumpsyms_cmd.specs.Observed.{Asks}
 use Rattle.dumpsyms_cmd.specs.Judgement.{out_bytes, err_bytes, judgement_verdict, RefusesOrGives}
 use Rattle.dumpsyms_cmd.specs.SymbolInput.{refusal_line}
 use Rattle.dumpsyms_cmd.specs.commands.Dump.{IsSourceVerdict, DumpsSource, DumpPromises}
 use Rattle.dumpsyms_cmd.specs.commands.Judge.{ruling_verdict, IsRuled, IsReadVerdict, IsSymVerdict, IsTextVerdict, IsJudgeVerdict, JudgesSym, RefusesElf, JudgePromises}
-use Rattle.dumpsyms_cmd.specs.internal.Judged.{IsJudged, AnswersCommand, AnswersImage, AnswersEnd, AnswersJudged, AnswersSym, AsksBy, AsksNames, AsksSource, AsksThen, IsNoText}
+use Rattle.dumpsyms_cmd.specs.internal.Judged.{IsJudged, AnswersCommand, AnswersEnd, AnswersJudged, AnswersSym, AsksThen, IsNoText}
 use Rattle.dumpsyms_cmd.specs.declared.judgement.Output.{Output}
 use Rattle.dumpsyms_cmd.specs.declared.judgement.Output.TheVariants.{Nothing, Text, Bytes, Records}
 use Rattle.dumpsyms_cmd.specs.declared.judgement.Judgement.{Judgement}
@@ -150,12 +150,6 @@ not_asked names before after same = (0, omega arith, same ∙ sym (append-nil be
 told_behind : (source : ElfSource) (name : List ℕ) (files : Option Files) (lines : List SymLine) (err : List ℕ) → Tells files (λ f. DumpsSource source f lines err) → dumped_told files source name ≡ name ∷ []
 told_behind source name None lines err dumps = refl
 told_behind source name (Some f) lines err dumps = ap (λ (r : Result ImageParts Verdict). if_image r name) dumps.image_is ∙ ap (λ (d : Result DebugSays DebugFault). if_dumped d name) dumps.dumps.found_is
-
-pub text_asked : (source : ElfSource) (name : List ℕ) (files : Option Files) (dumped : Judgement) (lines : List SymLine) (before after : List (List ℕ)) → dumped.out ≡ Text lines → DumpPromises source files dumped → Asks (name ∷ []) before after → AsksThen dumped.out (dumped_told files source name) before after
-text_asked source name files dumped lines before after is kept asked =
-    let gives : Giving source files lines (err_bytes dumped.err) = gives_by source files dumped lines is kept in
-    subst (λ (o : Output). AsksThen o (dumped_told files source name) before after) (sym is)
-    (subst (λ names. Asks names before after) (sym (told_behind source name files lines (err_bytes dumped.err) gives.1)) asked)
 
 textless_then : (o : Output) (names before after : List (List ℕ)) → IsNoText o → after ≡ before → AsksThen o names before after
 textless_then Nothing names before after textless same = same

@@ -183,13 +183,6 @@ told_longer : (files : Option Files) (path : List ℕ) (source : ElfSource) (bin
 told_longer None path source binary = (Err (refused []), tt)
 told_longer (Some f) path source binary = (file_pair source binary path f, refl)
 
-file_front : (answer : Answer) (end : Stop ReadEnd) (text path : List ℕ) (names before after : List (List ℕ)) → AsksOnce (Err end) before path after → AnswersStop answer text end → (answer ≡ NoMemory → ⊥) → (after ≡ before ++ path ∷ [])
-file_front answer (Fault end) text path names before after asked says never = asked
-file_front answer stop.NoMemory text path names before after (inl asked) says never = asked
-file_front (Judged j) stop.NoMemory text path names before after (inr same) says never = absurd says
-file_front (Unread m) stop.NoMemory text path names before after (inr same) says never = absurd says
-file_front NoMemory stop.NoMemory text path names before after (inr same) says never = absurd (never refl)
-
 one_of : (path : List ℕ) (names before after : List (List ℕ)) → after ≡ before ++ path ∷ [] → Asks (path ∷ names) before after
 one_of path names before after asked = (1, omega arith, asked)
 
@@ -338,11 +331,6 @@ pub elf_stopped : (answer : Answer) (end : Stop ReadEnd) (source : ElfSource) (t
     → AnswersImage answer (given_image source) source files asked_after before after
 elf_stopped answer end source text files left left_after asked asked_after before after read once is says =
     stop_image answer end (any_image source.full) elf_line (given_image source) source.elf text source files left left_after asked asked_after before after (λ f ended e. ap (λ (r : Result ImageParts Verdict). then_debug source r f) e) read once is says
-
--- The names if the store's files are not known: those for some build id and some link. If the ELF
--- file has no image, there may be one name more.
-abbrev IsUntold : ElfSource → Option DebugFile → List (List ℕ) → Type 0
-IsUntold source debug names = (untold : Untold) × (names ≡ untold_names source debug untold)
 
 -- The name of a supplementary file is that for some link, or there is none.
 abbrev SomeLink : ElfSource → List ℕ → List (List ℕ) → Type 0

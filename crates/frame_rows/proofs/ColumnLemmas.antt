@@ -64,7 +64,3 @@ stay_on begin m n s i columns more other so which is both =
     let Q : Row → Type 0 = λ r. StayOutside (record { first = min columns.first (touched (effect s i)).first; end = max columns.end (touched (effect s i)).end }) begin r in
     let here : StayOutside (record { first = min columns.first (touched (effect s i)).first; end = max columns.end (touched (effect s i)).end }) begin n.row = subst Q (sym (ap (λ (k : Machine). k.row) is)) (stay_both columns (touched (effect s i)) begin m.row (stepped s i m).row so (touched_stay s i m)) in
     subst P (sym (both ∙ ap (λ (c : Columns). (let d : Columns = record { first = min columns.first c.first; end = max columns.end c.end } in d)) which)) here
-
--- No column has changed.
-pub none_touched : (columns : Columns) (row : Row) → StayOutside columns row row
-none_touched columns row = alike columns row row refl

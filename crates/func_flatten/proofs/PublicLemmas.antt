@@ -68,10 +68,6 @@ and_first : (t u : Bool) → (t && u) ≡ true → t ≡ true
 and_first true u is = refl
 and_first false u is = is
 
-and_second : (t u : Bool) → (t && u) ≡ true → u ≡ true
-and_second true u is = is
-and_second false u is = cc
-
 -- Inserting a number adds it to the members.
 has_with : (a b : ℕ) (xs : List ℕ) → has b (with_number a xs) ≡ ((a == b) || has b xs)
 unfolding with_number

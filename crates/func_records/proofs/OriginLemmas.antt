@@ -152,17 +152,11 @@ refs_more units old new names name made k placed added said say =
     (said_more (map (made_name units) old.refs) (map (made_name units) new.refs) old.places new.places names (made_name units name) k (made_placed units old.refs new.refs name k placed) added say)
 
 -- The place of one name more.
-pub said_none : (texts names : List (List ℕ)) (places : List ℕ) → texts ≡ [] → places ≡ [] → TextsSay texts places (take 0 names)
-said_none texts names places no_text no_place = rw no_text (rw no_place (record { at = tt; same = λ name. refl }))
-
 pub said_next : (texts more : List (List ℕ)) (places stands : List ℕ) (names : List (List ℕ)) (n : ℕ) (d name : List ℕ) (k : ℕ) → n < length names → name ≡ get_or names n d → IsPlaced texts more name k → stands ≡ places ++ k ∷ [] → TextsSay texts places (take n names) → TextsSay more stands (take (n + 1) names)
 said_next texts more places stands names n d name k below is placed added say =
     subst (TextsSay more stands)
     (ap (λ t. take n names ++ t ∷ []) is ∙ sym (take_next names n d below))
     (said_more texts more places stands (take n names) name k placed added say)
-
-pub said_all : (texts : List (List ℕ)) (places : List ℕ) (names : List (List ℕ)) (n : ℕ) → length names ≤ n → TextsSay texts places (take n names) → TextsSay texts places names
-said_all texts places names n all say = subst (TextsSay texts places) (take_all n names all) say
 
 -- The names of a piece's copies, one by one.
 pub copies_none : (units : List UnitRead) (unit : ℕ) (copies : List InlineParts) (parts : RefParts) (names : List (List ℕ)) → RefsSay units parts names → RefsSay units parts (names ++ entry_names units unit (take 0 copies))

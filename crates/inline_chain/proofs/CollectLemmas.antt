@@ -15,7 +15,7 @@ use Rattle.die_walk.specs.EntryTable.{DieFields}
 use Rattle.die_walk.specs.EntryKinds.{is_inlined}
 use Rattle.debug_units.specs.Owners.{inside_of}
 use Rattle.step_maps.specs.SpanStretches.{span_stretches, AreFit}
-use Rattle.inline_chain.specs.internal.Copies.{stretches_in, set_in, copy_by, copy_stretches, child_stretches, of_class, HaveSets, SaysInside, is_copy_in, IsFound, TellChildren, HasEarlier, AddsCopy, Collects}
+use Rattle.inline_chain.specs.internal.Copies.{stretches_in, set_in, copy_by, copy_stretches, child_stretches, of_class, HaveSets, SaysInside, is_copy_in, IsFound, HasEarlier, AddsCopy, Collects}
 use Rattle.inline_chain.specs.Trees.{is_number}
 use Rattle.inline_chain.proofs.ChildLemmas.{copy_first}
 use Rattle.inline_chain.proofs.InsideLemmas.{taken}
@@ -165,15 +165,6 @@ earlier_has all sets k row items die above c e x a is =
     ∙ (λ i. holds_any (set i) a && is_number x (around i))
     ∙ second_is (is_inlined die) (holds_any (set_in sets k) a && is_number x above) is)
 
-pub collects_begin : (all : List DieFields) (sets : List (List Range)) → Collects all sets 0 [] []
-collects_begin all sets = record {
-  inside = record { many = refl; each = λ k die below found. absurd (omega arith) };
-  same = λ x a. refl;
-  held = λ k die x a below found is. absurd (omega arith);
-  fit = tt;
-  sets_are = λ left. left;
-}
-
 -- One entry more.
 collects_next : (all : List DieFields) (sets : List (List Range)) (k : ℕ) (row : List (Option ℕ)) (items made : List Stretch) (die : DieFields) (above : Option ℕ)
     → Some die ≡ slice_get all k → above ≡ inside_of all (length row) die.parent → (is_inlined die ≡ true → IsCanonical (set_in sets k)) → AreFit made
@@ -244,19 +235,7 @@ adds_spans all sets row number class die above spans items made inlined stands s
     inl (grown ∙ ap (λ l. items ++ span_stretches number class l) set ∙ ap (λ l. items ++ l) (sym (cond-true _ _ _ inlined ∙ ap (λ o. stretches_in number o (set_in sets number)) stands)))
 
 -- If there is no entry with a number, all entries were collected.
-pub collects_end : (all : List DieFields) (sets : List (List Range)) (k : ℕ) (row : List (Option ℕ)) (items : List Stretch) → None ≡ slice_get all k → Collects all sets k row items
-    → TellChildren all sets items × HaveSets all sets
-collects_end all sets k row items none c =
-    let ended : drop k all ≡ [] = dropped_none all k (sym none) in (
-      λ x a. ap (λ l. index_at (of_class x l) a) (sym (append-nil items) ∙ ap (λ l. items ++ l) (sym (ap (λ l. child_stretches all k l (drop k sets)) ended))) ∙ c.same x a,
-      c.sets_are (subst (λ l. HaveSets l (drop k sets)) (sym ended) tt),
-    )
-
 got_all : {X : Type 0} (xs : List X) (k : ℕ) → length xs ≤ k → None ≡ slice_get xs k
 got_all [] k outside = refl
 got_all (x ∷ xs) zero outside = absurd (omega arith)
 got_all (x ∷ xs) (suc k) outside = got_all xs k (omega arith)
-
-pub collects_all : (all : List DieFields) (sets : List (List Range)) (k : ℕ) (row : List (Option ℕ)) (items : List Stretch) → length all ≤ k → Collects all sets k row items
-    → TellChildren all sets items × HaveSets all sets
-collects_all all sets k row items over c = collects_end all sets k row items (got_all all k over) c

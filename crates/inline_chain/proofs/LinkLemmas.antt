@@ -7,7 +7,7 @@ use Rattle.std.proofs.lemmas.Grind.{get_or-set_at}
 use Rattle.std.proofs.lemmas.List.{take_all, length-append, length-replicate, length-set, get_or_append_left, get_or-set_other, get_or-replicate}
 use Rattle.step_maps.specs.declared.stretch.Stretch.{Stretch}
 use Rattle.inline_chain.specs.internal.Copies.{of_class, HaveClasses}
-use Rattle.inline_chain.specs.internal.Links.{first_place, nexts_of, AreLinked, Linking, Walks}
+use Rattle.inline_chain.specs.internal.Links.{first_place, nexts_of, Linking, Walks}
 
 first_inside : (x : ℕ) (items : List Stretch) → first_place x items ≤ length items
 unfolding first_place
@@ -73,9 +73,6 @@ next_at (b ∷ before) s later d =
     ∙ next_at before s later d
 
 -- A walk through the stretches of a class.
-pub walk_begins : (x : ℕ) (items : List Stretch) (place : ℕ) → place ≡ first_place x items → Walks x items [] place
-walk_begins x items place is = record { before = []; rest = items; all = refl; place_is = is; group_is = refl }
-
 pub walk_inside : (x : ℕ) (items group : List Stretch) (place : ℕ) → Walks x items group place → place ≤ length items
 walk_inside x items group place w = omega (arith, w.place_is, first_inside x w.rest, length-append w.before w.rest, ap length w.all)
 
@@ -162,7 +159,3 @@ links_more items rest before s firsts nexts more n k d is first pushed count so 
       };
       left = subst (λ n. HaveClasses n before) (sym long) last.0;
     }
-
-pub links_end : (items rest : List Stretch) (firsts nexts : List ℕ) → length rest ≡ 0 → Linking items rest firsts nexts → AreLinked items firsts nexts
-links_end items [] firsts nexts none so = subst (λ l. AreLinked l firsts nexts) so.all so.linked
-links_end items (s ∷ rest) firsts nexts none so = absurd (omega (arith, none))

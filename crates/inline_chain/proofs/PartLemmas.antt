@@ -1,5 +1,5 @@
 -- The ranges of an entry, cut into parts.
-use Rattle.std.proofs.Common.{◌≡◌, ℕ, zero, suc, ◌+◌, ◌<◌, ◌≤◌, ◌&&◌, ◌||◌, ◌++◌, Bool, true, false, nat_le, List, [], ◌∷◌, length, take, drop, arith, refl, sym, ap, subst, ◌∙◌}
+use Rattle.std.proofs.Common.{◌≡◌, ℕ, zero, suc, ◌+◌, ◌<◌, ◌≤◌, ◌&&◌, ◌||◌, ◌++◌, Bool, true, false, nat_le, List, [], ◌∷◌, length, take, drop, arith, refl, sym, ap, ◌∙◌}
 use Rattle.std.specs.List.{list_any}
 use Rattle.std.proofs.lemmas.Bool.Decides.{nat_tests}
 use Rattle.std.proofs.lemmas.List.{append_assoc, append-nil, take-append-drop, length-take}
@@ -118,17 +118,6 @@ parts_last level entry spans rest set old made new some few is grown to = record
       ∙ ap (λ s. old ++ (entry_runs level entry to.parts ++ record { level = level; entry = entry; spans = s } ∷ [])) is ∙ ap (λ l. old ++ l) (sym (runs_joined level entry to.parts (rest ∷ [])));
   parts_are = last_parts to.parts rest to.full some few;
   ranges = joined_more to.parts rest ∙ to.ranges;
-}
-
--- The parts of a group's ranges.
-pub group_added : (level entry : ℕ) (spans set : List Range) (group : List Stretch) (old new : List InlineParts) → ((a : ℕ) → holds_any spans a ≡ list_any (λ (s : Stretch). reaches s a) group) → ((a : ℕ) → holds_any set a ≡ holds_any spans a) → IsCanonical set
-    → AddsParts level entry set old new → AddsGroup level entry group old new
-group_added level entry spans set group old new held same canonical adds = record {
-  parts = adds.parts;
-  whole = adds.whole;
-  parts_are = adds.parts_are;
-  canonical = subst IsCanonical (sym adds.ranges) canonical;
-  members = λ a. ap (λ l. holds_any l a) adds.ranges ∙ same a ∙ held a;
 }
 
 -- An entry with few ranges, and an entry with one range.

@@ -45,9 +45,6 @@ fit_class x (s ∷ items) fit = go (s.class == x) (fit_class x items fit.2)
     go true rest = (fit.0, fit.1, rest)
     go false rest = rest
 
-pub lists_begin : (items : List Stretch) (lists : List (List Cover)) → lists ≡ [] → ListsTo items lists 0
-lists_begin items lists none = record { many = ap length none; each = λ x below. absurd (omega arith) }
-
 lists_grown : (items group : List Stretch) (lists : List (List Cover)) (count : ℕ) (covers : List Cover) → group ≡ of_class count items
     → IsRuns (between 0 18446744073709551616 (index_at group)) (map cover_run covers) → ListsTo items lists count → ListsTo items (lists ++ covers ∷ []) (count + 1)
 unfolding list_of

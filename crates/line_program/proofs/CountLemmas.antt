@@ -75,9 +75,6 @@ counts_all code all left kept back counts none is a =
 pub not_kept : (code : ℕ → ℕ → Bool) (s : Sequence) (kept : List Counted) (a : ℕ) → None ≡ least_address s.rows → back_row None kept a ≡ cond (covers code s a) (row_at s.rows a) (back_row None kept a)
 not_kept code s kept a none = ap (λ o. cond (covers_from code s.end o a) (row_at s.rows a) (back_row None kept a)) none
 
-not_and : (b : Bool) (x y : Option Row) → y ≡ cond (false && b) x y
-not_and b x y = refl
-
 pub not_code : (code : ℕ → ℕ → Bool) (s : Sequence) (kept : List Counted) (start a : ℕ) → Some start ≡ least_address s.rows → counts code start s.end ≡ false → back_row None kept a ≡ cond (covers code s a) (row_at s.rows a) (back_row None kept a)
 not_code code s kept start a least none =
     ap (λ b. cond (b && (nat_le start a && nat_lt a s.end)) (row_at s.rows a) (back_row None kept a)) (sym none)

@@ -10,7 +10,7 @@ use Rattle.std.specs.Ordering.{nat_cmp, ordering_then, is_eq, eq_by_cmp}
 use Rattle.std.specs.declared.cmp.Ordering.{Ordering}
 use Rattle.std.proofs.lemmas.Bool.{eqb-true}
 use Rattle.std.specs.Str.{bytes_eq}
-use Rattle.std.proofs.lemmas.List.{take_more, take_all, length-map, length_push, get_or_default}
+use Rattle.std.proofs.lemmas.List.{take_more, length-map, length_push, get_or_default}
 use Rattle.std.proofs.lemmas.Map.Text.{is_eq-slice_cmp}
 use Rattle.std.proofs.lemmas.Bool.Decides.{nat_tests}
 use Rattle.std.proofs.lemmas.Slice.Eq.{bytes_eq-Decides}
@@ -314,12 +314,6 @@ numbers_new texts file firsts files more_firsts more numbers more_numbers text l
     }
 
 -- The end of `number_paths`.
-pub numbers_paths : (texts : List (List ℕ)) (file : ℕ) (firsts files : List ℕ) (numbers : BTreeMap (ℕ × Bor (List ℕ)) ℕ) → length texts ≤ file → Numbers texts file firsts files numbers → picked texts firsts ≡ distinct_paths texts
-numbers_paths texts file firsts files numbers all n = n.paths ∙ ap (λ l. paths_from [] l) (take_all file texts all)
-
-pub numbers_files : (texts : List (List ℕ)) (file : ℕ) (firsts files : List ℕ) (numbers : BTreeMap (ℕ × Bor (List ℕ)) ℕ) → length texts ≤ file → Numbers texts file firsts files numbers → AreNumbered (picked texts firsts) files texts
-numbers_files texts file firsts files numbers all n = subst (λ l. AreNumbered (picked texts firsts) files l) (take_all file texts all) n.are
-
 pub numbers_there : (texts : List (List ℕ)) (file : ℕ) (firsts files : List ℕ) (numbers : BTreeMap (ℕ × Bor (List ℕ)) ℕ) → file ≡ length texts → Numbers texts file firsts files numbers → AllBelow (length texts) firsts
 numbers_there texts file firsts files numbers all n = subst (λ b. AllBelow b firsts) all n.there
 

@@ -4,7 +4,7 @@ use Rattle.std.specs.List.{slice_get}
 use Rattle.std.specs.Option.{option_map}
 use Rattle.std.proofs.lemmas.Option.{slice_get-map}
 use Rattle.line_program.specs.FileFields.{FileFields}
-use Rattle.line_program.specs.Paths.{joined, root_of, rooted_directories, directories_of, path_under}
+use Rattle.line_program.specs.Paths.{joined, rooted_directories, directories_of, path_under}
 use Rattle.line_program.specs.internal.Directories.{directories_in}
 
 there : (some : Bool) (root : List ℕ) (entries : List FileFields) (view : List (List ℕ)) → directories_in some root entries ≡ view → some ≡ true → view ≡ root ∷ map (λ d. joined root d.path) entries
@@ -32,18 +32,6 @@ entry_missing some root entries view n path is holds later at =
     ∙ ap (λ o. path_under o path) (behind_root root entries n later ∙ ap (λ o. option_map (λ (d : FileFields). joined root d.path) o) (sym at))
 
 -- The directories that the code stores are those of the table.
-pub kept_old : (version : ℕ) (comp_dir root : List ℕ) (entries : List FileFields) → (version == 5) ≡ false → root ≡ comp_dir → directories_in true root entries ≡ directories_of version comp_dir entries
-unfolding directories_of
-kept_old version comp_dir root entries old is =
-    ap (λ r. r ∷ map (λ (d : FileFields). joined r d.path) entries) is
-    ∙ sym (ap (λ b. cond b (rooted_directories comp_dir entries) (comp_dir ∷ map (λ (d : FileFields). joined comp_dir d.path) entries)) old)
-
-pub kept_rooted : (version : ℕ) (comp_dir root : List ℕ) (first : FileFields) (rest entries : List FileFields) → (version == 5) ≡ true → entries ≡ first ∷ rest → root ≡ root_of comp_dir first.path → directories_in true root rest ≡ directories_of version comp_dir entries
-unfolding directories_of
-kept_rooted version comp_dir root first rest entries new all is =
-    ap (λ r. r ∷ map (λ (d : FileFields). joined r d.path) rest) is
-    ∙ sym (ap (λ b. cond b (rooted_directories comp_dir entries) (comp_dir ∷ map (λ (d : FileFields). joined comp_dir d.path) entries)) new ∙ ap (rooted_directories comp_dir) all)
-
 pub kept_none : (version : ℕ) (comp_dir root : List ℕ) (entries : List FileFields) → (version == 5) ≡ true → entries ≡ [] → directories_in false root entries ≡ directories_of version comp_dir entries
 unfolding directories_of
 kept_none version comp_dir root entries new none =

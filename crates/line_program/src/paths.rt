@@ -1,9 +1,10 @@
 //! The paths of a table's files (DWARF 5, 6.2.4).
-ghost use Rattle.std.specs.Prelude.{◌≡◌, ◌==◌, ◌-◌, map, length, slice_get, slice_index, IfOk, OnOk};
+ghost use Rattle.std.specs.Prelude.{◌≡◌, ◌==◌, ◌-◌, ◌++◌, ◌∷◌, [], map, length, slice_get, slice_index, IfOk, OnOk};
+ghost use Rattle.clean_names.specs.Cleaning.{cleaned};
 ghost use Rattle.line_program.specs.Paths.{joined, root_of, directories_of, path_under, file_path, is_rooted, ends_in_slash};
 
 use crate::file_entry::FileEntry;
-use clean_names::add_cleaned;
+use clean_names::{add_cleaned, is_clean};
 use flat_lists::FlatLists;
 use std::alloc::Global;
 use std::marker::Model;
@@ -114,6 +115,24 @@ fn root_of<'t>(
     Ok(text.as_slice())
 }
 
+/// Adds a cleaned path to a list. The path is cleaned in `text`, unless it is clean.
+fn push_cleaned(
+    paths: &mut FlatLists<u8>,
+    text: &mut Vec<u8>,
+    path: &[u8],
+) -> Result<(), OutOfMemory>
+    ensures { OnOk result (paths.new ≡ paths.old ++ cleaned path.now ∷ []) }
+{
+    if is_clean(path) {
+        paths.push(path)?;
+        return Ok(());
+    }
+    text.clear();
+    add_cleaned(text, path)?;
+    paths.push(text.as_slice())?;
+    Ok(())
+}
+
 impl<'t, 'a> Directories<'t, 'a> {
     /// The directories of a table, given the unit's compilation directory. If the first one must be
     /// joined, the joined path is stored in `text`.
@@ -195,9 +214,7 @@ impl<'t, 'a> Directories<'t, 'a> {
         let mut paths = FlatLists::with_room(alloc, count, count.saturating_mul(USUAL))?;
         for file in files {
             self.put_path(&mut texts.directory, &mut texts.path, file)?;
-            texts.cleaned.clear();
-            add_cleaned(&mut texts.cleaned, texts.path.as_slice())?;
-            paths.push(texts.cleaned.as_slice())?;
+            push_cleaned(&mut paths, &mut texts.cleaned, texts.path.as_slice())?;
         }
         paths.shrink();
         Ok(paths)

@@ -1,5 +1,5 @@
 -- A table of files to which one name is added, and the files that agree with it, for `ask`.
-use Rattle.std.proofs.Common.{◌≡◌, ◌⊎◌, inl, inr, ℕ, ◌+◌, ◌^◌, ◌≤◌, ◌||◌, Bool, true, false, cond, if◌then◌else◌, is_some, map, List, [], ◌∷◌, ◌++◌, Option, None, Some, Result, arith, append_assoc, append-nil, refl, sym, ap, ◌∙◌, subst, Ordering, Less, Equal, Greater}
+use Rattle.std.proofs.Common.{◌≡◌, inl, inr, ℕ, ◌+◌, ◌^◌, ◌≤◌, ◌||◌, Bool, true, false, cond, if◌then◌else◌, is_some, map, List, [], ◌∷◌, ◌++◌, Option, None, Some, Result, arith, append_assoc, append-nil, refl, sym, ap, ◌∙◌, subst, Ordering, Less, Equal, Greater}
 use Rattle.std.proofs.lemmas.Bool.{cases_lt}
 use Rattle.std.proofs.lemmas.Map.Text.{is_eq-slice_cmp}
 use Rattle.std.proofs.lemmas.Slice.Eq.{bytes_eq-Decides}
@@ -65,9 +65,6 @@ seen_entries (e ∷ entries) name = ap (λ b. cond b (Some e.1) (seen_in (map na
 pub seen_is : (files : BTreeMap (Vec ℕ) Found) (name : List ℕ) → seen_in (names_of files) name ≡ tree.get_by (λ k. slice_cmp nat_cmp name k.items) files
 seen_is files name = seen_entries files.entries name
 
-pub none_seen : (files : BTreeMap (Vec ℕ) Found) → files.entries ≡ [] → (name : List ℕ) → seen_in (names_of files) name ≡ None
-none_seen files empty name = ap (λ (l : List (Vec ℕ × Found)). seen_in (map named l) name) empty
-
 pub has_more : (old new : BTreeMap (Vec ℕ) Found) (owned : Vec ℕ) (key : List ℕ) (found : Found) → owned.items ≡ key → seen_in (names_of old) key ≡ None → new.entries ≡ tree.insert_entry (λ x y. slice_cmp nat_cmp x.items y.items) old.entries owned found → HasMore (seen_in (names_of old)) (seen_in (names_of new)) key found
 has_more old new owned key found same none added =
     let gone : entry_at old.entries owned.items ≡ None = sym (seen_entries old.entries owned.items) ∙ ap (seen_in (names_of old)) same ∙ none in
@@ -89,9 +86,6 @@ stays_more old new key found has other was is = has.more other ∙ ap (λ o. wit
 -- The files with these bytes under a name.
 abbrev pub over : Files → List ℕ → Option (List ℕ) → Files
 over got key bytes name = if bytes_eq name key then bytes else got name
-
-over_here : (got : Files) (key : List ℕ) (bytes : Option (List ℕ)) → over got key bytes key ≡ bytes
-over_here got key bytes = ap (λ b. if b then bytes else got key) ((bytes_eq-Decides key key).1 refl)
 
 -- What was found before agrees with these files too.
 agrees_over : (old new : Seen) (key : List ℕ) (found : Found) (got : Files) (bytes : Option (List ℕ)) → HasMore old new key found → Agrees got old → found_in bytes ≡ found → Agrees (over got key bytes) new
@@ -237,12 +231,6 @@ learns_none P files asked faults seen = record {
 pub asks_none : (P : List ℕ → Type 0) (asked : List (List ℕ)) (seen : Seen) → AsksFresh P seen asked asked
 asks_none P asked seen = ([], (sym (append-nil asked), (tt, tt)))
 
-pub asks_one : (P : List ℕ → Type 0) (asked after : List (List ℕ)) (old : Seen) (key : List ℕ) → P key → old key ≡ None → (after ≡ asked ++ key ∷ []) ⊎ (after ≡ asked) → AsksFresh P old asked after
-asks_one P asked after old key of none asks = elim asks [
-  | inl more ↦ (key ∷ [], (more, (none_new old key none, (of, tt))))
-  | inr same ↦ subst (AsksFresh P old asked) (sym same) (asks_none P asked old)
-]
-
 -- Names that are new after others were asked for.
 was_none : (old mid : Seen) (name : List ℕ) → ((name : List ℕ) (found : Found) → old name ≡ Some found → mid name ≡ Some found) → mid name ≡ None → old name ≡ None
 was_none old mid name stays none = go (old name) refl
@@ -312,9 +300,6 @@ learns_then P files asked between after faults mid now old half new up first sec
   only = only_then old half new first.names second.names first.only second.only;
   knows = λ before low knows. (let higher : before ≤ mid = omega (arith, low, up) in second.knows before higher (first.knows before low knows));
 }
-
-pub asks_of : (P : List ℕ → Type 0) (files : Option Files) (asked after : List (List ℕ)) (faults now : ℕ) (old new : Seen) → Learns P files asked after faults now old new → AsksFresh P old asked after
-asks_of P files asked after faults now old new learns = (learns.names, (learns.asks, (learns.fresh, learns.are)))
 
 pub asks_then : (P : List ℕ → Type 0) (files : Option Files) (asked between after : List (List ℕ)) (faults mid : ℕ) (old half : Seen) → Learns P files asked between faults mid old half → AsksFresh P half between after → AsksFresh P old asked after
 asks_then P files asked between after faults mid old half first second = (

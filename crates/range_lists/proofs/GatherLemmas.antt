@@ -11,14 +11,11 @@ use Rattle.abbrev_units.specs.declared.unit.Unit.{Unit}
 use Rattle.abbrev_units.specs.declared.value.Value.{Value}
 use Rattle.abbrev_units.specs.DebugSections.{DebugSections}
 use Rattle.die_walk.specs.EntryTable.{RootFields}
-use Rattle.range_lists.specs.EntryRanges.{list_place, list_of, in_pairs, in_ranges}
+use Rattle.range_lists.specs.EntryRanges.{list_place, list_of, in_ranges}
 
 -- No pairs give no addresses.
 pub none_given : (code set : List Range) (given : Result (List Range) (Located DwarfKind)) (a : ℕ) → given ≡ Ok [] → set ≡ [] → in_ranges code given a ≡ Ok (holds_any set a)
 none_given code set given a is none = ap (λ g. in_ranges code g a) is ∙ ap (λ s. Ok (holds_any s a)) (sym none)
-
-pub pairs_given : (code pairs set : List Range) (given : Result (List Range) (Located DwarfKind)) (a : ℕ) → given ≡ Ok pairs → holds_any set a ≡ in_pairs code pairs a → in_ranges code given a ≡ Ok (holds_any set a)
-pairs_given code pairs set given a is held = ap (λ g. in_ranges code g a) is ∙ ap Ok (sym held)
 
 -- Two ranges that touch or overlap are one range, from the lower start to the higher end.
 pub joined_holds : (l s : Range) (a : ℕ) → s.start ≤ l.end → l.start ≤ s.end → l.start < l.end → s.start < s.end → (nat_le (min l.start s.start) a && nat_lt a (max l.end s.end)) ≡ (holds l a || holds s a)

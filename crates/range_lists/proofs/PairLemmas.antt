@@ -1,5 +1,5 @@
 -- The pairs of a list are given by its first item; and the addresses that pairs give.
-use Rattle.std.proofs.Common.{◌≡◌, ◌<◌, ℕ, Bool, false, ◌&&◌, ◌||◌, List, [], ◌∷◌, ◌++◌, length, Option, None, Some, Result, Ok, Err, refl, sym, ap, ◌∙◌}
+use Rattle.std.proofs.Common.{◌≡◌, ◌<◌, ℕ, Bool, ◌&&◌, ◌||◌, List, [], ◌∷◌, ◌++◌, length, Option, None, Some, Result, Ok, Err, refl, sym, ap, ◌∙◌}
 use Rattle.std.proofs.Math.Bool.{or_assoc, or-false}
 use Rattle.sym_edges.specs.Addresses.{Range}
 use Rattle.sym_edges.specs.Results.{◌>>=◌}
@@ -64,15 +64,7 @@ more_gathered code xs held (Ok pairs) a =
     ap (λ b. Ok (held || b)) (in_joined code xs pairs a) ∙ ap Ok (sym (or_assoc held (in_pairs code xs a) (in_pairs code pairs a)))
 more_gathered code xs held (Err fault) a = refl
 
-none_gathered : (code : List Range) (given : Result (List Range) (Located DwarfKind)) (a : ℕ) → with_gathered code false given a ≡ in_ranges code given a
-none_gathered code (Ok pairs) a = refl
-none_gathered code (Err fault) a = refl
-
 -- The steps of the loop.
-pub gather_begins : (code held : List Range) (given : Result (List Range) (Located DwarfKind)) (a : ℕ) → held ≡ [] → with_gathered code (holds_any held a) given a ≡ in_ranges code given a
-gather_begins code held given a none =
-    ap (λ h. with_gathered code (holds_any h a) given a) none ∙ none_gathered code given a
-
 pub gather_more : (code held more : List Range) (version : ℕ) (table : AddressTable) (base : ℕ) (does : Effect) (c d : Ahead) (a : ℕ)
     → Ok (Some does, d) ≡ effect_at version table c
     → holds_any more a ≡ (holds_any held a || in_pairs code (pair_of base does) a)

@@ -301,9 +301,6 @@ pub record Grows (first last : ℕ) (ends : List (ℕ × ℕ)) (start end : ℕ)
 pub none_left : (start end : ℕ) (entries : List (ℕ × ℕ)) → AreApart entries → None ≡ last_below end entries → any_overlap (range_to start end) (ranges_by entries) ≡ false
 none_left start end entries apart is = sym (overlaps_none (range_to start end) entries apart is)
 
-pub grows_first : (start end : ℕ) (old : List (ℕ × ℕ)) → start < end → AreApart old → Grows start end old start end old
-grows_first start end old some apart = record { some = some; apart = apart; same = λ a b less. refl }
-
 grows_same : (a b first last low high start end : ℕ) (old ends rest : List (ℕ × ℕ)) → a < b → Grows first last ends start end old → IsTaken first last low high ends rest →
     (any_overlap (range_to a b) (ranges_by rest) || overlap (range_to a b) (range_to (min first low) (max last high))) ≡ (any_overlap (range_to a b) (ranges_by old) || overlap (range_to a b) (range_to start end))
 grows_same a b first last low high start end old ends rest less grows is =
@@ -326,9 +323,3 @@ grown_apart first last start end old ends rest new grows same none e = put_apart
 pub grown_more : (first last start end : ℕ) (old ends rest new : List (ℕ × ℕ)) → Grows first last ends start end old → rest ≡ ends → any_overlap (range_to first last) (ranges_by ends) ≡ false → new ≡ insert_entry nat_cmp rest first last →
     (a b : ℕ) → a < b → any_overlap (range_to a b) (ranges_by new) ≡ (any_overlap (range_to a b) (ranges_by old) || overlap (range_to a b) (range_to start end))
 grown_more first last start end old ends rest new grows same none e a b less = put_overlaps first last ends new grows.apart grows.some none (e ∙ ap (λ xs. insert_entry nat_cmp xs first last) same) (range_to a b) ∙ grows.same a b less
-
--- If the new range could not be put in, what overlapped nothing still does not.
-pub grown_no_other : (first last start end : ℕ) (old ends rest new : List (ℕ × ℕ)) → Grows first last ends start end old → rest ≡ ends → new ≡ rest → (a b : ℕ) → a < b → (any_overlap (range_to a b) (ranges_by old) || overlap (range_to a b) (range_to start end)) ≡ false → any_overlap (range_to a b) (ranges_by new) ≡ false
-grown_no_other first last start end old ends rest new grows same kept a b less none =
-    ap (λ xs. any_overlap (range_to a b) (ranges_by xs)) (kept ∙ same)
-    ∙ (or_parts (any_overlap (range_to a b) (ranges_by ends)) (overlap (range_to a b) (range_to first last)) (grows.same a b less ∙ none)).0

@@ -143,14 +143,6 @@ pub refused_too : (A B : Type 0) (base : ℕ) (code : List Range) (p q r : Progr
 refused_too A B base code p q r entry e end (Fault why) P Q body ends still bad more = left_too base code p r entry e why body (no_rows code p.taken e why ends.ranged bad) (λ b d so. more b d (still b d so))
 refused_too A B base code p q r entry e end NoMemory P Q body ends still bad more = absurd more
 
--- The text does not change.
-pub shows_same : (p q : Progress) → text_bytes q.text ≡ text_bytes p.text → q.omitted.items ≡ p.omitted.items → q.taken ≡ p.taken → (base : ℕ) (d : Decided) → Shows base p d → Shows base q d
-shows_same p q text omitted taken base d so = record {
-  text = text ∙ so.text;
-  omitted = omitted ∙ so.omitted;
-  taken = taken ∙ so.taken;
-}
-
 pub bad_too : (base : ℕ) (code : List Range) (p q : Progress) (entry : Entry) (why : Reason) → entry.body ≡ Bad why →
     ((base : ℕ) (d : Decided) → Shows base p d → Shows base q (left_out entry why d)) → (d : Decided) → Shows base p d → Shows base q (with_entry code entry d)
 bad_too base code p q entry why body more d so =
@@ -168,10 +160,6 @@ unfolding with_entries
 entries_more code entries i entry d inside is =
     ap (λ xs. with_entries code xs d) (take_more entries i entry inside) ∙ entries_append code (take i entries) (get_or entries i entry ∷ []) d
     ∙ ap (λ x. with_entry code x (with_entries code (take i entries) d)) (sym is)
-
-pub entries_none : (code : List Range) (d : Decided) → with_entries code [] d ≡ d
-unfolding with_entries
-entries_none code d = refl
 
 pub on_more : (base : ℕ) (code : List Range) (entries : List Entry) (i : ℕ) (entry : Entry) (p q r : Progress) → i < length entries → entry ≡ get_or entries i entry →
     ((d : Decided) → Shows base p d → Shows base q (with_entries code (take i entries) d)) → ((d : Decided) → Shows base q d → Shows base r (with_entry code entry d)) →

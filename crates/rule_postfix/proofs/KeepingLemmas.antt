@@ -30,14 +30,6 @@ kept_by : (here : Bool) (state : Result Left Reason) (old found : Option (Result
 kept_by true state old found f is made was = let P : Option (Result Left Reason) → Type 0 = λ o. IsStateOf o f in subst P (sym is) (made refl)
 kept_by false state old found f is made was = let P : Option (Result Left Reason) → Type 0 = λ o. IsStateOf o f in subst P (sym is) was
 
--- A state that is dropped.
-gone_by : (here : Bool) (old found : Option (Result Left Reason)) (f : FdeFields) → found ≡ cond here None old → IsStateOf old f → IsStateOf found f
-gone_by true old found f is was = let P : Option (Result Left Reason) → Type 0 = λ o. IsStateOf o f in subst P (sym is) tt
-gone_by false old found f is was = let P : Option (Result Left Reason) → Type 0 = λ o. IsStateOf o f in subst P (sym is) was
-
-pub gone_kept : (before after : CieStates) (f : FdeFields) (place : ℕ) → Updates nat_cmp before.by_place after.by_place place None → KeptFor before f → KeptFor after f
-gone_kept before after f place gone was = gone_by (is_at (nat_cmp place) f.cie) (get nat_cmp before.by_place f.cie) (get nat_cmp after.by_place f.cie) f (gone.0 f.cie) was
-
 same_place : (a b : ℕ) → is_at (nat_cmp a) b ≡ true → a ≡ b
 same_place a b is = grind (arith, nat_tests, is)
 

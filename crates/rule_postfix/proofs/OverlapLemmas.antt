@@ -4,7 +4,7 @@ use Rattle.std.proofs.Common.{◌≡◌, ℕ, zero, suc, ◌+◌, ◌<◌, ◌�
 use Rattle.std.specs.List.{list_any}
 use Rattle.std.specs.List.Sorted.{IsNonDecreasingBy, IsPartitionedBy, IsPartitionPoint}
 use Rattle.std.proofs.lemmas.List.Sorted.{IsPartitionedBy-leb}
-use Rattle.std.proofs.lemmas.List.{length-append, get_or_append_left, get_or_at, take_all, take_at, take-append-le, take_more}
+use Rattle.std.proofs.lemmas.List.{length-append, get_or_append_left, get_or_at, take_at, take-append-le, take_more}
 use Rattle.std.proofs.lemmas.List.Folds.{list_any-append}
 use Rattle.std.proofs.Math.Bool.{or_comm}
 use Rattle.std.proofs.lemmas.Bool.{cases_lt, lt-ltb, le-ltb, leb-true, leb-false, or_from, and_right}
@@ -34,15 +34,9 @@ grows_by united more r s same = subst (λ (x : Range). GrowsBy united more x) sa
 pub union_push : (ranges united more : List Range) (r : Range) → AreAlike ranges united → GrowsBy united more r → AreAlike (ranges ++ r ∷ []) more
 union_push ranges united more r alike grown = record { same = λ q. grown q ∙ ap (λ t. t || overlap q r) (alike.same q) ∙ sym (meets_push q ranges r) }
 
-pub union_none : (united : List Range) → united ≡ [] → AreAlike [] united
-union_none united none = record { same = λ q. ap (any_overlap q) none }
-
 pub union_next : (ranges : List Range) (k : ℕ) (r : Range) (united more : List Range) → AreAlike (take k ranges) united → k < length ranges → r ≡ get_or ranges k r → GrowsBy united more r → AreAlike (take (k + 1) ranges) more
 union_next ranges k r united more alike inside is grown =
     subst (λ (rs : List Range). AreAlike rs more) (sym (take_more ranges k r inside ∙ ap (λ x. take k ranges ++ x ∷ []) (sym is))) (union_push (take k ranges) united more r alike grown)
-
-pub union_all : (ranges : List Range) (k : ℕ) (united : List Range) → length ranges ≤ k → AreAlike (take k ranges) united → AreAlike ranges united
-union_all ranges k united over alike = subst (λ (rs : List Range). AreAlike rs united) (take_all k ranges over) alike
 
 ends_push : (top more : ℕ) (ranges : List Range) (r : Range) → EndBy top ranges → top ≤ more → r.end ≤ more → EndBy more (ranges ++ r ∷ [])
 ends_push top more [] r by le last = (last, tt)
@@ -64,9 +58,6 @@ apart_push ranges r apart none k d below =
 rising_push : (low top : ℕ) (ranges : List Range) (r : Range) → AreRising low ranges → EndBy top ranges → top ≤ r.start → low ≤ r.start → r.start < r.end → AreRising low (ranges ++ r ∷ [])
 rising_push low top [] r up by le from some = (from, some, tt)
 rising_push low top (x ∷ ranges) r up by le from some = (up.0, up.1, rising_push x.end top ranges r up.2 by.1 le (omega (arith, by.0, le)) some)
-
-pub taken_none : AreTaken [] None 0
-taken_none = record { found = tt; by = tt; apart = λ k d below. absurd (omega arith) }
 
 pub taken_push : (ranges new : List Range) (ends after : Option (List Range)) (top same more : ℕ) (r : Range) → AreTaken ranges ends top → any_overlap r ranges ≡ false → new ≡ ranges ++ r ∷ [] → same ≡ top → more ≡ max same r.end → AreFound (ranges ++ r ∷ []) after → AreTaken new after more
 taken_push ranges new ends after top same more r taken none grown is last found =

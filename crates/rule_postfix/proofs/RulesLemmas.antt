@@ -271,8 +271,3 @@ none_behind row column =
 none_of_all : (p : ℕ → Bool) → ((k : ℕ) → p k ≡ false) → (xs : List ℕ) → list_any p xs ≡ false
 none_of_all p none [] = refl
 none_of_all p none (x ∷ xs) = or_from (p x) (list_any p xs) (none x) (none_of_all p none xs)
-
-pub none_from_empty : (empty row : Row) → empty ≡ empty_row → some_becomes_unspecified empty row ≡ false
-unfolding some_becomes_unspecified some_unspecified_below
-none_from_empty empty row e =
-    ap (λ r. some_becomes_unspecified r row) e ∙ none_of_all (becomes_unspecified empty_row row) (none_behind row) (range_with_len 0 17)

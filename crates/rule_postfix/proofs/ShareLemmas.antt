@@ -39,11 +39,6 @@ on_none base code entries size p d so =
     let P : ℕ → Type 0 = λ n. Shows base p (with_entries code (take n entries) d) in
     subst P (let none : 0 ≡ size * 0 = omega arith in none) so
 
-pub on_all : (base : ℕ) (code : List Range) (entries : List Entry) (size k : ℕ) (p q : Progress) → length entries ≤ size * k → ((d : Decided) → Shows base p d → Shows base q (with_entries code (take (size * k) entries) d)) → (d : Decided) → Shows base p d → Shows base q (with_entries code entries d)
-on_all base code entries size k p q over so d first =
-    let P : List Entry → Type 0 = λ es. Shows base q (with_entries code es d) in
-    subst P (take_all (size * k) entries over) (so d first)
-
 -- One of the ranges overlaps a taken range.
 pub met_here : (taken ranges : List Range) (k : ℕ) (r : Range) → k < length ranges → r ≡ get_or ranges k r → true ≡ any_overlap r taken → true ≡ list_any (λ range. any_overlap range taken) ranges
 met_here taken [] k r inside is met = absurd (omega (arith, inside))
@@ -69,11 +64,6 @@ met_never taken ranges k none over = sym none ∙ ap (list_any (λ range. any_ov
 pub all_taken : (taken more : List Range) → length taken ≡ 0 → more ≡ taken ++ more
 all_taken [] more none = refl
 all_taken (x ∷ taken) more none = absurd (omega (arith, none))
-
--- Ranges that are taken one after the other.
-pub taken_next : (old new ranges taken : List Range) (k : ℕ) (r : Range) → taken ≡ old ++ take k ranges → k < length ranges → r ≡ get_or ranges k r → new ≡ taken ++ r ∷ [] → new ≡ old ++ take (k + 1) ranges
-taken_next old new ranges taken k r so inside is more =
-    more ∙ ap (λ rs. rs ++ r ∷ []) so ∙ append_assoc old (take k ranges) (r ∷ []) ∙ ap (λ rs. old ++ rs) (sym (take_more ranges k r inside ∙ ap (λ x. take k ranges ++ x ∷ []) (sym is)))
 
 -- What is decided after other entries.
 abbrev pub joined : Decided → Decided → Decided

@@ -43,10 +43,6 @@ or_none : {A : Type 0} (o : Option A) → option_or o None ≡ o
 or_none None = refl
 or_none (Some x) = refl
 
-or_same : {A : Type 0} (o : Option A) → option_or o o ≡ o
-or_same None = refl
-or_same (Some x) = refl
-
 or_third : {A : Type 0} (a b c : Option A) → option_or (option_or a b) c ≡ option_or a (option_or b c)
 or_third None b c = refl
 or_third (Some x) b c = refl

@@ -1,6 +1,4 @@
 -- What is spelled as a stepper moves; for `put_row`, `spell_steps`.
-use Rattle.std.proofs.Math.Bool.{or_comm}
-use Rattle.std.proofs.Math.Seq.{take-append_seam}
 use Rattle.std.proofs.Common.{◌≡◌, Option, Some, None, Result, Ok, Err, OnOk, ℕ, ◌-◌, ◌<◌, ◌≤◌, Bool, true, false, not, ◌||◌, cond, take, length, List, [], ◌∷◌, ◌++◌, refl, ap, sym, subst, ◌∙◌, arith, append_assoc, append-nil}
 use Rattle.std.specs.List.{list_any}
 use Rattle.sym_edges.specs.declared.reason.Reason.{Reason}
@@ -10,8 +8,8 @@ use Rattle.sym_edges.specs.declared.fault.Stop.TheVariants.{Fault, NoMemory}
 use Rattle.frame_entries.specs.FdeFields.{FdeFields}
 use Rattle.frame_rows.specs.declared.row.Row.{Row}
 use Rattle.frame_rows.specs.Steps.{has_cfa}
-use Rattle.frame_rows.specs.Standing.{Standing, GoesOn, Refuses}
-use Rattle.frame_rows.specs.Columns.{StayOutside, IsNext}
+use Rattle.frame_rows.specs.Standing.{Standing, GoesOn}
+use Rattle.frame_rows.specs.Columns.{IsNext}
 use Rattle.frame_rows.specs.declared.columns.Columns.{Columns}
 use Rattle.sym_rules.specs.Rules.{spelled_rules}
 use Rattle.sym_records.specs.Canon.{canon, canon_text, init_front}
@@ -136,40 +134,6 @@ pass_ends fde base end front old new p before lacking s first so none is =
     closed_spelled front old new base end p so.o so.spelled is
     ∙ ap (λ o. front ++ canon_text (closed o end)) (sym (ap (λ rows. with_rows fde s.here.row rows so.o) none) ∙ so.same)
 
-pub pass_lacks : (fde : FdeFields) (base end : ℕ) (front old : List ℕ) (p : OpenInit) (before : Row) (lacking : Bool) (s first : Standing) → Passing fde base end front old p before lacking s first → s.later ≡ [] → lacking ≡ list_any lacks_rule (first.here ∷ first.later)
-pass_lacks fde base end front old p before lacking s first so none =
-    sym (or_comm lacking false) ∙ ap (λ rows. lacking || list_any lacks_rule rows) (sym none) ∙ so.lack
-
--- If the stepper does not move, nothing changes.
-pub pass_same : (fde : FdeFields) (base end : ℕ) (front text : List ℕ) (p : OpenInit) (before : Row) (lacking : Bool) (s t first : Standing) → Passing fde base end front text p before lacking s first → t ≡ s → Passing fde base end front text p before lacking t first
-pass_same fde base end front text p before lacking s t first so same = let P : Standing → Type 0 = λ k. Passing fde base end front text p before lacking k first in subst P (sym same) so
-
--- The open INIT is between the base and the end, and starts below the next row.
-pub pass_above : (fde : FdeFields) (base end : ℕ) (front text : List ℕ) (p : OpenInit) (before : Row) (lacking : Bool) (s first : Standing) → Passing fde base end front text p before lacking s first → base ≤ p.start
-pass_above fde base end front text p before lacking s first so = omega (arith, so.above, so.spelled.start)
-
-pub pass_below : (fde : FdeFields) (base end : ℕ) (front text : List ℕ) (p : OpenInit) (before : Row) (lacking : Bool) (s first : Standing) → Passing fde base end front text p before lacking s first → p.start ≤ end
-pass_below fde base end front text p before lacking s first so = omega (arith, so.below, so.low, so.spelled.start)
-
-pub pass_rises : (fde : FdeFields) (base end : ℕ) (front text : List ℕ) (p : OpenInit) (before : Row) (lacking : Bool) (s t first : Standing) → Passing fde base end front text p before lacking s first → GoesOn s t → p.start ≤ t.here.address
-pass_rises fde base end front text p before lacking s t first so step = omega (arith, so.below, so.spelled.start, step.rises)
-
--- The text before the entry does not change.
-pub front_stays : (front text more : List ℕ) → text ≡ front ++ more → take (length front) text ≡ front
-front_stays front text more is = ap (take (length front)) is ∙ take-append_seam front more
-
-pub pass_front : (fde : FdeFields) (base end : ℕ) (front text : List ℕ) (p : OpenInit) (before : Row) (lacking : Bool) (s first : Standing) → Passing fde base end front text p before lacking s first → take (length front) text ≡ front
-pass_front fde base end front text p before lacking s first so = front_stays front text (canon_text so.o.lines) so.spelled.lines
-
--- The reason of a refusal.
-pub pass_refused : (A B : Type 0) (stop : Stop Reason) (s t first : Standing) (P : A → Type 0) (Q : Type 0) (R : B → Type 0) → s.fault ≡ first.fault → MatchStop {A = A} {F = Reason} (Err stop) P (λ why. Refuses why s t) Q → MatchStop {A = B} {F = Reason} (Err stop) R (λ why. first.fault ≡ Some why) (Unit {0})
-pass_refused A B (Fault why) s t first P Q R same refuses = sym same ∙ refuses.is
-pass_refused A B NoMemory s t first P Q R same refuses = tt
-
-pub end_refused : (A B : Type 0) (stop : Stop Reason) (s first : Standing) (P : A → Type 0) (R : B → Type 0) → s.fault ≡ first.fault → MatchStop {A = A} {F = Reason} (Err stop) P (λ why. s.fault ≡ Some why) (Unit {0}) → MatchStop {A = B} {F = Reason} (Err stop) R (λ why. first.fault ≡ Some why) (Unit {0})
-end_refused A B (Fault why) s first P R same bad = sym same ∙ bad
-end_refused A B NoMemory s first P R same bad = tt
-
 pub end_text : (A B : Type 0) (stop : Stop Reason) (front old new : List ℕ) (P : A → Type 0) (R : B → Type 0) → take (length front) old ≡ front → MatchStop {A = A} {F = Reason} (Err stop) P (λ _. new ≡ old) (Unit {0}) → MatchStop {A = B} {F = Reason} (Err stop) R (λ _. take (length front) new ≡ front) (Unit {0})
 end_text A B (Fault why) front old new P R so same = ap (take (length front)) same ∙ so
 end_text A B NoMemory front old new P R so same = tt
@@ -186,13 +150,6 @@ is_more o columns s t is next = let P : Option Columns → Type 0 = λ k. IsNext
 pub on_both : {A F : Type 0} {P Q R : Type 0} (r : Result A F) → (P → Q → R) → OnOk r P → OnOk r Q → OnOk r R
 on_both (Ok x) then first second = then first second
 on_both (Err e) then first second = tt
-
--- The next row differs from this one only in some columns.
-pub pass_alike : (fde : FdeFields) (base end : ℕ) (front text : List ℕ) (p : OpenInit) (before after : Row) (lacking : Bool) (s t first : Standing) (columns : Columns) → Passing fde base end front text p before lacking s first → StayOutside columns s.here.row t.here.row → after ≡ t.here.row → StayOutside columns before after
-pass_alike fde base end front text p before after lacking s t first columns so alike is =
-    let P : Row → Type 0 = λ row. StayOutside columns row after in
-    let Q : Row → Type 0 = λ row. StayOutside columns s.here.row row in
-    subst P (sym so.here) (subst Q (sym is) alike)
 
 -- One row, given where it is.
 pub by_row : (fde : FdeFields) (base address : ℕ) (before row : Row) (old new : List ℕ) (p q : OpenInit) (t : Standing) → address ≡ t.here.address → row ≡ t.here.row → ((front : List ℕ) (o : Open) → IsSpelled front base old p o → IsSpelled front base new q (with_row fde address before row o)) →

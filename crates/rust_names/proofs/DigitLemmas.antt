@@ -36,9 +36,6 @@ digits_end bytes i count past within is = omega (arith, is, ap (λ xs. length (d
 
 -- The number that digits write.
 
-number_if : ℕ → List ℕ → Option ℕ
-number_if most digits = cond (nat_le (digits_value 10 digits) most) (Some (digits_value 10 digits)) None
-
 is_none : (most : ℕ) (digits : List ℕ) → is_number digits ≡ false → number_upto most digits ≡ None
 unfolding number_upto
 is_none most digits none = ap (λ t. cond (t && nat_le (digits_value 10 digits) most) (Some (digits_value 10 digits)) None) none

@@ -7,7 +7,7 @@ use Rattle.std.proofs.Math.Nat.{mul-le-mul_left}
 use Rattle.rust_names.specs.declared.grammar.Phrase.{Phrase}
 use Rattle.rust_names.specs.declared.grammar.Inner.{Inner}
 use Rattle.rust_names.specs.declared.grammar.Part.{Part}
-use Rattle.rust_names.specs.declared.grammar.Part.TheVariants.{Deep, Back, Phrase as Made, Inner as Within, Leaf as Read, Goto, Opened}
+use Rattle.rust_names.specs.declared.grammar.Part.TheVariants.{Deep, Back, Goto, Opened}
 use Rattle.rust_names.specs.declared.grammar.Scope.{Scope}
 use Rattle.rust_names.specs.declared.grammar.Frame.{Frame}
 use Rattle.rust_names.specs.declared.grammar.Nest.{Nest}
@@ -22,9 +22,6 @@ inside_length scope levels width [] = refl
 inside_length scope levels width (p ∷ ps) = ap suc (inside_length scope levels width ps)
 
 -- The parts of a frame are read one after the other.
-
-run_onto : List ℕ → List Frame → Option State → Option State
-run_onto name frames o = option_and_then (run name frames) o
 
 pub run_none : (name : List ℕ) (s : State) → run name [] s ≡ Some s
 unfolding run

@@ -7,7 +7,7 @@ use Rattle.std.proofs.lemmas.Bool.{cases_eq}
 use Rattle.std.proofs.lemmas.List.{append-nil, map-append, reverse-append, reverse-reverse}
 use Rattle.std.proofs.lemmas.Grind.{common_steps}
 use Rattle.rust_names.specs.declared.grammar.Part.{Part}
-use Rattle.rust_names.specs.declared.grammar.Part.TheVariants.{Deep, Back, Phrase as Made, Inner as Within, Leaf as Leafed, Goto, Opened}
+use Rattle.rust_names.specs.declared.grammar.Part.TheVariants.{Deep, Back, Goto, Opened}
 use Rattle.rust_names.specs.declared.grammar.Scope.{Scope}
 use Rattle.rust_names.specs.declared.grammar.Frame.{Frame}
 use Rattle.rust_names.specs.declared.passing.Begun.{Begun}
@@ -20,7 +20,7 @@ use Rattle.rust_names.specs.internal.Passing.{IsEnd, dark}
 use Rattle.rust_names.specs.internal.Running.{Expanded, at, expand, in_scope, in_own_scope, inside, is_made, read_frame}
 use Rattle.rust_names.proofs.EndLemmas.{placed}
 use Rattle.rust_names.proofs.PassingLemmas.{inner_dark, level_dark, within_dark}
-use Rattle.rust_names.specs.internal.Stepping.{AreHidden, Begins, CanEnd, Fits, IsJoined, Passes, Waits, coded, inner_levels, inner_width, key, one_reads, read_of, reads, stands}
+use Rattle.rust_names.specs.internal.Stepping.{AreHidden, Begins, Fits, IsJoined, Passes, Waits, coded, inner_levels, inner_width, key, one_reads, read_of, reads, stands}
 
 -- What is known of parts.
 
@@ -105,9 +105,6 @@ found_parts : (scope : Scope) (levels width : ℕ) (o : Option (List Part × Lis
 found_parts scope levels width None x is = cc
 found_parts scope levels width (Some y) x is = ap (λ ps. Some (ps, y.1)) (map_back scope levels width y.0) ∙ ap (λ (z : List Frame × List ℕ). Some (parts_of z.0, z.1)) (some_one is)
 
-abbrev in_dark : ℕ → List Part × Scope × List ℕ → Option (List Part × Scope × List ℕ)
-in_dark bound x = Some (x.0, dark bound, x.2)
-
 found_own : (levels width bound : ℕ) (o p : Option (List Part × Scope × List ℕ)) (x : List Frame × List ℕ) → ((y : List Part × Scope × List ℕ) → o ≡ Some y → p ≡ Some (y.0, dark bound, y.2)) → option_map (in_own_scope levels width) o ≡ Some x → p ≡ Some (parts_of x.0, dark bound, x.1)
 found_own levels width bound None p x each is = cc
 found_own levels width bound (Some y) p x each is = each y refl ∙ ap (λ ps. Some (ps, dark bound, y.2)) (map_back y.1 levels width y.0) ∙ ap (λ (z : List Frame × List ℕ). Some (parts_of z.0, dark bound, z.1)) (some_one is)
@@ -178,19 +175,6 @@ begun_waits name first old mid new below stack part now rest after (Some x) made
 
 -- The loop.
 
-pub steps_top : (step : Step) (below old : List Step) → old ≡ below ++ step ∷ [] → reverse old ≡ step ∷ reverse below
-steps_top step below old is = ap reverse is ∙ reverse-append below (step ∷ [])
-
-pub can_end : (name : List ℕ) (first : Begun) (step : Step) (steps : List Step) (now : Reached) → Waits name first (step ∷ steps) [] now → CanEnd name step now
-can_end name first (Read p) steps now waits = tt
-can_end name first (End b) steps now waits = waits.0
-
 only_one : (f : Part → State → Option State) (o : Option State) → o ≡ option_and_then (all f []) o
 only_one f None = refl
 only_one f (Some s) = refl
-
-pub start_waits : (name : List ℕ) (first : Begun) (none steps : List Step) → none ≡ [] → steps ≡ none ++ Read first.part ∷ [] → Waits name first (reverse steps) [] (record { place = first.from.place; opened = first.from.opened; levels = 0; width = 0 })
-start_waits name first none steps empty is =
-    let now : Reached = record { place = first.from.place; opened = first.from.opened; levels = 0; width = 0 } in
-    subst (λ xs. Waits name first xs [] now) (sym (steps_top (Read first.part) none steps is ∙ ap (λ xs. Read first.part ∷ reverse xs) empty))
-    (λ levels width bound text deep wide. only_one (read_within (read_level name levels) name width (dark bound)) (one_reads name levels width bound first.part (stands name first.from.place first.from.opened text)))

@@ -1,10 +1,8 @@
 -- Texts that grow up to their limit.
-use Rattle.std.proofs.Common.{◌≡◌, ◌≢◌, ℕ, suc, ◌+◌, ◌-◌, ◌<◌, ◌≤◌, ◌==◌, cond, Bool, true, false, List, [], ◌++◌, length, drop, get_or, codes, Option, Some, None, nat_le, refl, sym, ◌∙◌, ap, arith, append_assoc, length-append}
-use Rattle.std.specs.List.{flat_map}
+use Rattle.std.proofs.Common.{◌≡◌, ◌≢◌, ℕ, suc, ◌+◌, ◌-◌, ◌<◌, ◌≤◌, ◌==◌, cond, Bool, true, false, List, ◌++◌, length, codes, Option, Some, None, nat_le, refl, sym, ◌∙◌, ap, arith, append_assoc, length-append}
 use Rattle.std.proofs.lemmas.Bool.{le-leb, lt-leb}
 use Rattle.std.proofs.lemmas.Bool.Decides.{nat_tests}
-use Rattle.std.proofs.lemmas.List.{at_drop_more, at_drop_all}
-use Rattle.rust_names.specs.V0Texts.{say, lifetime_name, lifetime_text, next_lifetime, lifetimes_from, escaped}
+use Rattle.rust_names.specs.V0Texts.{say, lifetime_name, lifetime_text, next_lifetime, lifetimes_from}
 use Rattle.rust_names.specs.internal.Reading.{kept}
 
 pub say_over : (text more : List ℕ) → 65536 < length text + length more → say text more ≡ None
@@ -63,17 +61,8 @@ lifetimes_more count i depth within =
     let more : count - i ≡ suc n = omega arith in
     ap (λ k. lifetimes_from k (depth + i)) more ∙ ap (λ d. next_lifetime (depth + i) ++ lifetimes_from n d) (let e : depth + i + 1 ≡ depth + (i + 1) = omega arith in e)
 
-pub lifetimes_over : (count i depth : ℕ) → count ≤ i → lifetimes_from (count - i) (depth + i) ≡ []
-lifetimes_over count i depth past = ap (λ k. lifetimes_from k (depth + i)) (let e : count - i ≡ 0 = omega arith in e)
-
 pub step_on : (first text mid xs ys all : List ℕ) (b : Bool) → say first all ≡ say text (xs ++ ys) → say text xs ≡ kept b mid → b ≡ true → say first all ≡ say mid ys
 step_on first text mid xs ys all b so_far is holds = so_far ∙ say_then text xs ys mid b (say mid ys) is holds refl
 
 pub step_off : (first text mid xs ys all : List ℕ) (b : Bool) → say first all ≡ say text (xs ++ ys) → say text xs ≡ kept b mid → b ≡ false → say first all ≡ None
 step_off first text mid xs ys all b so_far is fails = so_far ∙ say_stop text xs ys mid b is fails
-
-pub escaped_more : (quote : ℕ) (cs : List ℕ) (i : ℕ) → i < length cs → flat_map (escaped quote) (drop i cs) ≡ escaped quote (get_or cs i 0) ++ flat_map (escaped quote) (drop (i + 1) cs)
-escaped_more quote cs i within = at_drop_more (flat_map (escaped quote)) cs i 0 within
-
-pub escaped_over : (quote : ℕ) (cs : List ℕ) (i : ℕ) → length cs ≤ i → flat_map (escaped quote) (drop i cs) ≡ []
-escaped_over quote cs i past = at_drop_all (flat_map (escaped quote)) cs i past

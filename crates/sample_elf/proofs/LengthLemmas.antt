@@ -4,7 +4,6 @@ use Rattle.std.specs.List.{concat}
 use Rattle.std.proofs.lemmas.Fmt.{length-decimal-le}
 use Rattle.std.proofs.lemmas.List.{length-replicate}
 use Rattle.sample_elf.specs.Made.{four, root_texts, root_numbers, by_version, each_below, line_program, line_fields, line_header_5, line_header_4, line_header, line_body, line_table, line_tables, unit_root, unit_front, code_at, function, inlined_copy, unit_functions, unit_body, unit, numbered_unit, units, usual, bad, frame_entry, unit_frames, common_entry, frames, abbreviations, section_names, abbreviations_at, headers_at, file_header, program_header, build_id, padding, front, section_header, sections, section_headers, made}
-use Rattle.sample_elf.specs.declared.section.Section.{Section}
 use Rattle.sample_elf.proofs.PieceLemmas.{more_below}
 
 -- A list put before another.
@@ -152,10 +151,6 @@ front_few n =
     (joined 56 3976 (program_header (abbreviations_at n)) _ (let h : length (program_header (abbreviations_at n)) ≡ 56 = program_header_length (abbreviations_at n) in omega arith)
     (joined 36 3940 (build_id n) _ (let h : length (build_id n) ≡ 36 = build_id_length n in omega arith)
     (joined 3940 0 padding [] (let h : length padding ≡ 0x1000 - 156 = padding_length in omega arith) (omega arith))))
-
-section_length : (s : Section) → length (section_header s) ≡ 64
-unfolding section_header
-section_length s = refl
 
 headers_few : (n : ℕ) → length (section_headers n) ≤ 512
 unfolding section_headers sections section_header

@@ -29,14 +29,6 @@ use Rattle.stack_text.specs.declared.said_lines.SaidLines.{SaidLines}
 
 -- Modules.
 
-pub modules_more : (folder : List ℕ) (modules : List Module) (place : ℕ) (m : Module) (before text next : List ℕ) → place < length modules → m ≡ get_or modules place m → text ≡ before ++ flat_map (module_line folder) (take place modules) → next ≡ text ++ module_line folder m
-    → next ≡ before ++ flat_map (module_line folder) (take (place + 1) modules)
-modules_more folder modules place m before text next few at is more =
-    more ∙ ap (λ t. t ++ module_line folder m) is ∙ append_assoc before (flat_map (module_line folder) (take place modules)) (module_line folder m)
-    ∙ ap (λ l. before ++ (flat_map (module_line folder) (take place modules) ++ l)) (sym (append-nil (module_line folder m)))
-    ∙ ap (λ l. before ++ l) (sym (flat_map-append (module_line folder) (take place modules) (m ∷ [])))
-    ∙ ap (λ l. before ++ flat_map (module_line folder) l) (ap (λ (x : Module). take place modules ++ x ∷ []) at ∙ sym (take_more modules place m few))
-
 pub modules_end : (folder : List ℕ) (modules : List Module) (place : ℕ) (before text : List ℕ) → length modules ≤ place → text ≡ before ++ flat_map (module_line folder) (take place modules) → text ≡ before ++ modules_text folder modules
 unfolding modules_text
 modules_end folder modules place before text past is = is ∙ ap (λ l. before ++ flat_map (module_line folder) l) (take_all place modules past)

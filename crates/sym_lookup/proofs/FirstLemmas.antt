@@ -27,9 +27,6 @@ not_inline : (level x : ℕ) (line : SymLine) → IsNoInline line → is_inline_
 not_inline level x (Inline own call_line call_file origin ranges) h = absurd (h own call_line call_file origin ranges refl)
 not_inline level x _ h = refl
 
-pub other_record : (x place : ℕ) (line : SymLine) (firsts : Firsts) → IsNoInline line → Notes x place line firsts firsts
-other_record x place line firsts h = λ level. stays place (is_inline_at level x line) (slice_get firsts level) (not_inline level x line h)
-
 abbrev covers : ℕ → List Extent → Bool
 covers x ranges = list_any (λ (r : Extent). is_within r.address r.size x) ranges
 
@@ -45,16 +42,6 @@ nothing_there : (firsts : Firsts) (level : ℕ) → length firsts ≤ level → 
 nothing_there [] level l = refl
 nothing_there (f ∷ firsts) zero l = absurd (omega arith)
 nothing_there (f ∷ firsts) (suc level) l = nothing_there firsts level (omega arith)
-
-pub level_past : (x place : ℕ) (line : SymLine) (own call_line call_file origin : ℕ) (ranges : List Extent) (firsts : Firsts) → line ≡ Inline own call_line call_file origin ranges → length firsts ≤ own → Notes x place line firsts firsts
-level_past x place line own call_line call_file origin ranges firsts is l = λ level. go level (own == level) refl
-  where
-    go : (level : ℕ) (b : Bool) → (own == level) ≡ b → slice_get firsts level ≡ option_map (sooner level x place line) (slice_get firsts level)
-    go level true e =
-        let same : own ≡ level = grind (arith, nat_tests) in
-        let none : slice_get firsts level ≡ None = nothing_there firsts level (omega arith) in
-        rw none refl
-    go level false e = stays place (is_inline_at level x line) (slice_get firsts level) (ap (is_inline_at level x) is ∙ ap (λ b. b && covers x ranges) e)
 
 zero_suc : (n : ℕ) → (0 == suc n) ≡ false
 zero_suc n = grind (arith, nat_tests)
@@ -116,10 +103,6 @@ firsts_more first x at place records line old new n l is notes before = λ level
         ap (sooner level x (first + place) line) (h ∙ ap (λ m. position_from (is_inline_at level x) m (drop at records)) one ∙ ap (λ m. position_from (is_inline_at level x) (first + place + 1) (drop m records)) next)
         ∙ ap (λ s. cond (is_inline_at level x s) (Some (first + place)) (position_from (is_inline_at level x) (first + place + 1) (drop (suc place) records))) is
         ∙ sym (first_at (is_inline_at level x) records first place line l)
-
-pub firsts_all : (first x at : ℕ) (records : List SymLine) (firsts : Firsts) → at ≤ 0 → AreFirsts (first + at) x (drop at records) firsts → AreFirsts first x records firsts
-firsts_all first x zero records firsts l h = subst (λ n. AreFirsts n x records firsts) (omega arith) h
-firsts_all first x (suc at) records firsts l h = absurd (omega arith)
 
 -- The first record of a level that the list has.
 pub first_held : (first x level : ℕ) (records : List SymLine) (firsts : Firsts) (found : Option ℕ) → slice_get firsts level ≡ Some found → AreFirsts first x records firsts → found ≡ position_from (is_inline_at level x) first records

@@ -1,5 +1,5 @@
 -- For which FUNC records the index stores what is under them.
-use Rattle.std.proofs.Common.{◌≡◌, ◌≢◌, ◌+◌, ◌-◌, ◌<◌, ◌≤◌, ◌++◌, not, ◌&&◌, nat_le, nat_lt, ℕ, zero, suc, Bool, true, false, List, [], ◌∷◌, length, get_or, drop, Some, sym, ap, subst, ◌∙◌, arith, add-one, drop-cons, inl, inr}
+use Rattle.std.proofs.Common.{◌≡◌, ◌≢◌, ◌+◌, ◌<◌, ◌≤◌, ◌++◌, not, ◌&&◌, nat_le, nat_lt, ℕ, zero, suc, Bool, true, false, List, [], ◌∷◌, length, get_or, drop, Some, sym, ap, subst, ◌∙◌, arith, inl, inr}
 use Rattle.std.specs.List.{sum_by}
 use Rattle.std.specs.Option.{option_map_or}
 use Rattle.std.specs.List.Sorted.{IsNonDecreasingBy, IsPartitionPoint}
@@ -7,33 +7,10 @@ use Rattle.std.proofs.lemmas.Bool.{cases_lt}
 use Rattle.std.proofs.lemmas.Bool.Decides.{nat_tests}
 use Rattle.std.proofs.lemmas.Option.{slice_get_past, slice_get-get_or}
 use Rattle.std.proofs.lemmas.List.{get_or_default}
-use Rattle.std.proofs.lemmas.List.Sums.{sum_by-cons}
 use Rattle.sym_records.specs.declared.line.SymLine.{SymLine}
 use Rattle.sym_meaning.specs.TextNames.{under}
 use Rattle.sym_lookup.specs.internal.HeldUnders.{range_count, is_func, is_held, HaveNone, AreHeld}
 use Rattle.sym_lookup.specs.declared.under.Under.{Under}
-
--- The ranges counted record by record.
-pub one_fits : (records : List SymLine) (at room many : ℕ) (line : SymLine) → line ≡ get_or records at line → at < length records → many ≡ range_count line → many ≤ room
-    → nat_le (sum_by range_count (drop (at + 1) records)) (room - many) ≡ nat_le (sum_by range_count (drop at records)) room
-one_fits records at room many line is l size fits =
-    let n : ℕ = sum_by range_count (drop (suc at) records) in
-    let cut : sum_by range_count (drop at records) ≡ many + n
-    = ap (sum_by range_count) (drop-cons records at line l) ∙ sum_by-cons range_count (get_or records at line) (drop (suc at) records) ∙ ap (λ s. range_count s + n) (sym is) ∙ ap (λ m. m + n) (sym size) in
-    ap (λ k. nat_le (sum_by range_count (drop k records)) (room - many)) (add-one at) ∙ less n many room fits ∙ ap (λ m. nat_le m room) (sym cut)
-  where
-    less : (n many room : ℕ) → many ≤ room → nat_le n (room - many) ≡ nat_le (many + n) room
-    less n many room fits = grind (arith, nat_tests)
-
-pub too_many : (records : List SymLine) (at room many : ℕ) (line : SymLine) → line ≡ get_or records at line → at < length records → many ≡ range_count line → room < many → nat_le (sum_by range_count (drop at records)) room ≡ false
-too_many records at room many line is l size above =
-    let n : ℕ = sum_by range_count (drop (suc at) records) in
-    let cut : sum_by range_count (drop at records) ≡ many + n
-    = ap (sum_by range_count) (drop-cons records at line l) ∙ sum_by-cons range_count (get_or records at line) (drop (suc at) records) ∙ ap (λ s. range_count s + n) (sym is) ∙ ap (λ m. m + n) (sym size) in
-    ap (λ m. nat_le m room) cut ∙ more n many room above
-  where
-    more : (n many room : ℕ) → room < many → nat_le (many + n) room ≡ false
-    more n many room above = grind (arith, nat_tests)
 
 none_fits : (room : ℕ) → nat_le 0 room ≡ true
 none_fits room = grind (arith, nat_tests)

@@ -16,25 +16,19 @@ use Rattle.sym_lookup.specs.internal.Kinds.{is_at, extents_of, extent_stretches,
 use Rattle.step_maps.specs.Stepping.{Stepping}
 use Rattle.step_maps.specs.declared.stretch.FirstItem.{FirstItem}
 use Rattle.sym_lookup.specs.PlaceMaps.{IsPlaceMap}
-use Rattle.sym_lookup.specs.internal.Levels.{bucket, AreEmpty, HaveStretches, AreLeveled, IsLevelMap}
+use Rattle.sym_lookup.specs.internal.Levels.{bucket, HaveStretches, IsLevelMap}
 use Rattle.step_maps.proofs.IndexLemmas.{none_at}
-use Rattle.sym_lookup.proofs.StretchLemmas.{records_more, records_all, records_found}
+use Rattle.sym_lookup.proofs.StretchLemmas.{records_found}
 
 abbrev Leveled : Type 0
 Leveled = List (Vec Stretch)
 
 -- Levels without stretches.
-pub none_empty : AreEmpty []
-none_empty = record { none = λ level. tt }
-
 empty_pushed : (leveled : Leveled) (v : Vec Stretch) → v.items ≡ [] → (level : ℕ) → IfSome (bucket leveled level) (λ s. s ≡ []) → ((k : ℕ) → IfSome (bucket leveled k) (λ s. s ≡ [])) → IfSome (bucket (leveled ++ v ∷ []) level) (λ s. s ≡ [])
 empty_pushed [] v is zero h all = is
 empty_pushed [] v is (suc level) h all = tt
 empty_pushed (w ∷ leveled) v is zero h all = h
 empty_pushed (w ∷ leveled) v is (suc level) h all = empty_pushed leveled v is level h (λ k. all (suc k))
-
-pub empty_more : (leveled next : Leveled) (v : Vec Stretch) → v.items ≡ [] → next ≡ leveled ++ v ∷ [] → AreEmpty leveled → AreEmpty next
-empty_more leveled next v is n before = record { none = λ level. subst (λ l. IfSome (bucket l level) (λ s. s ≡ [])) (sym n) (empty_pushed leveled v is level (before.none level) before.none) }
 
 -- What is added to each level.
 abbrev pub AddsLine : ℕ → SymLine → Leveled → Leveled → Type 0
@@ -138,35 +132,6 @@ then_ok (Err e) p f = tt
 pub record AreLeveledTo (first at : ℕ) (records : List SymLine) (leveled : Leveled) : Type 0 where
   pub have : HaveStretches leveled
   pub same : (level : ℕ) → IfSome (bucket leveled level) (λ s. s ++ stretches_of (kind.Level level) (first + at) (drop at records) ≡ stretches_of (kind.Level level) first records)
-
-begin_one : (first level : ℕ) (records : List SymLine) (found : Option (List Stretch)) → IfSome found (λ s. s ≡ []) → IfSome found (λ s. s ++ stretches_of (kind.Level level) (first + 0) (drop 0 records) ≡ stretches_of (kind.Level level) first records)
-begin_one first level records None h = tt
-begin_one first level records (Some s) h = let same : first + 0 ≡ first = omega arith in ap (λ n. s ++ stretches_of (kind.Level level) n records) same ∙ ap (λ t. t ++ stretches_of (kind.Level level) first records) h
-
-no_stretch : (found : Option (List Stretch)) → IfSome found (λ s. s ≡ []) → IfSome found AreStretches
-no_stretch None h = tt
-no_stretch (Some s) h = subst AreStretches (sym h) tt
-
-pub leveled_begin : (first : ℕ) (records : List SymLine) (leveled : Leveled) → AreEmpty leveled → AreLeveledTo first 0 records leveled
-leveled_begin first records leveled none = record { have = record { some = λ level. no_stretch (bucket leveled level) (none.none level) }; same = λ level. begin_one first level records (bucket leveled level) (none.none level) }
-
-more_one : (first at level : ℕ) (records : List SymLine) (line : SymLine) (found next : Option (List Stretch)) → line ≡ get_or records at line → at < length records → next ≡ option_map (λ s. s ++ extent_stretches (first + at) (extents_of (kind.Level level) line)) found
-    → IfSome found (λ s. s ++ stretches_of (kind.Level level) (first + at) (drop at records) ≡ stretches_of (kind.Level level) first records)
-    → IfSome next (λ s. s ++ stretches_of (kind.Level level) (first + (at + 1)) (drop (at + 1) records) ≡ stretches_of (kind.Level level) first records)
-more_one first at level records line None next is l n h = subst (λ f. IfSome f (λ s. s ++ stretches_of (kind.Level level) (first + (at + 1)) (drop (at + 1) records) ≡ stretches_of (kind.Level level) first records)) (sym n) tt
-more_one first at level records line (Some s) next is l n h =
-    subst (λ f. IfSome f (λ s. s ++ stretches_of (kind.Level level) (first + (at + 1)) (drop (at + 1) records) ≡ stretches_of (kind.Level level) first records)) (sym n)
-    (records_more (kind.Level level) first at records line s (s ++ extent_stretches (first + at) (extents_of (kind.Level level) line)) (stretches_of (kind.Level level) first records) h is l refl)
-
-pub leveled_more : (first at : ℕ) (records : List SymLine) (line : SymLine) (old new : Leveled) → line ≡ get_or records at line → at < length records → AddsLine (first + at) line old new → HaveStretches new → AreLeveledTo first at records old → AreLeveledTo first (at + 1) records new
-leveled_more first at records line old new is l adds have before = record { have = have; same = λ level. more_one first at level records line (bucket old level) (bucket new level) is l (adds level) (before.same level) }
-
-all_one : (first at level : ℕ) (records : List SymLine) (found : Option (List Stretch)) → length records ≤ at → IfSome found (λ s. s ++ stretches_of (kind.Level level) (first + at) (drop at records) ≡ stretches_of (kind.Level level) first records) → IfSome found (λ s. s ≡ stretches_of (kind.Level level) first records)
-all_one first at level records None l h = tt
-all_one first at level records (Some s) l h = records_all (kind.Level level) records (first + at) at s (stretches_of (kind.Level level) first records) h l
-
-pub leveled_all : (first at : ℕ) (records : List SymLine) (leveled : Leveled) → length records ≤ at → AreLeveledTo first at records leveled → AreLeveled first records leveled
-leveled_all first at records leveled l before = record { have = before.have; same = λ level. all_one first at level records (bucket leveled level) l (before.same level) }
 
 -- A level with a map, and one without.
 pub no_map : (level first : ℕ) (records : List SymLine) (found : Option (Stepping (Option FirstItem))) → found ≡ None → IsLevelMap level first records found → (x : ℕ) → x < 2 ^ 64 → position_from (is_inline_at level x) first records ≡ None

@@ -1,39 +1,22 @@
 -- Marks sorted by their keys, and in the order of their records.
-use Rattle.std.proofs.Common.{◌≡◌, ℕ, zero, suc, ◌+◌, ◌-◌, ◌<◌, ◌≤◌, ◌==◌, not, ◌&&◌, nat_le, nat_lt, Bool, cond, true, false, List, [], ◌∷◌, ◌++◌, length, get_or, drop, Option, Some, None, refl, sym, ◌∙◌, ap, subst, inl, inr, arith, append_assoc, append-nil, drop-cons}
-use Rattle.std.specs.List.{filter}
-use Rattle.std.specs.List.Sorted.{IsNonDecreasingBy, IsPartitionPoint, IsStableByKey, ties}
-use Rattle.std.specs.Ordering.{nat_cmp, is_lt}
-use Rattle.std.proofs.lemmas.Bool.{cases_lt, cases_order, le-leb, lt-leb, lt-ltb, le-ltb, eq-eqb, ne_eqb, eqb-true}
+use Rattle.std.proofs.Common.{◌≡◌, ℕ, zero, suc, ◌-◌, ◌<◌, ◌≤◌, nat_le, nat_lt, Bool, cond, true, false, List, [], ◌∷◌, length, get_or, drop, Option, Some, None, refl, sym, ◌∙◌, ap, subst, inl, inr, arith}
+use Rattle.std.specs.List.Sorted.{IsNonDecreasingBy, IsPartitionPoint, IsStableByKey}
+use Rattle.std.specs.Ordering.{nat_cmp}
+use Rattle.std.proofs.lemmas.Bool.{cases_lt, le-leb, lt-leb, lt-ltb, le-ltb}
 use Rattle.std.proofs.lemmas.Bool.Decides.{nat_tests}
 use Rattle.std.proofs.lemmas.List.{get_or_default}
-use Rattle.std.proofs.lemmas.List.Elements.{filter_agree}
 use Rattle.step_maps.proofs.NearestLemmas.{nearer, nearest, nearest_sorted, first_counts}
 use Rattle.sym_records.specs.declared.line.SymLine.{SymLine}
 use Rattle.sym_lookup.specs.declared.marks.Mark.{Mark}
 use Rattle.sym_lookup.specs.declared.marks.Marked.{Marked}
-use Rattle.sym_lookup.specs.internal.Marks.{key_of, mark_of, marks_of}
+use Rattle.sym_lookup.specs.internal.Marks.{marks_of}
 use Rattle.sym_lookup.specs.NearestMarks.{nearer_mark, mark_at}
-
--- The mark of one more record.
-pub marks_more : (kind : Marked) (at : ℕ) (lines : List SymLine) (line : SymLine) (done next all : List Mark) → done ++ marks_of kind at (drop at lines) ≡ all → line ≡ get_or lines at line → at < length lines → next ≡ done ++ mark_of at (key_of kind line)
-    → next ++ marks_of kind (at + 1) (drop (at + 1) lines) ≡ all
-marks_more kind at lines line done next all h is l n =
-    let cut : drop at lines ≡ line ∷ drop (suc at) lines = drop-cons lines at line l ∙ ap (λ s. s ∷ drop (suc at) lines) (sym is) in
-    let one : at + 1 ≡ suc at = omega arith in
-    ap (λ m. next ++ marks_of kind (at + 1) (drop m lines)) one
-    ∙ ap (λ xs. xs ++ marks_of kind (at + 1) (drop (suc at) lines)) n
-    ∙ append_assoc done (mark_of at (key_of kind line)) (marks_of kind (at + 1) (drop (suc at) lines))
-    ∙ ap (λ ls. done ++ marks_of kind at ls) (sym cut)
-    ∙ h
 
 none_left : (kind : Marked) (lines : List SymLine) (n at : ℕ) → length lines ≤ at → marks_of kind n (drop at lines) ≡ []
 none_left kind [] n zero l = refl
 none_left kind [] n (suc at) l = refl
 none_left kind (s ∷ lines) n zero l = absurd (omega arith)
 none_left kind (s ∷ lines) n (suc at) l = none_left kind lines n at (omega arith)
-
-pub marks_all : (kind : Marked) (lines : List SymLine) (n at : ℕ) (done all : List Mark) → done ++ marks_of kind n (drop at lines) ≡ all → length lines ≤ at → done ≡ all
-marks_all kind lines n at done all h l = sym (append-nil done) ∙ ap (λ xs. done ++ xs) (sym (none_left kind lines n at l)) ∙ h
 
 -- There is no mark at or below the key.
 pub no_mark : (marks : List Mark) (x : ℕ) → ((k : ℕ) (d : Mark) → k < length marks → x < (get_or marks k d).key) → mark_at marks x ≡ None

@@ -19,9 +19,6 @@ use Rattle.sym_lookup.specs.internal.Kinds.{is_at, init_run, level_ranges, exten
 use Rattle.sym_lookup.specs.PlaceMaps.{IsPlaceMap}
 
 -- One more range, and one more record.
-pub extents_more : (done : List Stretch) (n : ℕ) (e : Extent) (extents : List Extent) (all : List Stretch) → done ++ extent_stretches n (e ∷ extents) ≡ all → (done ++ stretch_of n e) ++ extent_stretches n extents ≡ all
-extents_more done n e extents all h = append_assoc done (stretch_of n e) (extent_stretches n extents) ∙ h
-
 pub records_more : (kind : Kind) (first at : ℕ) (records : List SymLine) (line : SymLine) (done next all : List Stretch) → done ++ stretches_of kind (first + at) (drop at records) ≡ all → line ≡ get_or records at line → at < length records → next ≡ done ++ extent_stretches (first + at) (extents_of kind line)
     → next ++ stretches_of kind (first + (at + 1)) (drop (at + 1) records) ≡ all
 records_more kind first at records line done next all h is l n =

@@ -200,7 +200,3 @@ gives_some s = Ok (Some s)
 
 some_is : (s t : SymLine) → gives_some s ≡ gives_some t → s ≡ t
 some_is s t is = cc
-
--- Two valid records with the same spelling are equal.
-pub one_record : (s t : SymLine) → IsValid s → IsValid t → body s ≡ body t → s ≡ t
-one_record s t first second same = some_is s t (sym first.reads ∙ ap line_read same ∙ second.reads)
