@@ -48,7 +48,6 @@ ROOT = b"\x01\x11\x01\0\0"
 FUNCTION = b"\x02\x2e\0\x11\x01\x12\x07\x03\x08\0\0"
 # The names of these are in .debug_str.
 NAMED = b"\x02\x2e\0\x11\x01\x12\x07\x03\x0e\0\0"
-NAMED_SPACE = b"\x03\x39\x01\x03\x0e\0\0"
 NAMED_COPY = b"\x03\x1d\0\x11\x01\x12\x07\x03\x0e\0\0"
 
 
@@ -96,20 +95,11 @@ def files_of_a_long_directory(path, scale):
     files_in(path, 2_500 * scale, b"/" + b"d" * 65_000)
 
 
-def files_of_a_directory_of_spaces(path, scale):
-    files_in(path, 5_000 * scale, b" " * (31_250 * scale))
-
-
 def files_of_spaces(path, scale):
     """The slash of the directory is in front of the spaces, so they stay in the paths."""
     count = 5_000 * scale
     names = b"".join(struct.pack("<I", k) for k in range(count))
     functions_of_lines(path, 1, 5, b"\x01\x01\x08\x01/\0\x01\x01\x0e" + leb(count) + names, 4, b" " * (15_000 * scale) + b"a.c\0")
-
-
-def directory_of_spaces(path, scale):
-    tables = [line_table(4, b"\0a.c\0\0\0\0\0", sequence(CODE + 4 * k, b"\x13")) for k in range(1_250 * scale)]
-    functions_with_lines(path, range(0, len(tables) * len(tables[0]), len(tables[0])), b"".join(tables), b" " * (125_000 * scale) + b"/d\0", True)
 
 
 def lines_in_lines(path, scale):
@@ -139,23 +129,6 @@ def abbreviations_in_a_list(path, scale):
     units(path, info, b"".join(roots) + FUNCTION + b"\0")
 
 
-def symbols_of_spaces(path, scale):
-    symbols = b"".join(struct.pack("<IBBHQQ", 1, 2, 0, 1, CODE + 4 * k, 0) for k in range(5_000 * scale))
-    write(path, [b"\0" + b" " * (125_000 * scale) + b"a\0", NOTE, symbols],
-          lambda p: [header(3, 0, 0, *p[0]), header(1, 6, CODE, 64, 1 << 20), header(7, 0, 0, *p[1]), header(2, 0, 0, *p[2], link=0)], 0)
-
-
-def functions_of_spaces(path, scale):
-    functions(path, [0] * (5_000 * scale), b" " * (125_000 * scale) + b"f\0")
-
-
-def namespace_of_spaces(path, scale):
-    """The functions have three names by turns."""
-    spaces = 125_000 * scale
-    entries = b"".join(b"\x02" + function(k, spaces + 2 + 2 * (k % 3)) for k in range(5_000 * scale))
-    units(path, unit(b"\x01\x03" + struct.pack("<I", 0) + entries + b"\0\0"), ROOT + NAMED + NAMED_SPACE + b"\0", texts=b" " * spaces + b"n\0f\0g\0h\0")
-
-
 # The forms of a name by its place and by its number.
 STRP, STRX4 = 0x0e, 0x28
 
@@ -168,14 +141,6 @@ def ends_of_a_text(path, count, form, behind=b""):
     entries = b"".join(b"\x03" + name for name in others) + b"\x02" + struct.pack("<QQ", CODE, 4) + last
     abbrevs = b"\x01\x11\x01\x72\x17\0\0\x02\x2e\0\x11\x01\x12\x07\x03%c\0\0\x03\x2e\0\x03%c\0\0\0" % (form, form)
     units(path, unit(b"\x01" + struct.pack("<I", 8) + entries + b"\0"), abbrevs, texts=b"n" * (8 * count - 8) + b"f\0" + behind, offsets=offsets)
-
-
-def open_texts(path, scale):
-    ends_of_a_text(path, 40_000 * scale, STRP, b"n")
-
-
-def open_texts_by_number(path, scale):
-    ends_of_a_text(path, 40_000 * scale, STRX4, b"n")
 
 
 def functions_with_a_control_byte(path, scale):
@@ -197,14 +162,7 @@ def functions_of_one_address(path, scale):
 CASES = (
     ("10,000 files in a directory of 65,000 bytes", files_of_a_long_directory),
     ("4,000 functions whose lists begin at other places of one list of as many ranges", lists_in_a_list),
-    ("20,000 symbols of one name that begins with 500,000 spaces", symbols_of_spaces),
-    ("20,000 functions of one name that begins with 500,000 spaces", functions_of_spaces),
-    ("20,000 functions in a namespace whose name begins with 500,000 spaces", namespace_of_spaces),
-    ("20,000 files in a directory of 125,000 spaces", files_of_a_directory_of_spaces),
-    ("5,000 units with a line table each that share a compilation directory of 500,000 spaces", directory_of_spaces),
     ("20,000 files whose names begin with 40,000 to 60,000 spaces", files_of_spaces),
-    ("160,000 names that are ends of one text in a section that does not end in a zero byte", open_texts),
-    ("160,000 names by number that are ends of one text in a section that does not end in a zero byte", open_texts_by_number),
     ("8,000 units whose abbreviations begin at other places of one list", abbreviations_in_a_list),
     ("8,000 units with a function whose line tables lie inside one another", lines_in_lines),
     ("20,000 functions whose names are ends of one text of 65,536 bytes with a control byte", functions_with_a_control_byte),

@@ -1,5 +1,6 @@
 #!/usr/bin/env python3
-"""Dumps binaries of many sections, symbols, entries, lines, ranges and frames, made field by field; what each gives is known by how it is made.
+"""Dumps binaries of many sections, symbols, entries, lines, ranges and frames, and of long names, made field by field; what each gives is
+known by how it is made.
 
   scripts/long_files.py PROGRAM      in an empty folder; ends with `long files: N passed, M failed`
 """
@@ -362,6 +363,60 @@ def frames():
             expect(f"entries that meet, workers: {workers}", 0, out, left_out, ("dump", "a.out", "--workers", workers))
 
 
-for part in (sections_and_segments, names_and_code, functions, functions_of_one_name, abbreviations, entries, lines, ranges, units, shared, frames):
+def texts():
+    """A name is shown without its leading spaces and cut after 65,536 bytes, however many more it has; one without a zero byte is missing."""
+    many, long = b" " * 70_000, b"a" * 140_000
+    # A function whose name is in .debug_str, and two namespaces, of which the second has its name there.
+    table = ABBREVS[:-1] + b"\x06\x2e\0\x03\x0e\x11\x01\x12\x06\0\0\x07\x39\x01\x03\x08\0\0\x08\x39\x01\x03\x0e\0\0\0"
+    rows = set_address(0x1000) + b"\x03\x02\x01\x02\x04\0\x01\x01"
+
+    def made(entries, strings=b"", line=b"", more=(NULL, NULL), root=ROOT, line_strings=b""):
+        write([NULL, ID, code(0x100), *more, debug("info", unit(root + entries + b"\0")), debug("abbrev", table), debug("line", line or lines_of(b"")),
+               debug("str", strings), debug("line_str", line_strings)])
+
+    def named(place, first):
+        return struct.pack("<BIQI", 6, place, first, 4)
+
+    # Names that begin with the first space, with others, and behind the last one.
+    places, starts = (0, 1, 4463, 4464, 4465, 65_536, 69_999, 70_000), (1, 2, 35_001, 70_000, 70_001)
+    functions = b"".join(named(place, 0x1000 + 8 * k) for k, place in enumerate(places))
+    entries = b"".join(symbol(start, 0x1080 + 8 * k) for k, start in enumerate(starts))
+    made(function(many + b"f", 0x1040, 4) + functions, many + b"f\0", more=symbols(entries, b"\0" + many + b"f\0"))
+    expect("names of 70,000 spaces and a letter", 0, FRONT + "".join(f"FUNC {0x1000 + 8 * k:x} 4 0 f\n" for k in range(9))
+           + "".join(f"PUBLIC {0x1080 + 8 * k:x} 0 f\n" for k in range(5)))
+    # Only spaces in front of the whole name are left out.
+    inner = function(b"   g", 0x1000, 4) + function(many + b"h", 0x1010, 4) + named(0, 0x1020) + b"\0"
+    for label, namespace in (("here", b"\x07" + many + b"n\0"), ("in .debug_str", b"\x08" + bytes(4))):
+        made(namespace + inner, many + b"n\0")
+        expect(f"a namespace of 70,000 spaces and a letter, {label}", 0,
+               f"{FRONT}FUNC 1000 4 0 n::   g\nFUNC 1010 4 0 n::{' ' * 65_533}\nFUNC 1020 4 0 n::{' ' * 65_533}\n")
+    made(function(long, 0x1000, 4) + named(0, 0x1010) + named(70_000, 0x1020) + function(many + long, 0x1030, 4), many + long + b"\0",
+         more=symbols(symbol(1, 0x1040) + symbol(70_001, 0x1050), b"\0" + many + long + b"\0"))
+    cut = "a" * 65_536
+    expect("names of 140,000 letters", 0, FRONT + "".join(f"{record} {cut}\n" for record in (
+        "FUNC 1000 4 0", "FUNC 1010 4 0", "FUNC 1020 4 0", "FUNC 1030 4 0", "PUBLIC 1040 0", "PUBLIC 1050 0")))
+
+    fields, directory = b"\x01\x01\x01\xfd\x0c\x0d\0\x01\x01\x01\x01\0\0\0\x01\0\0\x01", many + b"/d"
+    new = fields + b"\x01\x01\x1f\x01" + bytes(4) + b"\x01\x01\x08\x02x\0"
+    for label, root, line, path in (
+        ("of the unit", directory, lines_of(rows), "/d/a.c"),
+        ("of the table", b"", lines_of(rows, b"a.c\0\x01\0\0\0", fields=fields + directory + b"\0\0"), "/d/a.c"),
+        ("of both", b"/s", lines_of(rows, b"a.c\0\x01\0\0\0", fields=fields + directory + b"\0\0"), "/s/" + " " * 65_533),
+        ("of version 5", b"", lines_of(rows, b"a.c\0", b"\x05\0\x08\0", new), "/d/a.c"),
+        ("of letters", b"/" + long, lines_of(rows), "/" + "a" * 65_535),
+    ):
+        made(function(b"f", 0x1000, 4), line=line, root=b"\x01" + bytes(4) + root + b"\0", line_strings=directory + b"\0end")
+        expect(f"a long directory {label}", 0, f"{FRONT}FILE 0 {path}\nFUNC 1000 4 0 f\n1000 4 3 0\n")
+
+    # The last zero byte of .debug_str ends the last of its texts.
+    for label, end in (("letters", b"end"), ("spaces", many)):
+        strings = b"f\0g\0" + end
+        functions = named(0, 0x1000) + named(2, 0x1010) + named(4, 0x1020) + named(5, 0x1030) + named(len(strings), 0x1040)
+        made(functions + b"\x08" + struct.pack("<I", 4) + function(b"h", 0x1050, 4) + b"\0", strings)
+        expect(f"{label} behind the last zero byte", 0, f"{FRONT}FUNC 1000 4 0 f\nFUNC 1010 4 0 g\nFUNC 1020 4 0 <name omitted>\n"
+               "FUNC 1030 4 0 <name omitted>\nFUNC 1040 4 0 <name omitted>\nFUNC 1050 4 0 (anonymous)::h\n")
+
+
+for part in (sections_and_segments, names_and_code, functions, functions_of_one_name, abbreviations, entries, lines, ranges, units, shared, texts, frames):
     part()
 print(f"long files: {passed} passed, {failed} failed")
