@@ -7,7 +7,7 @@ use Rattle.std.proofs.Math.Nat.{mul-le-mul_left}
 use Rattle.rust_names.specs.declared.grammar.Phrase.{Phrase}
 use Rattle.rust_names.specs.declared.grammar.Inner.{Inner}
 use Rattle.rust_names.specs.declared.grammar.Part.{Part}
-use Rattle.rust_names.specs.declared.grammar.Part.TheVariants.{Deep, Back, Goto, Opened}
+use Rattle.rust_names.specs.declared.grammar.Part.TheVariants.{Deep, Back, Phrase as Made, Inner as Within, Leaf as Read, Goto, Opened}
 use Rattle.rust_names.specs.declared.grammar.Scope.{Scope}
 use Rattle.rust_names.specs.declared.grammar.Frame.{Frame}
 use Rattle.rust_names.specs.declared.grammar.Nest.{Nest}

@@ -7,7 +7,7 @@ use Rattle.std.proofs.lemmas.Bool.{cases_eq}
 use Rattle.std.proofs.lemmas.List.{append-nil, map-append, reverse-append, reverse-reverse}
 use Rattle.std.proofs.lemmas.Grind.{common_steps}
 use Rattle.rust_names.specs.declared.grammar.Part.{Part}
-use Rattle.rust_names.specs.declared.grammar.Part.TheVariants.{Deep, Back, Goto, Opened}
+use Rattle.rust_names.specs.declared.grammar.Part.TheVariants.{Deep, Back, Phrase as Made, Inner as Within, Leaf as Leafed, Goto, Opened}
 use Rattle.rust_names.specs.declared.grammar.Scope.{Scope}
 use Rattle.rust_names.specs.declared.grammar.Frame.{Frame}
 use Rattle.rust_names.specs.declared.passing.Begun.{Begun}
