@@ -28,5 +28,5 @@ abbrev pub bare_unit : List DieFields → List (List Range) → UnitRead
 bare_unit dies sets = record {
   die = record { root = record { at = 0; low = None; stmt_list = None; comp_dir = None; str_offsets_base = None; addr_base = None; rnglists_base = None }; dies = dies };
   spans = sets;
-  lines = record { lines = record { stops = []; values = [] }; paths = []; first = 0; files = [] };
+  lines = record { lines = record { stops = []; values = [] }; first = 0; paths = [] };
 }

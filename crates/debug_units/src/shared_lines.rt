@@ -9,11 +9,11 @@ use sym_edges::OutOfMemory;
 
 /// A line table that many units share and many threads read. It is in memory once.
 #[derive(Drop)]
-pub struct SharedLines {
-    lines: Arc<LineTable, Global>,
+pub struct SharedLines<'a> {
+    lines: Arc<LineTable<'a>, Global>,
 }
 
-impl Model for SharedLines {
+impl<'a> Model for SharedLines<'a> {
     ghost use Rattle.std.specs.Arc.{arc_value};
     ghost use Rattle.line_program.specs.LineMaps.{LineMap};
 
@@ -22,16 +22,16 @@ impl Model for SharedLines {
     ghost view = { λ s. arc_value s.lines };
 }
 
-impl SharedLines {
-    pub fn of(alloc: Global, table: LineTable) -> Result<SharedLines, OutOfMemory>
-        ensures { IfOk result (λ shared. shared ≡ table) }
+impl<'a> SharedLines<'a> {
+    pub fn of(alloc: Global, table: LineTable<'a>) -> Result<SharedLines<'a>, OutOfMemory>
+        ensures { IfOk result (λ shared. shared ≡ table.entry) }
     {
         let lines = Arc::new(alloc, table)?;
         Ok(SharedLines { lines })
     }
 
     /// The same table, for one more unit.
-    pub fn again(&self) -> Result<SharedLines, OutOfMemory>
+    pub fn again(&self) -> Result<SharedLines<'a>, OutOfMemory>
         ensures { IfOk result (λ shared. shared ≡ self.now) }
     {
         let lines = Arc::try_clone(&self.lines)?;
@@ -39,7 +39,7 @@ impl SharedLines {
     }
 
     #[inline]
-    pub fn table(&self) -> &LineTable
+    pub fn table(&self) -> &LineTable<'a>
         ensures { result.now ≡ self.now }
     {
         &self.lines

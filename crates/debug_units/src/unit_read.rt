@@ -23,7 +23,7 @@ pub struct EntryRef {
 pub struct UnitRead<'a> {
     pub die: DieTable<'a>,
     pub spans: SpanSets,
-    pub lines: SharedLines,
+    pub lines: SharedLines<'a>,
 }
 
 impl<'a> UnitRead<'a> {

@@ -8,7 +8,6 @@ pub mod ListLemmas
 pub mod EntryLemmas
 pub mod NeededLemmas
 pub mod PathLemmas
-pub mod NumberingLemmas
 pub mod SortLemmas
 pub mod PaintLemmas
 pub mod CountLemmas

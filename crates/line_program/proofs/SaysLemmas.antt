@@ -1,9 +1,9 @@
 -- A table that gives lines with path numbers is a model of a line table with paths.
-use Rattle.std.proofs.Common.{◌≡◌, ◌≢◌, ◌<◌, ◌^◌, ℕ, zero, suc, ◌-◌, ◌==◌, ◌&&◌, nat_lt, nat_le, Bool, true, false, cond, List, [], ◌∷◌, length, get_or, Option, Some, None, Result, Ok, refl, sym, ◌∙◌, ap, subst, arith}
+use Rattle.std.proofs.Common.{◌≡◌, ◌≢◌, ◌<◌, ◌≤◌, ◌^◌, ℕ, ◌-◌, ◌==◌, ◌&&◌, nat_lt, nat_le, Bool, true, false, cond, List, [], ◌∷◌, length, Option, Some, None, Result, Ok, refl, sym, ◌∙◌, ap, subst, arith}
 use Rattle.std.specs.List.{slice_get}
 use Rattle.std.specs.Option.{option_map, option_and_then}
-use Rattle.std.proofs.lemmas.List.{length-map}
-use Rattle.std.proofs.lemmas.Option.{slice_get_within}
+use Rattle.std.proofs.lemmas.Bool.Decides.{nat_tests}
+use Rattle.std.proofs.lemmas.Option.{slice_get_past}
 use Rattle.sym_edges.specs.Addresses.{Range}
 use Rattle.range_set.specs.Enclosing.{encloses}
 use Rattle.step_maps.specs.Stepping.{Stepping, held_from, value_at}
@@ -12,30 +12,21 @@ use Rattle.line_program.specs.declared.row.Row.{Row}
 use Rattle.line_program.specs.Faults.{Fault}
 use Rattle.line_program.specs.LineRows.{Sequence}
 use Rattle.line_program.specs.LineAt.{Lines, least_address, covers_from, covers, row_at, row_in, path_of, line_of, line_at}
-use Rattle.line_program.specs.LineMaps.{LineMap, no_line, shown, named_line, distinct_paths, AreDistinct, SaysLines, EncloseAlike}
+use Rattle.line_program.specs.LineMaps.{LineMap, no_line, shown, named_line, file_number, AreNamed, SaysLines, EncloseAlike}
 use Rattle.line_program.specs.LineTables.{Says}
-use Rattle.line_program.specs.internal.Numbered.{number_of, numbered_line_by, numbered_line_of, numbered_at}
-use Rattle.line_program.specs.internal.Numbering.{picked, AreNumbered, AllBelow, IsLineMap}
+use Rattle.line_program.specs.internal.Numbered.{numbered_line_by, numbered_line_of, numbered_at}
 
-numbered_get : (paths : List (List ℕ)) (numbers : List ℕ) (files : List (List ℕ)) (k : ℕ) → AreNumbered paths numbers files → option_and_then (slice_get paths) (slice_get numbers k) ≡ slice_get files k
-numbered_get paths [] [] k are = refl
-numbered_get paths [] (f ∷ files) k are = absurd are
-numbered_get paths (n ∷ numbers) [] k are = absurd are
-numbered_get paths (n ∷ numbers) (f ∷ files) zero are = are.0
-numbered_get paths (n ∷ numbers) (f ∷ files) (suc k) are = numbered_get paths numbers files k are.1
+-- The path with a file's number is the path of that file.
+got_by : (t : Bool) (paths : List (List ℕ)) (k : ℕ) → nat_lt k (length paths) ≡ t → option_and_then (slice_get paths) (cond t (Some k) None) ≡ slice_get paths k
+got_by true paths k is = refl
+got_by false paths k is = sym (slice_get_past paths k (let past : length paths ≤ k = grind (arith, nat_tests) in past))
 
-number_below : (paths : List (List ℕ)) (numbers : List ℕ) (files : List (List ℕ)) (k n : ℕ) → AreNumbered paths numbers files → slice_get numbers k ≡ Some n → n < length paths
-number_below paths [] [] k n are is = cc
-number_below paths [] (f ∷ files) k n are is = absurd are
-number_below paths (m ∷ numbers) [] k n are is = absurd are
-number_below paths (m ∷ numbers) (f ∷ files) zero n are is = (let same : m ≡ n = cc in subst (λ j. j < length paths) same (slice_get_within paths m f are.0))
-number_below paths (m ∷ numbers) (f ∷ files) (suc k) n are is = number_below paths numbers files k n are.1 is
+filed_by : (t : Bool) (paths : List (List ℕ)) (k : ℕ) → option_and_then (slice_get paths) (cond t None (cond (nat_lt k (length paths)) (Some k) None)) ≡ cond t None (slice_get paths k)
+filed_by true paths k = refl
+filed_by false paths k = got_by (nat_lt k (length paths)) paths k refl
 
-all_below : (paths : List (List ℕ)) (numbers : List ℕ) (files : List (List ℕ)) → AreNumbered paths numbers files → AllBelow (length paths) numbers
-all_below paths [] files are k inside = absurd (omega arith)
-all_below paths (n ∷ numbers) [] are k inside = absurd are
-all_below paths (n ∷ numbers) (f ∷ files) are zero inside = slice_get_within paths n f are.0
-all_below paths (n ∷ numbers) (f ∷ files) are (suc k) inside = all_below paths numbers files are.1 k (omega arith)
+filed : (first : ℕ) (paths : List (List ℕ)) (file : ℕ) → option_and_then (slice_get paths) (file_number first (length paths) file) ≡ path_of first paths file
+filed first paths file = filed_by (nat_lt file first) paths (file - first)
 
 line_by_number : (t : Bool) (paths : List (List ℕ)) (n line : ℕ) → (line == 0) ≡ t → named_line paths (shown (cond t no_line (record { path = n; line = line }))) ≡ cond t None (option_map (λ path. (path, line)) (slice_get paths n))
 line_by_number true paths n line is = refl
@@ -49,22 +40,21 @@ line_by : (paths : List (List ℕ)) (number : Option ℕ) (path : Option (List �
 line_by paths None path line is = none_by (line == 0) ∙ ap (λ o. cond (line == 0) None (option_map (λ p. (p, line)) o)) is
 line_by paths (Some n) path line is = line_by_number (line == 0) paths n line refl ∙ ap (λ o. cond (line == 0) None (option_map (λ p. (p, line)) o)) is
 
-number_by : (t : Bool) (paths : List (List ℕ)) (numbers : List ℕ) (files : List (List ℕ)) (k : ℕ) → AreNumbered paths numbers files → option_and_then (slice_get paths) (cond t None (slice_get numbers k)) ≡ cond t None (slice_get files k)
-number_by true paths numbers files k are = refl
-number_by false paths numbers files k are = numbered_get paths numbers files k are
+row_says : (first : ℕ) (paths : List (List ℕ)) (row : Option Row) → named_line paths (shown (numbered_line_of first (length paths) row)) ≡ line_of first paths row
+row_says first paths None = refl
+row_says first paths (Some r) = line_by paths (file_number first (length paths) r.file) (path_of first paths r.file) r.line (filed first paths r.file)
 
-row_says : (paths : List (List ℕ)) (first : ℕ) (numbers : List ℕ) (files : List (List ℕ)) (row : Option Row) → AreNumbered paths numbers files → named_line paths (shown (numbered_line_of first numbers row)) ≡ line_of first files row
-row_says paths first numbers files None are = refl
-row_says paths first numbers files (Some r) are = line_by paths (number_of first numbers r.file) (path_of first files r.file) r.line (number_by (nat_lt r.file first) paths numbers files (r.file - first) are)
+-- The lines of a table say what those of all sequences say.
+abbrev Painted : (ℕ → ℕ → Bool) → List Sequence → ℕ → ℕ → Stepping PathLine → Type 0
+Painted code sequences first count lines = (a : ℕ) → a < 2 ^ 64 → value_at no_line lines a ≡ numbered_at code sequences first count a
 
-pub says_lines : (code : ℕ → ℕ → Bool) (sequences : List Sequence) (first : ℕ) (texts : List (List ℕ)) (firsts numbers : List ℕ) (lines : Stepping PathLine)
-    → picked texts firsts ≡ distinct_paths texts → AreNumbered (picked texts firsts) numbers texts → ((a : ℕ) → a < 2 ^ 64 → value_at no_line lines a ≡ numbered_at code sequences first numbers a)
-    → SaysLines code (record { sequences = sequences; first = first; files = texts }) (record { lines = lines; paths = picked texts firsts; first = first; files = numbers })
+says_lines : (code : ℕ → ℕ → Bool) (sequences : List Sequence) (first : ℕ) (paths : List (List ℕ)) (lines : Stepping PathLine) → Painted code sequences first (length paths) lines
+    → SaysLines code (record { sequences = sequences; first = first; files = paths }) (record { lines = lines; first = first; paths = paths })
 unfolding line_at numbered_at
-says_lines code sequences first texts firsts numbers lines paths are by_lines = record {
-  line = λ a low. ap (λ v. named_line (picked texts firsts) (shown v)) (by_lines a low) ∙ row_says (picked texts firsts) first numbers texts (row_in code sequences a) are;
-  file = λ file. number_by (nat_lt file first) (picked texts firsts) numbers texts (file - first) are;
-  paths = paths;
+says_lines code sequences first paths lines painted = record {
+  line = λ a low. ap (λ v. named_line paths (shown v)) (painted a low) ∙ row_says first paths (row_in code sequences a);
+  file = filed first paths;
+  paths = refl;
 }
 
 -- If there is a line, its path number is below a bound.
@@ -81,37 +71,27 @@ unfolding IsNamed
 named_number bound line None below some = absurd (some refl)
 named_number bound line (Some n) below some = named_by (line == 0) bound n line (below n refl) some
 
-below_by : (t : Bool) (paths : List (List ℕ)) (numbers : List ℕ) (files : List (List ℕ)) (k n : ℕ) → AreNumbered paths numbers files → cond t None (slice_get numbers k) ≡ Some n → n < length paths
-below_by true paths numbers files k n are is = cc
-below_by false paths numbers files k n are is = number_below paths numbers files k n are is
+below_by : (t u : Bool) (k count n : ℕ) → nat_lt k count ≡ u → cond t None (cond u (Some k) None) ≡ Some n → n < count
+below_by true u k count n less is = cc
+below_by false false k count n less is = cc
+below_by false true k count n less is = (let same : k ≡ n = cc in subst (λ j. j < count) same (let inside : k < count = grind (arith, nat_tests) in inside))
 
-named_row : (paths : List (List ℕ)) (first : ℕ) (numbers : List ℕ) (files : List (List ℕ)) (row : Option Row) → AreNumbered paths numbers files → IsNamed (length paths) (numbered_line_of first numbers row)
+named_row : (first count : ℕ) (row : Option Row) → IsNamed count (numbered_line_of first count row)
 unfolding IsNamed
-named_row paths first numbers files None are some = absurd (some refl)
-named_row paths first numbers files (Some r) are some = named_number (length paths) r.line (number_of first numbers r.file) (λ n is. below_by (nat_lt r.file first) paths numbers files (r.file - first) n are is) some
+named_row first count None some = absurd (some refl)
+named_row first count (Some r) some = named_number count r.line (file_number first count r.file) (λ n is. below_by (nat_lt r.file first) (nat_lt (r.file - first) count) (r.file - first) count n refl is) some
 
-pub is_line_map : (code : ℕ → ℕ → Bool) (sequences : List Sequence) (first : ℕ) (texts : List (List ℕ)) (firsts numbers : List ℕ) (lines : Stepping PathLine)
-    → AllBelow (length texts) firsts → AreDistinct (picked texts firsts) → AreNumbered (picked texts firsts) numbers texts → ((a : ℕ) → a < 2 ^ 64 → value_at no_line lines a ≡ numbered_at code sequences first numbers a)
-    → IsLineMap lines texts firsts numbers
+named_lines : (code : ℕ → ℕ → Bool) (sequences : List Sequence) (first : ℕ) (paths : List (List ℕ)) (lines : Stepping PathLine) → Painted code sequences first (length paths) lines → AreNamed lines paths
 unfolding numbered_at IsNamed
-is_line_map code sequences first texts firsts numbers lines there apart are by_lines =
-    let count : length (picked texts firsts) ≡ length firsts = length-map firsts (λ k. get_or texts k []) in
-    record {
-      texts_there = there;
-      files_named = subst (λ b. AllBelow b numbers) count (all_below (picked texts firsts) numbers texts are);
-      lines_named = λ a low. subst (λ b. IsNamed b (value_at no_line lines a)) count (subst (IsNamed (length (picked texts firsts))) (sym (by_lines a low)) (named_row (picked texts firsts) first numbers texts (row_in code sequences a) are));
-      apart = apart;
-    }
+named_lines code sequences first paths lines painted a low = subst (IsNamed (length paths)) (sym (painted a low)) (named_row first (length paths) (row_in code sequences a))
 
 -- A table without lines and files is consistent.
-pub no_line_map : (lines : Stepping PathLine) (texts : List (List ℕ)) (firsts files : List ℕ) → lines ≡ record { stops = []; values = [] } → firsts ≡ [] → files ≡ [] → IsLineMap lines texts firsts files
+pub no_line_map : (lines : Stepping PathLine) (paths : List (List ℕ)) → lines ≡ record { stops = []; values = [] } → paths ≡ [] → AreNamed lines paths × (length paths < 2 ^ 32)
 unfolding held_from
-no_line_map lines texts firsts files no_lines no_firsts no_files = record {
-  texts_there = subst (AllBelow (length texts)) (sym no_firsts) (λ k inside. absurd (omega arith));
-  files_named = subst (AllBelow (length firsts)) (sym no_files) (λ k inside. absurd (omega arith));
-  lines_named = subst (λ (l : Stepping PathLine). (a : ℕ) → a < 2 ^ 64 → (value_at no_line l a).line ≢ 0 → (value_at no_line l a).path < length firsts) (sym no_lines) (λ a low some. absurd (some refl));
-  apart = subst (λ l. AreDistinct (picked texts l)) (sym no_firsts) (λ j k path first second. cc);
-}
+no_line_map lines paths no_lines no_paths = (
+  subst (λ (l : Stepping PathLine). AreNamed l paths) (sym no_lines) (λ a low some. absurd (some refl)),
+  omega (arith, ap (λ (l : List (List ℕ)). length l) no_paths),
+)
 
 -- Only what the ranges of code enclose matters.
 covers_alike : (code other : ℕ → ℕ → Bool) (s : Sequence) (start : Option ℕ) (a : ℕ) → ((x y : ℕ) → code x y ≡ other x y) → covers_from code s.end start a ≡ covers_from other s.end start a
@@ -137,18 +117,13 @@ says_alike code other lines table alike says = record {
 pub says_read : (code : List Range) (read : Result Lines Fault) (lines : Lines) (table : LineMap) → read ≡ Ok lines → SaysLines (encloses code) lines table → (spans : List Range) → EncloseAlike code spans → Says (encloses spans) read table
 says_read code read lines table is says spans alike = subst (λ r. Says (encloses spans) r table) (sym is) (says_alike (encloses code) (encloses spans) lines table alike says)
 
--- The same, if lists of the table were seen as slices.
-pub of_says : (code : ℕ → ℕ → Bool) (sequences : List Sequence) (first : ℕ) (texts : List (List ℕ)) (firsts numbers numbers_slice : List ℕ) (lines : Stepping PathLine) (read : Lines)
-    → record { sequences = sequences; first = first; files = texts } ≡ read → numbers_slice ≡ numbers → picked texts firsts ≡ distinct_paths texts → AreNumbered (picked texts firsts) numbers texts → ((a : ℕ) → a < 2 ^ 64 → value_at no_line lines a ≡ numbered_at code sequences first numbers_slice a)
-    → SaysLines code read (record { lines = lines; paths = picked texts firsts; first = first; files = numbers })
-of_says code sequences first texts firsts numbers numbers_slice lines read is_read is_numbers paths are by_lines =
-    subst (λ (l : Lines). SaysLines code l (record { lines = lines; paths = picked texts firsts; first = first; files = numbers })) is_read
-    (says_lines code sequences first texts firsts numbers lines paths are
-    (subst (λ l. (a : ℕ) → a < 2 ^ 64 → value_at no_line lines a ≡ numbered_at code sequences first l a) is_numbers by_lines))
+pub of_says : (code : ℕ → ℕ → Bool) (sequences : List Sequence) (first : ℕ) (paths : List (List ℕ)) (count : ℕ) (lines : Stepping PathLine) (read : Lines)
+    → record { sequences = sequences; first = first; files = paths } ≡ read → count ≡ length paths → Painted code sequences first count lines → SaysLines code read (record { lines = lines; first = first; paths = paths })
+of_says code sequences first paths count lines read is_read is_count painted =
+    subst (λ (l : Lines). SaysLines code l (record { lines = lines; first = first; paths = paths })) is_read
+    (says_lines code sequences first paths lines (subst (λ n. Painted code sequences first n lines) is_count painted))
 
-pub of_map : (code : ℕ → ℕ → Bool) (sequences : List Sequence) (first : ℕ) (texts : List (List ℕ)) (firsts numbers numbers_slice : List ℕ) (lines : Stepping PathLine)
-    → numbers_slice ≡ numbers → AllBelow (length texts) firsts → AreDistinct (picked texts firsts) → AreNumbered (picked texts firsts) numbers texts → ((a : ℕ) → a < 2 ^ 64 → value_at no_line lines a ≡ numbered_at code sequences first numbers_slice a)
-    → IsLineMap lines texts firsts numbers
-of_map code sequences first texts firsts numbers numbers_slice lines is_numbers there apart are by_lines =
-    is_line_map code sequences first texts firsts numbers lines there apart are
-    (subst (λ l. (a : ℕ) → a < 2 ^ 64 → value_at no_line lines a ≡ numbered_at code sequences first l a) is_numbers by_lines)
+pub of_map : (code : ℕ → ℕ → Bool) (sequences : List Sequence) (first : ℕ) (paths : List (List ℕ)) (count : ℕ) (lines : Stepping PathLine)
+    → count ≡ length paths → count < 2 ^ 32 → Painted code sequences first count lines → AreNamed lines paths × (length paths < 2 ^ 32)
+of_map code sequences first paths count lines is_count few painted =
+    (named_lines code sequences first paths lines (subst (λ n. Painted code sequences first n lines) is_count painted), subst (λ n. n < 2 ^ 32) is_count few)

@@ -8,9 +8,7 @@ use Rattle.step_maps.specs.Stepping.{Stepping, value_at, last_from, IsStepping}
 use Rattle.step_maps.proofs.PieceLemmas.{start_low}
 use Rattle.step_maps.proofs.SteppingLemmas.{held_at_index}
 use Rattle.line_program.specs.declared.path_line.PathLine.{PathLine}
-use Rattle.std.proofs.lemmas.List.{length-map}
-use Rattle.line_program.specs.LineMaps.{LineMap, no_line, shown, numbered_line}
-use Rattle.line_program.specs.internal.Numbering.{picked, IsLineMap}
+use Rattle.line_program.specs.LineMaps.{LineMap, no_line, shown, numbered_line, AreNamed}
 
 up_to_last : (from low : ℕ) (stops : List ℕ) (i : ℕ) → RisesFrom from stops → i < length stops → get_or stops i 0 ≤ last_from low stops
 up_to_last from low [] i up inside = absurd (omega arith)
@@ -36,21 +34,22 @@ pub stop_named : (v : PathLine) (bound : ℕ) → (v.line ≢ 0 → v.path < bou
 stop_named v bound below = named_by (v.line == 0) v bound refl below
 
 -- The value stored with a stop of a table.
-pub value_there : (lines : Stepping PathLine) (texts : List (List ℕ)) (firsts : List ℕ) (first : ℕ) (files : List ℕ) (table : LineMap) (values : List PathLine) (i : ℕ) → (let view : LineMap = record { lines = lines; paths = picked texts firsts; first = first; files = files } in view) ≡ table → IsStepping lines.stops lines.values → values ≡ lines.values → i < length table.lines.stops → i < length values
-value_there lines texts firsts first files table values i view stepping is inside =
+abbrev view_of : Stepping PathLine → ℕ → List (List ℕ) → LineMap
+view_of lines first paths = record { lines = lines; first = first; paths = paths }
+
+pub value_there : (lines : Stepping PathLine) (first : ℕ) (paths : List (List ℕ)) (table : LineMap) (values : List PathLine) (i : ℕ) → view_of lines first paths ≡ table → IsStepping lines.stops lines.values → values ≡ lines.values → i < length table.lines.stops → i < length values
+value_there lines first paths table values i view stepping is inside =
     values_there lines values i stepping is (subst (λ (t : LineMap). i < length t.lines.stops) (sym view) inside)
 
-pub line_there : (lines : Stepping PathLine) (texts : List (List ℕ)) (firsts : List ℕ) (first : ℕ) (files : List ℕ) (table : LineMap) (values : List PathLine) (i : ℕ) (d : PathLine) → (let view : LineMap = record { lines = lines; paths = picked texts firsts; first = first; files = files } in view) ≡ table → IsStepping lines.stops lines.values → values ≡ lines.values → i < length table.lines.stops → shown (get_or values i d) ≡ numbered_line table (get_or table.lines.stops i 0)
-line_there lines texts firsts first files table values i d view stepping is inside =
+pub line_there : (lines : Stepping PathLine) (first : ℕ) (paths : List (List ℕ)) (table : LineMap) (values : List PathLine) (i : ℕ) (d : PathLine) → view_of lines first paths ≡ table → IsStepping lines.stops lines.values → values ≡ lines.values → i < length table.lines.stops → shown (get_or values i d) ≡ numbered_line table (get_or table.lines.stops i 0)
+line_there lines first paths table values i d view stepping is inside =
     ap shown (stop_line lines values i d stepping is (subst (λ (t : LineMap). i < length t.lines.stops) (sym view) inside))
     ∙ ap (λ (t : LineMap). numbered_line t (get_or t.lines.stops i 0)) view
 
-pub named_there : (lines : Stepping PathLine) (texts : List (List ℕ)) (firsts : List ℕ) (first : ℕ) (files : List ℕ) (table : LineMap) (values : List PathLine) (i : ℕ) (d : PathLine) → (let view : LineMap = record { lines = lines; paths = picked texts firsts; first = first; files = files } in view) ≡ table → IsLineMap lines texts firsts files → IsStepping lines.stops lines.values → values ≡ lines.values → i < length table.lines.stops → IfSome (shown (get_or values i d)) (λ line. line.0 < length table.paths)
-named_there lines texts firsts first files table values i d view map stepping is inside =
+pub named_there : (lines : Stepping PathLine) (first : ℕ) (paths : List (List ℕ)) (table : LineMap) (values : List PathLine) (i : ℕ) (d : PathLine) → view_of lines first paths ≡ table → AreNamed lines paths → IsStepping lines.stops lines.values → values ≡ lines.values → i < length table.lines.stops → IfSome (shown (get_or values i d)) (λ line. line.0 < length table.paths)
+named_there lines first paths table values i d view named stepping is inside =
     let here : i < length lines.stops = subst (λ (t : LineMap). i < length t.lines.stops) (sym view) inside in
     let at : get_or values i d ≡ value_at no_line lines (get_or lines.stops i 0) = stop_line lines values i d stepping is here in
-    let many : length (picked texts firsts) ≡ length firsts = length-map firsts (λ k. get_or texts k []) in
     subst (λ (t : LineMap). IfSome (shown (get_or values i d)) (λ line. line.0 < length t.paths)) view
-    (stop_named (get_or values i d) (length (picked texts firsts))
-    (subst (λ (v : PathLine). v.line ≢ 0 → v.path < length (picked texts firsts)) (sym at)
-    (λ some. (let less : (value_at no_line lines (get_or lines.stops i 0)).path < length firsts = map.lines_named (get_or lines.stops i 0) (stop_fits lines i stepping here) some in omega arith))))
+    (stop_named (get_or values i d) (length paths)
+    (subst (λ (v : PathLine). v.line ≢ 0 → v.path < length paths) (sym at) (named (get_or lines.stops i 0) (stop_fits lines i stepping here))))

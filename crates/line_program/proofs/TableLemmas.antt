@@ -68,16 +68,16 @@ items_count kept a =
     ap (λ o. row_by o a) (covering_index kept (first_item (stretches_from 0 kept) a) ∙ ap (by_index kept) (item_index (first_at (stretches_from 0 kept) a) (is_shared (stretches_from 0 kept) a)))
     ∙ items_from [] kept 0 a refl
 
-pub several_lines : (kept : List Counted) (stretches stretches_slice : List Stretch) (covers : Stepping (Option FirstItem)) (stops : List ℕ) (items : List (Option FirstItem)) (lines : Stepping PathLine) (first : ℕ) (numbers : List ℕ)
+pub several_lines : (kept : List Counted) (stretches stretches_slice : List Stretch) (covers : Stepping (Option FirstItem)) (stops : List ℕ) (items : List (Option FirstItem)) (lines : Stepping PathLine) (first count : ℕ)
     → stretches ≡ stretches_from 0 kept → stretches_slice ≡ stretches
     → ((a : ℕ) → a < 2 ^ 64 → value_at None covers a ≡ first_item stretches_slice a) → stops ≡ covers.stops → items ≡ covers.values
-    → ((a : ℕ) → value_at no_line lines a ≡ numbered_line_of first numbers (row_by (covering kept (held_from None stops items a)) a))
-    → (a : ℕ) → a < 2 ^ 64 → value_at no_line lines a ≡ numbered_line_of first numbers (counted_row kept a)
-several_lines kept stretches stretches_slice covers stops items lines first numbers is_stretches is_slice by_covers is_stops is_items by_lines a low =
+    → ((a : ℕ) → value_at no_line lines a ≡ numbered_line_of first count (row_by (covering kept (held_from None stops items a)) a))
+    → (a : ℕ) → a < 2 ^ 64 → value_at no_line lines a ≡ numbered_line_of first count (counted_row kept a)
+several_lines kept stretches stretches_slice covers stops items lines first count is_stretches is_slice by_covers is_stops is_items by_lines a low =
     by_lines a
-    ∙ ap (λ n. numbered_line_of first numbers (row_by (covering kept n) a))
+    ∙ ap (λ n. numbered_line_of first count (row_by (covering kept n) a))
     (ap (λ l. held_from None l items a) is_stops ∙ ap (λ l. held_from None covers.stops l a) is_items ∙ by_covers a low ∙ ap (λ l. first_item l a) (is_slice ∙ is_stretches))
-    ∙ ap (numbered_line_of first numbers) (items_count kept a)
+    ∙ ap (numbered_line_of first count) (items_count kept a)
 
 -- A single sequence covers the addresses from its first to its last.
 one_by : (reached inside past : Bool) (k : Counted) (item : FirstItem) (a : ℕ) → item.index ≡ 0 → past ≡ not inside → row_by (covering (k ∷ []) (cond past None (cond reached (Some item) None))) a ≡ cond (reached && inside) (last_at k.rows a) None
@@ -99,37 +99,37 @@ only [] d one = absurd (omega arith)
 only (k ∷ []) d one = refl
 only (k ∷ l ∷ kept) d one = absurd (omega arith)
 
-abbrev pub one_held : (stops : List ℕ) (items : List (Option FirstItem)) (kept : List Counted) (lines : Stepping PathLine) (first : ℕ) (numbers : List ℕ) → Type 0
-one_held stops items kept lines first numbers = (a : ℕ) → value_at no_line lines a ≡ numbered_line_of first numbers (row_by (covering kept (held_from None stops items a)) a)
+abbrev pub one_held : (stops : List ℕ) (items : List (Option FirstItem)) (kept : List Counted) (lines : Stepping PathLine) (first count : ℕ) → Type 0
+one_held stops items kept lines first count = (a : ℕ) → value_at no_line lines a ≡ numbered_line_of first count (row_by (covering kept (held_from None stops items a)) a)
 
-pub one_ends : (kept : List Counted) (k d : Counted) (item : FirstItem) (lines : Stepping PathLine) (first : ℕ) (numbers : List ℕ) → length kept ≡ 1 → k ≡ get_or kept 0 d → item.index ≡ 0
-    → one_held (k.first ∷ (k.last + 1) ∷ []) (Some item ∷ None ∷ []) kept lines first numbers
-    → (a : ℕ) → a < 2 ^ 64 → value_at no_line lines a ≡ numbered_line_of first numbers (counted_row kept a)
+pub one_ends : (kept : List Counted) (k d : Counted) (item : FirstItem) (lines : Stepping PathLine) (first count : ℕ) → length kept ≡ 1 → k ≡ get_or kept 0 d → item.index ≡ 0
+    → one_held (k.first ∷ (k.last + 1) ∷ []) (Some item ∷ None ∷ []) kept lines first count
+    → (a : ℕ) → a < 2 ^ 64 → value_at no_line lines a ≡ numbered_line_of first count (counted_row kept a)
 unfolding held_from counted_row
-one_ends kept k d item lines first numbers one at index held a low =
+one_ends kept k d item lines first count one at index held a low =
     let all : kept ≡ k ∷ [] = only kept d one ∙ ap (λ x. x ∷ []) (sym at) in
     held a
-    ∙ ap (λ l. numbered_line_of first numbers (row_by (covering l (cond (nat_le (k.last + 1) a) None (cond (nat_le k.first a) (Some item) None))) a)) all
-    ∙ ap (numbered_line_of first numbers) (one_by (nat_le k.first a) (nat_le a k.last) (nat_le (k.last + 1) a) k item a index (past_last k.last a) ∙ ap (λ l. counted_row l a) (sym all))
+    ∙ ap (λ l. numbered_line_of first count (row_by (covering l (cond (nat_le (k.last + 1) a) None (cond (nat_le k.first a) (Some item) None))) a)) all
+    ∙ ap (numbered_line_of first count) (one_by (nat_le k.first a) (nat_le a k.last) (nat_le (k.last + 1) a) k item a index (past_last k.last a) ∙ ap (λ l. counted_row l a) (sym all))
 
-pub one_to_the_end : (kept : List Counted) (k d : Counted) (item : FirstItem) (lines : Stepping PathLine) (first : ℕ) (numbers : List ℕ) → length kept ≡ 1 → k ≡ get_or kept 0 d → item.index ≡ 0 → k.last ≡ 2 ^ 64 - 1
-    → one_held (k.first ∷ []) (Some item ∷ []) kept lines first numbers
-    → (a : ℕ) → a < 2 ^ 64 → value_at no_line lines a ≡ numbered_line_of first numbers (counted_row kept a)
+pub one_to_the_end : (kept : List Counted) (k d : Counted) (item : FirstItem) (lines : Stepping PathLine) (first count : ℕ) → length kept ≡ 1 → k ≡ get_or kept 0 d → item.index ≡ 0 → k.last ≡ 2 ^ 64 - 1
+    → one_held (k.first ∷ []) (Some item ∷ []) kept lines first count
+    → (a : ℕ) → a < 2 ^ 64 → value_at no_line lines a ≡ numbered_line_of first count (counted_row kept a)
 unfolding held_from counted_row
-one_to_the_end kept k d item lines first numbers one at index last held a low =
+one_to_the_end kept k d item lines first count one at index last held a low =
     let all : kept ≡ k ∷ [] = only kept d one ∙ ap (λ x. x ∷ []) (sym at) in
     held a
-    ∙ ap (λ l. numbered_line_of first numbers (row_by (covering l (cond (nat_le k.first a) (Some item) None)) a)) all
-    ∙ ap (numbered_line_of first numbers) (one_by (nat_le k.first a) (nat_le a k.last) false k item a index (sym (ap not (le-leb a k.last (omega arith)))) ∙ ap (λ l. counted_row l a) (sym all))
+    ∙ ap (λ l. numbered_line_of first count (row_by (covering l (cond (nat_le k.first a) (Some item) None)) a)) all
+    ∙ ap (numbered_line_of first count) (one_by (nat_le k.first a) (nat_le a k.last) false k item a index (sym (ap not (le-leb a k.last (omega arith)))) ∙ ap (λ l. counted_row l a) (sym all))
 
 -- The lines of the sequences that count are those of all sequences.
-pub counted_lines : (code : ℕ → ℕ → Bool) (sequences : List Sequence) (kept kept_slice : List Counted) (lines : Stepping PathLine) (first : ℕ) (numbers : List ℕ)
+pub counted_lines : (code : ℕ → ℕ → Bool) (sequences : List Sequence) (kept kept_slice : List Counted) (lines : Stepping PathLine) (first count : ℕ)
     → ((a : ℕ) → counted_row kept a ≡ row_in code sequences a) → kept_slice ≡ kept
-    → ((a : ℕ) → a < 2 ^ 64 → value_at no_line lines a ≡ numbered_line_of first numbers (counted_row kept_slice a))
-    → (a : ℕ) → a < 2 ^ 64 → value_at no_line lines a ≡ numbered_at code sequences first numbers a
+    → ((a : ℕ) → a < 2 ^ 64 → value_at no_line lines a ≡ numbered_line_of first count (counted_row kept_slice a))
+    → (a : ℕ) → a < 2 ^ 64 → value_at no_line lines a ≡ numbered_at code sequences first count a
 unfolding numbered_at
-counted_lines code sequences kept kept_slice lines first numbers counted is_kept by_lines a low =
-    by_lines a low ∙ ap (numbered_line_of first numbers) (ap (λ l. counted_row l a) is_kept ∙ counted a)
+counted_lines code sequences kept kept_slice lines first count counted is_kept by_lines a low =
+    by_lines a low ∙ ap (numbered_line_of first count) (ap (λ l. counted_row l a) is_kept ∙ counted a)
 
 -- The stretches so far, and those that are still to be added.
 pub stretches_begin : (kept : List Counted) (stretches : List Stretch) → stretches ≡ [] → stretches ++ stretches_from 0 (drop 0 kept) ≡ stretches_from 0 kept

@@ -1,25 +1,23 @@
--- The model of a line table in contracts: the lines as a step map, and the paths with numbers.
-use Rattle.std.specs.Prelude.{◌≡◌, ℕ, ◌-◌, ◌^◌, ◌<◌, ◌≤◌, ◌⊎◌, ◌==◌, nat_lt, Bool, if◌then◌else◌, List, [], ◌∷◌, ◌++◌, Option, Some, None, option_and_then}
-use Rattle.std.specs.List.{slice_get, list_any}
+-- The model of a line table in contracts: the lines as a step map, and the paths of the files.
+use Rattle.std.specs.Prelude.{◌≡◌, ◌≢◌, ℕ, ◌-◌, ◌^◌, ◌<◌, ◌≤◌, ◌⊎◌, ◌==◌, nat_lt, Bool, if◌then◌else◌, List, [], ◌∷◌, length, Option, Some, None, option_and_then, unwrap_or}
+use Rattle.std.specs.List.{slice_get}
 use Rattle.std.specs.Option.{option_map}
-use Rattle.std.specs.Str.{bytes_eq}
 use Rattle.sym_edges.specs.Addresses.{Range}
 use Rattle.range_set.specs.Enclosing.{encloses}
 use Rattle.step_maps.specs.Stepping.{Stepping, value_at}
 use Rattle.line_program.specs.declared.path_line.PathLine.{PathLine}
 use Rattle.line_program.specs.LineAt.{Lines, path_of, line_at}
 
--- the lines of a table by address, each with the number of its path; the paths in the order of
--- their numbers; the number of the first file; and for each file the number of its path
+-- the lines of a table by address, each with the number of its path; the number of the first file;
+-- and the paths of the files in their order. They are numbered from 0, and several may be equal
 pub record LineMap : Type 0 where
   pub lines : Stepping PathLine
-  pub paths : List (List ℕ)
   pub first : ℕ
-  pub files : List ℕ
+  pub paths : List (List ℕ)
 
 -- no line and no file
 abbrev pub no_lines : LineMap
-no_lines = record { lines = record { stops = []; values = [] }; paths = []; first = 0; files = [] }
+no_lines = record { lines = record { stops = []; values = [] }; first = 0; paths = [] }
 
 -- no line
 abbrev pub no_line : PathLine
@@ -32,37 +30,33 @@ shown at = if at.line == 0 then None else Some (at.path, at.line)
 abbrev pub numbered_line : LineMap → ℕ → Option (ℕ × ℕ)
 numbered_line table a = shown (value_at no_line table.lines a)
 
+-- of files that are numbered from `first` on, the number from 0 on, if there is such a file
+abbrev pub file_number : ℕ → ℕ → ℕ → Option ℕ
+file_number first count file = if nat_lt file first then None else if nat_lt (file - first) count then Some (file - first) else None
+
 -- the number of a file's path, if the table has a file with that number
 abbrev pub numbered_file : LineMap → ℕ → Option ℕ
-numbered_file table file = if nat_lt file table.first then None else slice_get table.files (file - table.first)
+numbered_file table file = file_number table.first (length table.paths) file
+
+-- each line has the number of a path
+abbrev pub AreNamed : Stepping PathLine → List (List ℕ) → Type 0
+AreNamed lines paths = (a : ℕ) → a < 2 ^ 64 → (value_at no_line lines a).line ≢ 0 → (value_at no_line lines a).path < length paths
+
+-- the path with a number
+abbrev pub path_numbered : LineMap → ℕ → List ℕ
+path_numbered table number = unwrap_or (slice_get table.paths number) []
 
 -- path and line, given path number and line
 abbrev pub named_line : List (List ℕ) → Option (ℕ × ℕ) → Option (List ℕ × ℕ)
 named_line paths None = None
 named_line paths (Some at) = option_map (λ path. (path, at.1)) (slice_get paths at.0)
 
--- the paths, with another one at the end if it is not among them
-abbrev pub with_path : List (List ℕ) → List ℕ → List (List ℕ)
-with_path paths path = if list_any (λ other. bytes_eq path other) paths then paths else paths ++ path ∷ []
-
--- each path once, in the order in which the files first have them
-unfoldable pub paths_from : List (List ℕ) → List (List ℕ) → List (List ℕ)
-paths_from paths [] = paths
-paths_from paths (file ∷ files) = paths_from (with_path paths file) files
-
-abbrev pub distinct_paths : List (List ℕ) → List (List ℕ)
-distinct_paths files = paths_from [] files
-
--- no two numbers have the same path
-abbrev pub AreDistinct : List (List ℕ) → Type 0
-AreDistinct paths = (j k : ℕ) (path : List ℕ) → slice_get paths j ≡ Some path → slice_get paths k ≡ Some path → j ≡ k
-
--- `table` is the model of `lines`. At each address below 2^64 both give the same path and line,
--- each file has the same path in both, and the table has each path once
+-- `table` is the model of `lines`. At each address below 2^64 both give the same path and line, and
+-- the files and their paths are the same
 pub record SaysLines (code : ℕ → ℕ → Bool) (lines : Lines) (table : LineMap) : Type 0 where
   pub line : (a : ℕ) → a < 2 ^ 64 → named_line table.paths (numbered_line table a) ≡ line_at code lines a
   pub file : (file : ℕ) → option_and_then (slice_get table.paths) (numbered_file table file) ≡ path_of lines.first lines.files file
-  pub paths : table.paths ≡ distinct_paths lines.files
+  pub paths : table.paths ≡ lines.files
 
 -- two lists of ranges enclose the same ranges
 abbrev pub EncloseAlike : List Range → List Range → Type 0

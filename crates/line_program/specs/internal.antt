@@ -3,6 +3,5 @@ pub mod Numbered
 pub mod Painting
 pub mod RowsAbove
 pub mod Directories
-pub mod Numbering
 pub mod KeptRows
 pub mod Needed

@@ -15,13 +15,13 @@ use std::alloc::Global;
 use step_maps::{FirstItem, StepMap};
 use sym_edges::OutOfMemory;
 
-/// What is needed to paint: the sequences that count, the number of the first file, and for each
-/// file the number of its path.
+/// What is needed to paint: the sequences that count, the number of the first file, and the number
+/// of files.
 #[derive(Drop)]
 pub struct RowPainter<'k> {
     pub kept: &'k [CountedSequence],
     pub first: u32,
-    pub numbers: &'k [u32],
+    pub files: u32,
 }
 
 /// A line, and the address at which it begins.
@@ -43,16 +43,16 @@ fn rows_below(rows: &[Row], end: u64) -> &[Row]
 }
 
 /// The line of the last row at or below the address `start`, and the rows above `start`.
-fn rows_above<'a>(rows: &'a [Row], first: u32, numbers: &[u32], start: u64) -> (PathLine, &'a [Row])
+fn rows_above<'a>(rows: &'a [Row], first: u32, files: u32, start: u64) -> (PathLine, &'a [Row])
     requires { SortedFrom 0 rows.now }
-    ensures { Parts first numbers.now rows.now start result.0 result.1.now }
+    ensures { Parts first files rows.now start result.0 result.1.now }
 {
     let count = rows.partition_point(|row| row.address <= start);
     let (_, above) = rows.split_at(count);
     if count == 0 {
         return (NO_LINE, above);
     }
-    (line_of(first, numbers, rows[count - 1]), above)
+    (line_of(first, files, rows[count - 1]), above)
 }
 
 /// Paints a line from an address on, unless the last painted line is the same.
@@ -79,22 +79,22 @@ fn paint_rows(
     painted: &mut StepMap<PathLine>,
     rows: &[Row],
     first: u32,
-    numbers: &[u32],
+    files: u32,
     start: u64,
 ) -> Result<(), OutOfMemory>
     requires sorted { SortedFrom 0 rows.now }
     requires last { last_from 0 painted.old.stops ≤ start }
-    ensures at { OnOk result ((a : ℕ) → value_at no_line painted.new a ≡ (if nat_le start a then numbered_line_of first numbers.now (last_at rows.now a) else value_at no_line painted.old a)) }
+    ensures at { OnOk result ((a : ℕ) → value_at no_line painted.new a ≡ (if nat_le start a then numbered_line_of first files (last_at rows.now a) else value_at no_line painted.old a)) }
     ensures last { OnOk result ((end : ℕ) → start ≤ end → AllUpTo end rows.now → last_from 0 painted.new.stops ≤ end) }
 {
-    let (line, above) = rows_above(rows, first, numbers, start);
+    let (line, above) = rows_above(rows, first, files, start);
     painted.set(start, line)?;
     let mut now = HeldLine { from: start, line };
     let mut rest = above;
     'rows: while let Some((row, after)) = rest.split_first() {
         let next = HeldLine {
             from: row.address,
-            line: line_of(first, numbers, *row),
+            line: line_of(first, files, *row),
         };
         paint_line(painted, now.line, next)?;
         now = next;
@@ -125,7 +125,7 @@ fn paint_piece(
     requires last { last_from 0 painted.old.stops ≤ start }
     requires end { UpToEnd start end }
     ensures before { OnOk result ((a : ℕ) → a < start → value_at no_line painted.new a ≡ value_at no_line painted.old a) }
-    ensures at { OnOk result ((a : ℕ) → start ≤ a → BelowEnd a end → value_at no_line painted.new a ≡ numbered_line_of painter.now.first painter.now.numbers.now (row_by (covering painter.now.kept.now item) a)) }
+    ensures at { OnOk result ((a : ℕ) → start ≤ a → BelowEnd a end → value_at no_line painted.new a ≡ numbered_line_of painter.now.first painter.now.files (row_by (covering painter.now.kept.now item) a)) }
     ensures last { OnOk result (UpToEnd (last_from 0 painted.new.stops) end) }
 {
     match covering(painter.kept, item) {
@@ -137,12 +137,12 @@ fn paint_piece(
             let rows = sequence.rows.as_slice();
             match end {
                 None => {
-                    paint_rows(painted, rows, painter.first, painter.numbers, start)?;
+                    paint_rows(painted, rows, painter.first, painter.files, start)?;
                     Ok(())
                 }
                 Some(end) => {
                     let below = rows_below(rows, end);
-                    paint_rows(painted, below, painter.first, painter.numbers, start)?;
+                    paint_rows(painted, below, painter.first, painter.files, start)?;
                     Ok(())
                 }
             }
@@ -175,7 +175,7 @@ pub fn paint_all(
     items: &[Option<FirstItem>],
 ) -> Result<StepMap<PathLine>, OutOfMemory>
     requires { IsStepping stops.now items.now }
-    ensures { IfOk result (λ painted. (a : ℕ) → value_at no_line painted a ≡ numbered_line_of painter.now.first painter.now.numbers.now (row_by (covering painter.now.kept.now (held_from None stops.now items.now a)) a)) }
+    ensures { IfOk result (λ painted. (a : ℕ) → value_at no_line painted a ≡ numbered_line_of painter.now.first painter.now.files (row_by (covering painter.now.kept.now (held_from None stops.now items.now a)) a)) }
 {
     let mut painted = StepMap::with_room(alloc, line_count(painter.kept))?;
     for place in 0..stops.len() {

@@ -10,7 +10,7 @@ ghost use Rattle.line_program.specs.internal.KeptRows.{or_kept_lines};
 use crate::fault::{LineFault, Reading};
 use crate::header::{Header, read_table};
 use crate::machine::Machine;
-use crate::paths::Directories;
+use crate::paths::Files;
 use crate::program_run::run_program;
 use crate::scratch::LineScratch;
 use crate::table::{LineTable, Lines};
@@ -21,17 +21,16 @@ use range_set::Enclosing;
 use std::alloc::Global;
 use sym_edges::{Located, OutOfMemory, Sect, Stop};
 
-/// The paths of the files: first those in the header's table, and then those that the program
+/// The sequences and the files: first those in the header's table, and then those that the program
 /// defined.
 #[tactic(auto, unfolding(crate::specs::LineTables::lines_of))]
-fn name_files<'a>(
-    alloc: Global,
+fn join_files<'a>(
     scratch: &mut LineScratch,
-    comp_dir: &[u8],
+    comp_dir: &'a [u8],
     version: u16,
     tables: Tables<'a>,
     machine: Machine<'a>,
-) -> Result<Lines, OutOfMemory>
+) -> Result<Lines<'a>, OutOfMemory>
     ensures { IfOk result (λ lines. lines ≡ lines_of comp_dir.now version tables.entry machine.entry) }
 {
     let Tables {
@@ -41,17 +40,10 @@ fn name_files<'a>(
     let (sequences, mut defined, rows) = machine.into_parts();
     scratch.rows = rows;
     files.append(&mut defined)?;
-    let directories = Directories::of(
-        &mut scratch.root,
-        version,
-        comp_dir,
-        directories.as_slice(),
-    )?;
-    let files = directories.paths_of(alloc, &mut scratch.texts, files.as_slice())?;
     Ok(Lines {
         sequences,
         first: if version == 5 { 0 } else { 1 },
-        files,
+        files: Files::of(version, comp_dir, directories, files),
     })
 }
 
@@ -60,10 +52,10 @@ fn name_files<'a>(
 fn read_rows<'a>(
     alloc: Global,
     scratch: &mut LineScratch,
-    comp_dir: &[u8],
+    comp_dir: &'a [u8],
     header: Header<'a>,
     tables: Tables<'a>,
-) -> Reading<Lines>
+) -> Reading<Lines<'a>>
     ensures { IfOk result (λ read. read ≡ or_kept_lines (program_lines comp_dir.now header.entry.program tables.entry header.entry.opcodes)) }
 {
     let Header {
@@ -76,7 +68,7 @@ fn read_rows<'a>(
         Ok(machine) => machine,
         Err(fault) => return Ok(Err(fault)),
     };
-    let lines = name_files(alloc, scratch, comp_dir, program.version, tables, machine)?;
+    let lines = join_files(scratch, comp_dir, program.version, tables, machine)?;
     Ok(Ok(lines))
 }
 
@@ -86,9 +78,9 @@ fn read_ahead<'a>(
     alloc: Global,
     scratch: &mut LineScratch,
     sections: &Sections<'a>,
-    comp_dir: &[u8],
+    comp_dir: &'a [u8],
     cursor: Cursor<'a>,
-) -> Reading<Lines>
+) -> Reading<Lines<'a>>
     ensures { IfOk result (λ read. read ≡ or_kept_lines (lines_at sections.now comp_dir.now cursor.entry)) }
 {
     let start = cursor.at();
@@ -116,15 +108,15 @@ fn read_ahead<'a>(
 /// that a count is greater than the number of bytes left. All other faults are at the place of what
 /// cannot be read: `Ends`, `LebLong`, `NoZero`, `UnknownForm` and `LineOpcode`.
 #[tactic(auto, using(crate::proofs::LinesLemmas::offset_outside, crate::proofs::LinesLemmas::inside_refused))]
-pub fn read_lines(
+pub fn read_lines<'a>(
     alloc: Global,
     scratch: &mut LineScratch,
-    sections: &Sections<'_>,
+    sections: &Sections<'a>,
     offset: u64,
     place: usize,
-    comp_dir: &[u8],
+    comp_dir: &'a [u8],
     code: &Enclosing,
-) -> Result<LineTable, Stop<DwarfFault>>
+) -> Result<LineTable<'a>, Stop<DwarfFault>>
     ensures { MatchStop result
         (λ table. (spans : List Range) → EncloseAlike code.now spans → Says (encloses spans) (unit_lines sections.now offset place comp_dir.now) table)
         (λ fault. unit_lines sections.now offset place comp_dir.now ≡ Err fault)

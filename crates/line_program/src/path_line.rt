@@ -1,6 +1,7 @@
 //! Lines by address.
 ghost use Rattle.std.specs.Prelude.{◌≡◌, Some};
-ghost use Rattle.line_program.specs.internal.Numbered.{number_of, numbered_line_of};
+ghost use Rattle.line_program.specs.LineMaps.{file_number};
+ghost use Rattle.line_program.specs.internal.Numbered.{numbered_line_of};
 
 use crate::row::Row;
 use std::mem::size_of;
@@ -16,26 +17,25 @@ const _: () = prove!(size_of::<PathLine>() == 8);
 
 pub const NO_LINE: PathLine = PathLine { path: 0, line: 0 };
 
-/// The number of a file's path, if the table has a file with that number.
+/// Of `count` files that are numbered from `first` on, the number of a file from 0 on, if there is
+/// such a file.
 #[inline]
-pub fn number_of(first: u32, numbers: &[u32], file: u32) -> Option<u32>
-    ensures { result ≡ number_of first numbers.now file }
+pub fn file_number(first: u32, count: u32, file: u32) -> Option<u32>
+    ensures { result ≡ file_number first count file }
 {
     if file < first {
         return None;
     }
-    match numbers.get((file - first) as usize) {
-        Some(number) => Some(*number),
-        None => None,
-    }
+    let number = file - first;
+    if number < count { Some(number) } else { None }
 }
 
 /// Path number and line of a row; line 0 if the row has none.
 #[inline]
-pub fn line_of(first: u32, numbers: &[u32], row: Row) -> PathLine
-    ensures { result ≡ numbered_line_of first numbers.now (Some row) }
+pub fn line_of(first: u32, files: u32, row: Row) -> PathLine
+    ensures { result ≡ numbered_line_of first files (Some row) }
 {
-    match number_of(first, numbers, row.file) {
+    match file_number(first, files, row.file) {
         Some(path) => {
             if row.line == 0 {
                 NO_LINE

@@ -1,33 +1,49 @@
 //! The paths of a table's files (DWARF 5, 6.2.4).
-ghost use Rattle.std.specs.Prelude.{◌≡◌, ◌==◌, ◌-◌, ◌++◌, ◌∷◌, [], map, length, slice_get, slice_index, IfOk, OnOk};
+ghost use Rattle.std.specs.Prelude.{◌≡◌, ◌==◌, ◌-◌, ◌<◌, ◌++◌, ◌∷◌, [], map, length, slice_get, slice_index, Some, IfOk, OnOk};
 ghost use Rattle.clean_names.specs.Cleaning.{cleaned};
 ghost use Rattle.line_program.specs.Paths.{joined, root_of, directories_of, path_under, file_path, is_rooted, ends_in_slash};
 
 use crate::file_entry::FileEntry;
 use clean_names::{add_cleaned, is_clean};
-use flat_lists::FlatLists;
 use std::alloc::Global;
 use std::marker::Model;
 use sym_edges::OutOfMemory;
 
-/// How many bytes are allocated for the path of each file at first; most paths are no longer.
-const USUAL: usize = 64;
-
-/// Texts whose memory is reused for each file: the path of its directory, the joined path, and the
-/// cleaned path.
+/// Texts whose memory is reused for each path that is made: the first directory, the path of the
+/// file's directory, the joined path, and the cleaned path.
 #[derive(Drop)]
 pub struct PathTexts {
+    root: Vec<u8>,
     directory: Vec<u8>,
     path: Vec<u8>,
     cleaned: Vec<u8>,
 }
 
 impl PathTexts {
+    /// Empty texts. Allocates no memory.
     pub fn new(alloc: Global) -> PathTexts {
         PathTexts {
+            root: Vec::new(alloc),
             directory: Vec::new(alloc),
             path: Vec::new(alloc),
             cleaned: Vec::new(alloc),
+        }
+    }
+}
+
+/// The texts of two paths that are compared.
+#[derive(Drop)]
+pub struct PathPair {
+    pub(crate) one: PathTexts,
+    pub(crate) other: PathTexts,
+}
+
+impl PathPair {
+    /// Empty texts. Allocates no memory.
+    pub fn new(alloc: Global) -> PathPair {
+        PathPair {
+            one: PathTexts::new(alloc),
+            other: PathTexts::new(alloc),
         }
     }
 }
@@ -115,22 +131,16 @@ fn root_of<'t>(
     Ok(text.as_slice())
 }
 
-/// Adds a cleaned path to a list. The path is cleaned in `text`, unless it is clean.
-fn push_cleaned(
-    paths: &mut FlatLists<u8>,
-    text: &mut Vec<u8>,
-    path: &[u8],
-) -> Result<(), OutOfMemory>
-    ensures { OnOk result (paths.new ≡ paths.old ++ cleaned path.now ∷ []) }
+/// The cleaned path. If it is not clean, it is cleaned in `text`.
+fn cleaned_path<'t>(text: &'t mut Vec<u8>, path: &'t [u8]) -> Result<&'t [u8], OutOfMemory>
+    ensures { IfOk result (λ shown. shown.now ≡ cleaned path.now) }
 {
     if is_clean(path) {
-        paths.push(path)?;
-        return Ok(());
+        return Ok(path);
     }
     text.clear();
     add_cleaned(text, path)?;
-    paths.push(text.as_slice())?;
-    Ok(())
+    Ok(text.as_slice())
 }
 
 impl<'t, 'a> Directories<'t, 'a> {
@@ -199,24 +209,81 @@ impl<'t, 'a> Directories<'t, 'a> {
             }
         }
     }
+}
 
-    /// The cleaned paths of files.
-    #[tactic(auto, unfolding(crate::specs::Paths::file_path))]
-    pub fn paths_of(
-        &self,
-        alloc: Global,
-        texts: &mut PathTexts,
-        files: &[FileEntry<'_>],
-    ) -> Result<FlatLists<u8>, OutOfMemory>
-        ensures { IfOk result (λ paths. paths ≡ map (file_path self.now) files.now) }
+/// The files of a table: its entries, the compilation directory of the unit, and the version.
+#[derive(Drop)]
+pub(crate) struct Files<'a> {
+    version: u16,
+    comp_dir: &'a [u8],
+    directories: Vec<FileEntry<'a>>,
+    entries: Vec<FileEntry<'a>>,
+}
+
+impl<'a> Model for Files<'a> {
+    ghost use Rattle.std.specs.Prelude.{List, ℕ, map};
+    ghost use Rattle.line_program.specs.Paths.{directories_of, file_path};
+
+    ghost Value = { List (List ℕ) };
+
+    ghost view = { λ f. map (file_path (directories_of f.version f.comp_dir.now f.directories.items)) f.entries.items };
+}
+
+impl<'a> Files<'a> {
+    /// No files. Allocates no memory.
+    pub fn none(alloc: Global) -> Files<'a>
+        ensures { result ≡ [] }
     {
-        let count = files.len();
-        let mut paths = FlatLists::with_room(alloc, count, count.saturating_mul(USUAL))?;
-        for file in files {
-            self.put_path(&mut texts.directory, &mut texts.path, file)?;
-            push_cleaned(&mut paths, &mut texts.cleaned, texts.path.as_slice())?;
+        Files {
+            version: 0,
+            comp_dir: &[],
+            directories: Vec::new(alloc),
+            entries: Vec::new(alloc),
         }
-        paths.shrink();
-        Ok(paths)
+    }
+
+    /// The files of a table, without spare room.
+    pub fn of(
+        version: u16,
+        comp_dir: &'a [u8],
+        mut directories: Vec<FileEntry<'a>>,
+        mut entries: Vec<FileEntry<'a>>,
+    ) -> Files<'a>
+        ensures { result ≡ map (file_path (directories_of version comp_dir.now directories.entry.items)) entries.entry.items }
+    {
+        directories.shrink_to_fit();
+        entries.shrink_to_fit();
+        Files {
+            version,
+            comp_dir,
+            directories,
+            entries,
+        }
+    }
+
+    /// The number of files.
+    pub fn len(&self) -> usize
+        ensures { result ≡ length self.now }
+    {
+        self.entries.len()
+    }
+
+    /// The cleaned path of a file, by its place. It is in `texts` or in the file that is read.
+    #[tactic(auto, unfolding(crate::specs::Paths::file_path))]
+    pub fn path<'t>(
+        &'t self,
+        place: usize,
+        texts: &'t mut PathTexts,
+    ) -> Result<&'t [u8], OutOfMemory>
+        requires { place < length self.now }
+        ensures { IfOk result (λ path. Some path.now ≡ slice_get self.now place) }
+    {
+        let comp_dir: &'t [u8] = self.comp_dir;
+        let entries: &'t [FileEntry<'a>] = self.directories.as_slice();
+        let directories = Directories::of(&mut texts.root, self.version, comp_dir, entries)?;
+        directories.put_path(&mut texts.directory, &mut texts.path, &self.entries[place])?;
+        let path = texts.path.as_slice();
+        let shown = cleaned_path(&mut texts.cleaned, path)?;
+        Ok(shown)
     }
 }

@@ -1,14 +1,13 @@
 //! Memory that is reused for one line table after another.
 
 use crate::machine::LineSequence;
-use crate::paths::PathTexts;
 use crate::row::Row;
 use crate::row_order::CountedSequence;
 use crate::tables::FormatLists;
 use std::alloc::Global;
 use step_maps::Stretch;
 
-/// Lists and texts whose memory is reused for one table after another. Their old content does not
+/// Lists whose memory is reused for one table after another. Their old content does not
 /// matter.
 #[derive(Drop)]
 pub struct LineScratch {
@@ -18,8 +17,6 @@ pub struct LineScratch {
     pub(crate) sequences: Vec<LineSequence>,
     pub(crate) counted: Vec<CountedSequence>,
     pub(crate) stretches: Vec<Stretch>,
-    pub(crate) root: Vec<u8>,
-    pub(crate) texts: PathTexts,
 }
 
 impl LineScratch {
@@ -32,8 +29,6 @@ impl LineScratch {
             sequences: Vec::new(alloc),
             counted: Vec::new(alloc),
             stretches: Vec::new(alloc),
-            root: Vec::new(alloc),
-            texts: PathTexts::new(alloc),
         }
     }
 }

@@ -1,50 +1,43 @@
 //! The lines of a line table, by address.
 ghost use Rattle.std.specs.Prelude.{◌≡◌, ℕ, ◌+◌, ◌^◌, ◌<◌, [], length, slice_index, Some, IfOk, IfSome};
 ghost use Rattle.std.specs.List.{slice_get};
+ghost use Rattle.std.specs.Str.{bytes_eq};
 ghost use Rattle.range_set.specs.Enclosing.{encloses};
 ghost use Rattle.sym_edges.specs.Rising.{RisesFrom};
 ghost use Rattle.step_maps.specs.Stepping.{value_at};
-ghost use Rattle.line_program.specs.LineMaps.{no_line, shown, numbered_line, numbered_file, AreDistinct, SaysLines};
+ghost use Rattle.line_program.specs.LineMaps.{no_line, no_lines, path_numbered, shown, numbered_line, numbered_file, SaysLines};
 ghost use Rattle.line_program.specs.internal.Numbered.{numbered_line_of};
 ghost use Rattle.line_program.specs.internal.Painting.{counted_row};
 
 use crate::line_map::{RowPainter, paint_all};
 use crate::machine::LineSequence;
 use crate::path_line::{NO_LINE, PathLine};
-use crate::path_numbers::{Numbering, number_paths};
+use crate::paths::{Files, PathPair, PathTexts};
 use crate::scratch::LineScratch;
 use crate::stretches::{count_sequences, keep_lists, put_stretches};
-use flat_lists::FlatLists;
 use range_set::Enclosing;
 use std::alloc::Global;
 use std::marker::Model;
 use step_maps::{FirstItem, StepMap, Stretch, first_items};
 use sym_edges::OutOfMemory;
 
-/// Lines by address, and the files' paths by their numbers.
+/// Lines by address, and the files.
 #[derive(Drop)]
-pub struct LineTable {
+pub struct LineTable<'a> {
     lines: StepMap<PathLine>,
-    texts: FlatLists<u8>,
-    firsts: Vec<u32>,
     first: u32,
-    files: Vec<u32>,
+    files: Files<'a>,
 }
 
-impl Model for LineTable {
-    ghost use Rattle.line_program.specs.LineMaps.{LineMap};
-    ghost use Rattle.line_program.specs.internal.Numbering.{picked, IsLineMap};
+impl<'a> Model for LineTable<'a> {
+    ghost use Rattle.std.specs.Prelude.{◌<◌, ◌^◌, length};
+    ghost use Rattle.line_program.specs.LineMaps.{LineMap, AreNamed};
 
     ghost Value = { LineMap };
 
-    ghost view = { λ t. record {
-      lines = t.lines;
-      paths = picked t.texts t.firsts.items;
-      first = t.first;
-      files = t.files.items;
-    } };
+    ghost view = { λ t. record { lines = t.lines; first = t.first; paths = t.files } };
 
-    ghost invariant = { λ t. IsLineMap t.lines t.texts t.firsts.items t.files.items };
+    ghost invariant = { λ t. AreNamed t.lines t.files × (length t.files < 2 ^ 32) };
 }
 
 /// Path number and line, if there is a line.
@@ -58,15 +51,15 @@ fn shown(at: PathLine) -> Option<(u32, u32)>
     Some((at.path, at.line))
 }
 
-/// The content of a line table: its sequences, the number of its first file, and the files' paths.
+/// The content of a line table: its sequences, the number of its first file, and the files.
 #[derive(Drop)]
-pub(crate) struct Lines {
+pub(crate) struct Lines<'a> {
     pub sequences: Vec<LineSequence>,
     pub first: u32,
-    pub files: FlatLists<u8>,
+    pub files: Files<'a>,
 }
 
-impl Model for Lines {
+impl<'a> Model for Lines<'a> {
     ghost use Rattle.line_program.specs.LineAt.{Lines};
 
     ghost Value = { Lines };
@@ -77,7 +70,7 @@ impl Model for Lines {
 /// The lines of one sequence.
 fn paint_one(alloc: Global, painter: &RowPainter<'_>) -> Result<StepMap<PathLine>, OutOfMemory>
     requires { length painter.now.kept.now ≡ 1 }
-    ensures { IfOk result (λ lines. (a : ℕ) → a < 2 ^ 64 → value_at no_line lines a ≡ numbered_line_of painter.now.first painter.now.numbers.now (counted_row painter.now.kept.now a)) }
+    ensures { IfOk result (λ lines. (a : ℕ) → a < 2 ^ 64 → value_at no_line lines a ≡ numbered_line_of painter.now.first painter.now.files (counted_row painter.now.kept.now a)) }
 {
     let sequence = &painter.kept[0];
     let item = Some(FirstItem {
@@ -100,7 +93,7 @@ fn paint_counted(
     painter: &RowPainter<'_>,
     stretches: &mut Vec<Stretch>,
 ) -> Result<StepMap<PathLine>, OutOfMemory>
-    ensures { IfOk result (λ lines. (a : ℕ) → a < 2 ^ 64 → value_at no_line lines a ≡ numbered_line_of painter.now.first painter.now.numbers.now (counted_row painter.now.kept.now a)) }
+    ensures { IfOk result (λ lines. (a : ℕ) → a < 2 ^ 64 → value_at no_line lines a ≡ numbered_line_of painter.now.first painter.now.files (counted_row painter.now.kept.now a)) }
 {
     if painter.kept.len() == 1 {
         return paint_one(alloc, painter);
@@ -114,17 +107,15 @@ fn paint_counted(
     Ok(lines)
 }
 
-impl LineTable {
+impl<'a> LineTable<'a> {
     /// A table without lines and without files, for a unit without a line table. Allocates no memory.
-    pub fn empty(alloc: Global) -> LineTable
-        ensures { result ≡ record { lines = record { stops = []; values = [] }; paths = []; first = 0; files = [] } }
+    pub fn empty(alloc: Global) -> LineTable<'a>
+        ensures { result ≡ no_lines }
     {
         LineTable {
             lines: StepMap::new(alloc),
-            texts: FlatLists::new(alloc),
-            firsts: Vec::new(alloc),
             first: 0,
-            files: Vec::new(alloc),
+            files: Files::none(alloc),
         }
     }
 
@@ -133,34 +124,31 @@ impl LineTable {
         alloc: Global,
         scratch: &mut LineScratch,
         code: &Enclosing,
-        lines: Lines,
-    ) -> Result<LineTable, OutOfMemory>
-        ensures says { IfOk result (λ table. SaysLines (encloses code.now) lines table) }
-        ensures few { IfOk result (λ table. lines.first + length lines.files < 2 ^ 32) }
+        lines: Lines<'a>,
+    ) -> Result<LineTable<'a>, OutOfMemory>
+        ensures says { IfOk result (λ table. SaysLines (encloses code.now) lines.entry table) }
+        ensures few { IfOk result (λ table. lines.entry.first + length lines.entry.files < 2 ^ 32) }
     {
         let Lines {
             mut sequences,
             first,
-            files: texts,
+            files,
         } = lines;
-        let count = texts.len() as u64;
+        let count = files.len() as u64;
         if count >= 1 << 32 || count + u64::from(first) >= 1 << 32 {
             return Err(OutOfMemory);
         }
-        let Numbering { firsts, files } = number_paths(alloc, &texts)?;
         count_sequences(code, &mut sequences, &mut scratch.counted)?;
         scratch.sequences = sequences;
         let painter = RowPainter {
             kept: scratch.counted.as_slice(),
             first,
-            numbers: files.as_slice(),
+            files: count as u32,
         };
         let lines = paint_counted(alloc, &painter, &mut scratch.stretches)?;
         keep_lists(&mut scratch.counted, &mut scratch.spare)?;
         Ok(LineTable {
             lines,
-            texts,
-            firsts,
             first,
             files,
         })
@@ -195,22 +183,56 @@ impl LineTable {
         shown(values[stop])
     }
 
-    /// The number of paths of the table; they are numbered from 0. Allocates no memory.
+    /// The number of files of the table. Their paths are numbered from 0. Allocates no memory.
     pub fn path_count(&self) -> usize
         ensures { result ≡ length self.now.paths }
     {
-        self.firsts.len()
+        self.files.len()
     }
 
-    /// The cleaned path with a number; two numbers have different paths. `line_at`, `line_from` and
-    /// `file` return such numbers. Allocates no memory.
-    pub fn path(&self, number: u32) -> &[u8]
+    /// The cleaned path with a number, made in `texts`. `line_at`, `line_from` and `file` return such
+    /// numbers. Two numbers may have the same path.
+    pub fn path<'t>(
+        &'t self,
+        number: u32,
+        texts: &'t mut PathTexts,
+    ) -> Result<&'t [u8], OutOfMemory>
         requires { number < length self.now.paths }
-        ensures path { Some result.now ≡ slice_get self.now.paths number }
-        ensures distinct { AreDistinct self.now.paths }
+        ensures { IfOk result (λ path. Some path.now ≡ slice_get self.now.paths number) }
     {
-        let place = self.firsts[number as usize];
-        self.texts.at(place as usize)
+        self.files.path(number as usize, texts)
+    }
+
+    /// Whether a number has this path, which is made in `texts`.
+    fn has_path(
+        &self,
+        number: u32,
+        path: &[u8],
+        texts: &mut PathTexts,
+    ) -> Result<bool, OutOfMemory>
+        requires { number < length self.now.paths }
+        ensures { IfOk result (λ same. same ≡ bytes_eq path.now (path_numbered self.now number)) }
+    {
+        let other = self.path(number, texts)?;
+        Ok(path == other)
+    }
+
+    /// Whether two numbers have the same path. The paths are made only if the numbers differ.
+    pub fn share_path(
+        &self,
+        number: u32,
+        other: u32,
+        texts: &mut PathPair,
+    ) -> Result<bool, OutOfMemory>
+        requires number { number < length self.now.paths }
+        requires other { other < length self.now.paths }
+        ensures { IfOk result (λ same. same ≡ bytes_eq (path_numbered self.now number) (path_numbered self.now other)) }
+    {
+        if number == other {
+            return Ok(true);
+        }
+        let path = self.path(number, &mut texts.one)?;
+        self.has_path(other, path, &mut texts.other)
     }
 
     /// The number of a file's path, if the table has a file with that number. Files are numbered from 1 in versions 2 to 4, and from 0 in version 5.
@@ -222,8 +244,11 @@ impl LineTable {
         if index < u64::from(self.first) {
             return None;
         }
-        self.files
-            .get((index - u64::from(self.first)) as usize)
-            .copied()
+        let number = index - u64::from(self.first);
+        if number < self.files.len() as u64 {
+            Some(number as u32)
+        } else {
+            None
+        }
     }
 }

@@ -6,12 +6,12 @@ use Rattle.line_program.specs.internal.Numbered.{numbered_line_of}
 use Rattle.line_program.specs.internal.Painting.{SortedFrom, AllUpTo, last_at}
 
 -- the line of a row; without a row, `line`
-abbrev pub line_or : PathLine → ℕ → List ℕ → Option Row → PathLine
-line_or line first numbers None = line
-line_or line first numbers (Some r) = numbered_line_of first numbers (Some r)
+abbrev pub line_or : PathLine → ℕ → ℕ → Option Row → PathLine
+line_or line first count None = line
+line_or line first count (Some r) = numbered_line_of first count (Some r)
 
 -- the rows above `start`, and the line of the last row at or below `start`
-pub record Parts (first : ℕ) (numbers : List ℕ) (rows : List Row) (start : ℕ) (line : PathLine) (above : List Row) : Type 0 where
+pub record Parts (first count : ℕ) (rows : List Row) (start : ℕ) (line : PathLine) (above : List Row) : Type 0 where
   pub sorted : SortedFrom start above
-  pub rest : (a : ℕ) → start ≤ a → line_or line first numbers (last_at above a) ≡ numbered_line_of first numbers (last_at rows a)
+  pub rest : (a : ℕ) → start ≤ a → line_or line first count (last_at above a) ≡ numbered_line_of first count (last_at rows a)
   pub up_to : (end : ℕ) → AllUpTo end rows → AllUpTo end above

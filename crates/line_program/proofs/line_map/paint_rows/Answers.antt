@@ -8,7 +8,7 @@ rows-init c = paints_begin _ _ _ _ _ _ _ _ c.rows_above.ensures c.in_ok-set.ensu
 
 pub rows-preserved : goal.rows-preserved
 rows-preserved c =
-    let p : Paints c.args.first c.args.numbers.now c.args.rows.now c.args.painted.now c.args.start c.rows.painted c.rows.now.from c.rows.now.line (c.in-Some.row.now ∷ c.in-Some.after.now)
+    let p : Paints c.args.first c.args.files c.args.rows.now c.args.painted.now c.args.start c.rows.painted c.rows.now.from c.rows.now.line (c.in-Some.row.now ∷ c.in-Some.after.now)
     = rw c.in-Some.ensures.cases.0 at c.rows.invariant in
     paints_more _ _ _ _ _ _ _ _ _ _ _ _ p c.line_of.ensures c.in_ok-paint_line.ensures.at c.in_ok-paint_line.ensures.last
 
