@@ -21,9 +21,8 @@ unfoldable lines : List UnitRead
 lines = record (bare_unit [] []) {
   lines = record {
     lines = record { stops = 2 ∷ 4 ∷ 6 ∷ 8 ∷ 9 ∷ 11 ∷ []; values = at 0 1 ∷ at 0 3 ∷ at 0 0 ∷ at 1 3 ∷ at 1 3 ∷ at 0 0 ∷ [] };
-    paths = codes "a.c" ∷ codes "b.c" ∷ [];
     first = 1;
-    files = [];
+    paths = codes "a.c" ∷ codes "b.c" ∷ [];
   };
 } ∷ []
 

@@ -1,5 +1,5 @@
 -- The maximal runs of addresses with one line, from the line table of a unit (DWARF 5, 6.2).
-use Rattle.std.specs.Prelude.{ℕ, List, [], Option, None, Some, unwrap_or, map}
+use Rattle.std.specs.Prelude.{◌≡◌, ℕ, List, [], ◌∷◌, Option, None, Some, unwrap_or, map}
 use Rattle.std.specs.List.{slice_get}
 use Rattle.step_maps.specs.Runs.{Run, IsRuns, between}
 use Rattle.line_program.specs.LineMaps.{numbered_line}
@@ -28,10 +28,6 @@ paths_in (Some part) = part.lines.paths
 unfoldable pub unit_paths : List UnitRead → ℕ → List (List ℕ)
 unit_paths units unit = paths_in (slice_get units unit)
 
--- a line run with the path's number and the line as its value
-abbrev pub number_run : LineRun → Run (ℕ × ℕ)
-number_run r = record { start = r.start; end = r.end; value = (r.path, r.line) }
-
 -- a path and a line, given the path's number
 abbrev pub path_line : List (List ℕ) → ℕ × ℕ → List ℕ × ℕ
 path_line paths at = (unwrap_or (slice_get paths at.0) [], at.1)
@@ -40,7 +36,13 @@ path_line paths at = (unwrap_or (slice_get paths at.0) [], at.1)
 abbrev pub path_run : List (List ℕ) → LineRun → Run (List ℕ × ℕ)
 path_run paths r = record { start = r.start; end = r.end; value = path_line paths (r.path, r.line) }
 
--- the runs of the line in a piece, both with path numbers and with paths
+-- each run has the path number and the line of its first address
+abbrev pub AreStarted : (ℕ → Option (ℕ × ℕ)) → List LineRun → Type 0
+AreStarted f [] = Unit {0}
+AreStarted f (r ∷ runs) = (f r.start ≡ Some (r.path, r.line)) × AreStarted f runs
+
+-- the runs of the path and the line in a piece. Since a path may have several numbers, each run has
+-- the number at its start
 pub record AreLineRuns (units : List UnitRead) (piece : Piece) (runs : List LineRun) : Type 0 where
-  pub numbers : IsRuns (between piece.start piece.end (unit_number_line units piece.unit)) (map number_run runs)
   pub paths : IsRuns (between piece.start piece.end (unit_line units piece.unit)) (map (path_run (unit_paths units piece.unit)) runs)
+  pub starts : AreStarted (unit_number_line units piece.unit) runs

@@ -1,23 +1,24 @@
 //! The lines of a piece.
-ghost use Rattle.std.specs.Prelude.{◌≡◌, ℕ, ◌<◌, ◌≤◌, [], ◌∷◌, ◌++◌, true, false, map, length, OnOk};
+ghost use Rattle.std.specs.Prelude.{◌≡◌, ℕ, ◌<◌, ◌≤◌, [], ◌∷◌, ◌++◌, true, false, map, length, IfOk, OnOk};
 ghost use Rattle.step_maps.specs.Runs.{IsRuns, between};
-ghost use Rattle.line_program.specs.LineMaps.{numbered_line, named_line, AreDistinct};
-ghost use Rattle.func_flatten.specs.LineRuns.{number_run, path_run, AreLineRuns};
-ghost use Rattle.func_flatten.specs.internal.Growing.{continues, with_run, with_part, AreKnown};
+ghost use Rattle.line_program.specs.LineMaps.{numbered_line, named_line};
+ghost use Rattle.func_flatten.specs.LineRuns.{path_run, AreStarted, AreLineRuns};
+ghost use Rattle.func_flatten.specs.internal.Growing.{continues, with_run, with_part, AreKnown, IsKnown};
 
 use crate::line_run::LineRun;
 use crate::piece::Piece;
 use debug_units::Units;
-use line_program::LineTable;
-use std::alloc::AllocError;
+use line_program::{LineTable, PathPair};
 use sym_edges::OutOfMemory;
 
 /// Replaces what `runs` had by the lines of a piece, from the line table of its unit: a line run
 /// for each maximal run of its addresses with one path and one line, in the order of the addresses.
+/// In `texts` paths are made that must be compared since they have different numbers.
 pub fn lines_of(
     units: &Units<'_>,
     piece: &Piece,
     runs: &mut Vec<LineRun>,
+    texts: &mut PathPair,
 ) -> Result<(), OutOfMemory>
     ensures { OnOk result (AreLineRuns units.now piece.now runs.new.items) }
 {
@@ -29,32 +30,22 @@ pub fn lines_of(
         return Ok(());
     }
     let table = part.lines.table();
-    put_runs(table, piece.start, piece.end, runs)?;
-    tell_apart(table, runs.as_slice());
+    put_runs(table, piece.start, piece.end, runs, texts)?;
     Ok(())
-}
-
-/// Different numbers have different paths.
-fn tell_apart(table: &LineTable, runs: &[LineRun])
-    requires { AreKnown (length table.now.paths) runs.now }
-    ensures { 0 < length runs.now → AreDistinct table.now.paths }
-{
-    if let Some(first) = runs.first() {
-        let _path = table.path(first.path);
-    }
 }
 
 /// Puts the runs of the line from `start` up to `end` into an empty list.
 fn put_runs(
-    table: &LineTable,
+    table: &LineTable<'_>,
     start: u64,
     end: u64,
     runs: &mut Vec<LineRun>,
+    texts: &mut PathPair,
 ) -> Result<(), OutOfMemory>
     requires none { runs.old.items ≡ [] }
     requires some { start < end }
-    ensures runs { OnOk result (IsRuns (between start end (numbered_line table.now)) (map number_run runs.new.items)) }
-    ensures known { OnOk result (AreKnown (length table.now.paths) runs.new.items) }
+    ensures runs { OnOk result (IsRuns (between start end (λ a. named_line table.now.paths (numbered_line table.now a))) (map (path_run table.now.paths) runs.new.items)) }
+    ensures starts { OnOk result (AreStarted (numbered_line table.now) runs.new.items) }
 {
     let stops = table.stops();
     let first = stops.partition_point(|stop| *stop <= start);
@@ -63,45 +54,54 @@ fn put_runs(
     'stops: for place in first..stops.len() {
         let stop = stops[place];
         if end <= stop {
-            push_part(runs, now, at, end)?;
+            push_part(table, runs, now, at, end, texts)?;
             return Ok(());
         }
-        push_part(runs, now, at, stop)?;
+        push_part(table, runs, now, at, stop, texts)?;
         at = stop;
         now = table.line_from(place);
     }
-    push_part(runs, now, at, end)?;
+    push_part(table, runs, now, at, end, texts)?;
     Ok(())
 }
 
 /// Adds a run, if there is a line.
 fn push_part(
+    table: &LineTable<'_>,
     runs: &mut Vec<LineRun>,
     now: Option<(u32, u32)>,
     start: u64,
     end: u64,
-) -> Result<(), AllocError>
-    ensures { OnOk result (runs.new.items ≡ with_part now start end runs.old.items) }
+    texts: &mut PathPair,
+) -> Result<(), OutOfMemory>
+    requires runs { AreKnown (length table.now.paths) runs.old.items }
+    requires now { IsKnown (length table.now.paths) now }
+    ensures { OnOk result (runs.new.items ≡ with_part table.now.paths now start end runs.old.items) }
 {
     if let Some((path, line)) = now {
-        push_run(
-            runs,
-            LineRun {
-                start,
-                end,
-                path,
-                line,
-            },
-        )?;
+        let run = LineRun {
+            start,
+            end,
+            path,
+            line,
+        };
+        push_run(table, runs, run, texts)?;
     }
     Ok(())
 }
 
 /// Adds a run after the last one, or makes the last one longer if the run continues it with the same path and line.
-fn push_run(runs: &mut Vec<LineRun>, run: LineRun) -> Result<(), AllocError>
-    ensures { OnOk result (runs.new.items ≡ with_run runs.old.items run) }
+fn push_run(
+    table: &LineTable<'_>,
+    runs: &mut Vec<LineRun>,
+    run: LineRun,
+    texts: &mut PathPair,
+) -> Result<(), OutOfMemory>
+    requires runs { AreKnown (length table.now.paths) runs.old.items }
+    requires run { run.path < length table.now.paths }
+    ensures { OnOk result (runs.new.items ≡ with_run table.now.paths runs.old.items run) }
 {
-    if lengthen(runs, run) {
+    if lengthen(table, runs, run, texts)? {
         return Ok(());
     }
     runs.push(run)?;
@@ -109,25 +109,42 @@ fn push_run(runs: &mut Vec<LineRun>, run: LineRun) -> Result<(), AllocError>
 }
 
 /// Makes the last run longer if another one continues it with the same path and line.
-#[tactic(auto, using(crate::proofs::LineLemmas::with_longer, crate::proofs::LineLemmas::with_more))]
-fn lengthen(runs: &mut Vec<LineRun>, run: LineRun) -> bool
-    ensures longer { result ≡ true → runs.new.items ≡ with_run runs.old.items run }
-    ensures stays { result ≡ false → runs.new.items ≡ runs.old.items }
-    ensures apart { result ≡ false → runs.old.items ++ run ∷ [] ≡ with_run runs.old.items run }
+#[tactic(auto, using(crate::proofs::LineLemmas::with_longer, crate::proofs::LineLemmas::with_more, crate::proofs::LineLemmas::last_known))]
+fn lengthen(
+    table: &LineTable<'_>,
+    runs: &mut Vec<LineRun>,
+    run: LineRun,
+    texts: &mut PathPair,
+) -> Result<bool, OutOfMemory>
+    requires runs { AreKnown (length table.now.paths) runs.old.items }
+    requires run { run.path < length table.now.paths }
+    ensures longer { IfOk result (λ on. on ≡ true → runs.new.items ≡ with_run table.now.paths runs.old.items run) }
+    ensures stays { IfOk result (λ on. on ≡ false → runs.new.items ≡ runs.old.items) }
+    ensures apart { IfOk result (λ on. on ≡ false → runs.old.items ++ run ∷ [] ≡ with_run table.now.paths runs.old.items run) }
 {
     let Some(last) = runs.last_mut() else {
-        return false;
+        return Ok(false);
     };
-    if !continues(*last, run) {
-        return false;
+    if !continues(table, *last, run, texts)? {
+        return Ok(false);
     }
     last.end = run.end;
-    true
+    Ok(true)
 }
 
 /// Whether a run begins where the last one ended, with the same path and line.
-fn continues(last: LineRun, run: LineRun) -> bool
-    ensures { result ≡ continues last run }
+fn continues(
+    table: &LineTable<'_>,
+    last: LineRun,
+    run: LineRun,
+    texts: &mut PathPair,
+) -> Result<bool, OutOfMemory>
+    requires last { last.path < length table.now.paths }
+    requires run { run.path < length table.now.paths }
+    ensures { IfOk result (λ on. on ≡ continues table.now.paths last run) }
 {
-    last.end == run.start && (last.path == run.path && last.line == run.line)
+    if last.end != run.start || last.line != run.line {
+        return Ok(false);
+    }
+    table.share_path(last.path, run.path, texts)
 }

@@ -1,10 +1,11 @@
 -- Runs that are made from one stop to the next.
-use Rattle.std.specs.Prelude.{◌≡◌, ℕ, ◌+◌, ◌<◌, ◌≤◌, Bool, ◌&&◌, ◌==◌, if◌then◌else◌, map, List, [], ◌∷◌, Option, None, Some}
+use Rattle.std.specs.Prelude.{◌≡◌, ℕ, ◌+◌, ◌<◌, ◌≤◌, Bool, ◌&&◌, ◌==◌, if◌then◌else◌, map, length, List, [], ◌∷◌, Option, None, Some}
 use Rattle.step_maps.specs.Runs.{Run, IsRuns, between}
 use Rattle.sym_edges.specs.Rising.{RisesFrom}
-use Rattle.line_program.specs.LineMaps.{NoStopBetween}
+use Rattle.std.specs.Str.{bytes_eq}
+use Rattle.line_program.specs.LineMaps.{NoStopBetween, named_line}
 use Rattle.func_flatten.specs.declared.line_run.LineRun.{LineRun}
-use Rattle.func_flatten.specs.LineRuns.{number_run}
+use Rattle.func_flatten.specs.LineRuns.{path_line, path_run, AreStarted}
 
 -- whether the run `r` begins where `x` ends, and has the same value
 abbrev pub goes_on : {V : Type 0} → (V → V → Bool) → Run V → Run V → Bool
@@ -28,24 +29,25 @@ pub record Grown {V : Type 0} (low high : ℕ) (f : ℕ → Option V) (made : Li
   pub runs : IsRuns (between low high f) made
   pub by : EndBy high made
 
-abbrev pub same_mark : (ℕ × ℕ) → (ℕ × ℕ) → Bool
-same_mark m n = (m.0 == n.0) && (m.1 == n.1)
+abbrev pub same_line : (List ℕ × ℕ) → (List ℕ × ℕ) → Bool
+same_line m n = (m.1 == n.1) && bytes_eq m.0 n.0
 
-abbrev pub continues : LineRun → LineRun → Bool
-continues x r = (x.end == r.start) && ((x.path == r.path) && (x.line == r.line))
+-- whether a run begins where `x` ends, with the same path and line
+abbrev pub continues : List (List ℕ) → LineRun → LineRun → Bool
+continues paths x r = (x.end == r.start) && same_line (path_line paths (x.path, x.line)) (path_line paths (r.path, r.line))
 
-abbrev pub with_run_after : LineRun → List LineRun → LineRun → List LineRun
-with_run_after x [] r = if continues x r then record { start = x.start; end = r.end; path = x.path; line = x.line } ∷ [] else x ∷ r ∷ []
-with_run_after x (y ∷ ys) r = x ∷ with_run_after y ys r
+abbrev pub with_run_after : List (List ℕ) → LineRun → List LineRun → LineRun → List LineRun
+with_run_after paths x [] r = if continues paths x r then record { start = x.start; end = r.end; path = x.path; line = x.line } ∷ [] else x ∷ r ∷ []
+with_run_after paths x (y ∷ ys) r = x ∷ with_run_after paths y ys r
 
 -- a run added after the last one, or the last one made longer if the run continues it
-abbrev pub with_run : List LineRun → LineRun → List LineRun
-with_run [] r = r ∷ []
-with_run (x ∷ xs) r = with_run_after x xs r
+abbrev pub with_run : List (List ℕ) → List LineRun → LineRun → List LineRun
+with_run paths [] r = r ∷ []
+with_run paths (x ∷ xs) r = with_run_after paths x xs r
 
-abbrev pub with_part : Option (ℕ × ℕ) → ℕ → ℕ → List LineRun → List LineRun
-with_part None start end runs = runs
-with_part (Some m) start end runs = with_run runs (record { start = start; end = end; path = m.0; line = m.1 })
+abbrev pub with_part : List (List ℕ) → Option (ℕ × ℕ) → ℕ → ℕ → List LineRun → List LineRun
+with_part paths None start end runs = runs
+with_part paths (Some m) start end runs = with_run paths runs (record { start = start; end = end; path = m.0; line = m.1 })
 
 -- the number of each run's path is below `count`
 abbrev pub AreKnown : ℕ → List LineRun → Type 0
@@ -56,13 +58,14 @@ abbrev pub IsKnown : ℕ → Option (ℕ × ℕ) → Type 0
 IsKnown count None = Unit {0}
 IsKnown count (Some m) = m.0 < count
 
--- the runs up to the address `at`, and the stops above it
-pub record Walks (f : ℕ → Option (ℕ × ℕ)) (count start end at : ℕ) (now : Option (ℕ × ℕ)) (rest : List ℕ) (runs : List LineRun) : Type 0 where
-  pub grown : Grown start at f (map number_run runs)
+-- the runs up to the address `at`, and the stops above it. `f` gives the path number and the line
+pub record Walks (paths : List (List ℕ)) (f : ℕ → Option (ℕ × ℕ)) (start end at : ℕ) (now : Option (ℕ × ℕ)) (rest : List ℕ) (runs : List LineRun) : Type 0 where
+  pub grown : Grown start at (λ a. named_line paths (f a)) (map (path_run paths) runs)
+  pub starts : AreStarted f runs
   pub is_now : now ≡ f at
   pub rising : RisesFrom (at + 1) rest
   pub order : start ≤ at
   pub inside : at < end
   pub same : (a b : ℕ) → at ≤ a → a ≤ b → NoStopBetween a b rest → f a ≡ f b
-  pub known : AreKnown count runs
-  pub known_now : IsKnown count now
+  pub known : AreKnown (length paths) runs
+  pub known_now : IsKnown (length paths) now

@@ -7,5 +7,4 @@ returns-in_default c = rw c.clear.ensures.items (lines_none c.args.units.now c.a
 pub returns : goal.returns
 returns c =
     lines_some c.args.units.now c.args.piece.now c.put_runs.new.runs.items c.in-Some.part.now c.in-Some.ensures
-    (rw c.table-table.ensures at c.in_ok-put_runs.ensures.runs) (rw c.table-table.ensures at c.in_ok-put_runs.ensures.known)
-    (rw c.table-table.ensures at (rw c.as_slice.ensures.value at c.tell_apart.ensures))
+    (rw c.table-table.ensures at c.in_ok-put_runs.ensures.runs, rw c.table-table.ensures at c.in_ok-put_runs.ensures.starts)
