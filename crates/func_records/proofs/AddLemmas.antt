@@ -16,7 +16,7 @@ use Rattle.debug_units.specs.declared.unit_read.UnitRead.{UnitRead}
 use Rattle.die_names.specs.Names.{entry_name}
 use Rattle.func_flatten.specs.declared.piece.Piece.{Piece}
 use Rattle.func_flatten.specs.declared.line_run.LineRun.{LineRun}
-use Rattle.func_flatten.specs.LineRuns.{paths_in, number_run, unit_paths, AreLineRuns}
+use Rattle.func_flatten.specs.LineRuns.{paths_in, path_run, unit_number_line, unit_paths, AreStarted, AreLineRuns}
 use Rattle.inline_chain.specs.InlineRuns.{InlineParts}
 use Rattle.func_records.specs.declared.numbers.Numbers.{Numbers}
 use Rattle.func_records.specs.internal.Texts.{text_cmp, SameTexts}
@@ -36,18 +36,29 @@ use Rattle.func_records.proofs.UsedLemmas.{bytes_sorted, same_used}
 use Rattle.func_records.proofs.ListLemmas.{same_bytes, or_left, or_right}
 use Rattle.func_records.proofs.OriginLemmas.{number_beside}
 
--- The parts of the pieces, in one list.
-abbrev back : Run (ℕ × ℕ) → LineRun
-back r = record { start = r.start; end = r.end; path = r.value.0; line = r.value.1 }
-
-back_is : (runs : List LineRun) → map back (map number_run runs) ≡ runs
-back_is [] = refl
-back_is (r ∷ runs) = ap (λ rs. r ∷ rs) (back_is runs)
+-- Runs that begin and end alike and have the same number at each start are the same.
+one_each : (paths : List (List ℕ)) (f : ℕ → Option (ℕ × ℕ)) (xs ys : List LineRun) → map (path_run paths) xs ≡ map (path_run paths) ys → AreStarted f xs → AreStarted f ys → xs ≡ ys
+one_each paths f [] [] same first second = refl
+one_each paths f [] (y ∷ ys) same first second = absurd (cc)
+one_each paths f (x ∷ xs) [] same first second = absurd (cc)
+one_each paths f (x ∷ xs) (y ∷ ys) same first second =
+    let run : path_run paths x ≡ path_run paths y = cc in
+    let later : map (path_run paths) xs ≡ map (path_run paths) ys = cc in
+    let start : x.start ≡ y.start = ap (λ (r : Run (List ℕ × ℕ)). r.start) run in
+    let end : x.end ≡ y.end = ap (λ (r : Run (List ℕ × ℕ)). r.end) run in
+    let at : Some (x.path, x.line) ≡ Some (y.path, y.line) = sym first.0 ∙ ap f start ∙ second.0 in
+    let mark : (x.path, x.line) ≡ (y.path, y.line) = cc in
+    ap (λ a. record { start = a; end = x.end; path = x.path; line = x.line } ∷ xs) start
+    ∙ ap (λ b. record { start = y.start; end = b; path = x.path; line = x.line } ∷ xs) end
+    ∙ ap (λ (m : ℕ × ℕ). record { start = y.start; end = y.end; path = m.0; line = m.1 } ∷ xs) mark
+    ∙ ap (λ rs. y ∷ rs) (one_each paths f xs ys later first.1 second.1)
 
 one_lines : (units : List UnitRead) (piece : Piece) (xs ys : List LineRun) → AreLineRuns units piece xs → AreLineRuns units piece ys → xs ≡ ys
 one_lines units piece xs ys first second =
-    sym (back_is xs) ∙ ap (map back) (one_runs _ (map number_run xs) (map number_run ys) first.numbers second.numbers) ∙ back_is ys
+    let paths : List (List ℕ) = unit_paths units piece.unit in
+    one_each paths (unit_number_line units piece.unit) xs ys (one_runs _ (map (path_run paths) xs) (map (path_run paths) ys) first.paths second.paths) first.starts second.starts
 
+-- The parts of the pieces, in one list.
 abbrev first_of : {X : Type 0} → X → List X → X
 first_of other [] = other
 first_of other (x ∷ xs) = x

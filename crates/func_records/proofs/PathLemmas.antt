@@ -13,7 +13,7 @@ use Rattle.debug_units.specs.declared.unit_read.UnitRead.{UnitRead}
 use Rattle.debug_units.specs.Owners.{line_in}
 use Rattle.func_flatten.specs.declared.piece.Piece.{Piece}
 use Rattle.func_flatten.specs.declared.line_run.LineRun.{LineRun}
-use Rattle.func_flatten.specs.LineRuns.{number_line_in, paths_in, number_run, path_run, path_line, unit_number_line, unit_line, unit_paths, AreLineRuns}
+use Rattle.func_flatten.specs.LineRuns.{number_line_in, paths_in, path_run, path_line, unit_number_line, unit_line, unit_paths, AreStarted, AreLineRuns}
 use Rattle.inline_chain.specs.InlineRuns.{InlineParts}
 use Rattle.func_records.specs.declared.found.FoundShare.{FoundShare}
 use Rattle.func_records.specs.declared.path_list.PathRef.{PathRef}
@@ -47,11 +47,14 @@ path_added old new at units path added =
     ∙ ap (λ b. has_path units old path || b) (or_false (bytes_eq path (path_at units at)))
 
 -- The texts of paths.
-pub text_next : (units : List UnitRead) (refs : List PathRef) (n : ℕ) (d : PathRef) (old : List (List ℕ)) (texts more : List (Bor (List ℕ))) (t : Bor (List ℕ)) → n < length refs → t.now ≡ path_at units (get_or refs n d) → more ≡ texts ++ t ∷ [] → bytes_of texts ≡ old ++ map (path_at units) (take n refs) → bytes_of more ≡ old ++ map (path_at units) (take (n + 1) refs)
-text_next units refs n d old texts more t below is pushed so =
-    ap bytes_of pushed ∙ map-append (λ (u : Bor (List ℕ)). u.now) texts (t ∷ []) ∙ ap (λ l. l ++ t.now ∷ []) so ∙ ap (λ u. (old ++ map (path_at units) (take n refs)) ++ u ∷ []) is
-    ∙ append_assoc old (map (path_at units) (take n refs)) (path_at units (get_or refs n d) ∷ [])
-    ∙ ap (λ l. old ++ l) (sym (map-append (path_at units) (take n refs) (get_or refs n d ∷ [])) ∙ ap (map (path_at units)) (sym (take_next refs n d below)))
+pub text_next : (units : List UnitRead) (refs : List PathRef) (n : ℕ) (d : PathRef) (made more : List (List ℕ)) → n < length refs → more ≡ made ++ path_at units (get_or refs n d) ∷ [] → made ≡ map (path_at units) (take n refs) → more ≡ map (path_at units) (take (n + 1) refs)
+text_next units refs n d made more below pushed so =
+    pushed ∙ ap (λ l. l ++ path_at units (get_or refs n d) ∷ []) so
+    ∙ sym (ap (map (path_at units)) (take_next refs n d below) ∙ map-append (path_at units) (take n refs) (get_or refs n d ∷ []))
+
+pub slice_next : (lists : List (List ℕ)) (n : ℕ) (d : List ℕ) (slices more : List (Bor (List ℕ))) (t : Bor (List ℕ)) → n < length lists → t.now ≡ get_or lists n d → more ≡ slices ++ t ∷ [] → bytes_of slices ≡ take n lists → bytes_of more ≡ take (n + 1) lists
+slice_next lists n d slices more t below is pushed so =
+    ap bytes_of pushed ∙ map-append (λ (u : Bor (List ℕ)). u.now) slices (t ∷ []) ∙ ap (λ l. l ++ t.now ∷ []) so ∙ ap (λ u. take n lists ++ u ∷ []) is ∙ sym (take_next lists n d below)
 
 -- Some paths more, one after the other.
 pub path_next : (units : List UnitRead) (refs : List PathRef) (n : ℕ) (d : PathRef) (old : Bool) (mid new : Bool) (path : List ℕ) → n < length refs → new ≡ (mid || bytes_eq path (path_at units (get_or refs n d))) → mid ≡ (old || has_path units (take n refs) path) → new ≡ (old || has_path units (take (n + 1) refs) path)
@@ -127,12 +130,11 @@ between_some low high a f v is = go (nat_le low a && nat_lt a high) is
     go true same = same
     go false same = absurd (cc)
 
-pathed_by : (units : List UnitRead) (piece : Piece) (runs : List LineRun) → AreMaximal (between piece.start piece.end (unit_number_line units piece.unit)) (map number_run runs) → AreMaximal (between piece.start piece.end (unit_line units piece.unit)) (map (path_run (unit_paths units piece.unit)) runs) → ArePathed units piece.unit runs
-pathed_by units piece [] numbers paths = tt
-pathed_by units piece (r ∷ runs) numbers paths =
-    let number = between_some piece.start piece.end r.start (unit_number_line units piece.unit) (r.path, r.line) (numbers.0.constant r.start (omega arith) numbers.0.some) in
+pathed_by : (units : List UnitRead) (piece : Piece) (runs : List LineRun) → AreStarted (unit_number_line units piece.unit) runs → AreMaximal (between piece.start piece.end (unit_line units piece.unit)) (map (path_run (unit_paths units piece.unit)) runs) → ArePathed units piece.unit runs
+pathed_by units piece [] starts paths = tt
+pathed_by units piece (r ∷ runs) starts paths =
     let named = between_some piece.start piece.end r.start (unit_line units piece.unit) (path_line (unit_paths units piece.unit) (r.path, r.line)) (paths.0.constant r.start (omega arith) paths.0.some) in
-    (unit_some units piece.unit r.start r.path r.line (path_line (unit_paths units piece.unit) (r.path, r.line)) number named, pathed_by units piece runs numbers.1 paths.1)
+    (unit_some units piece.unit r.start r.path r.line (path_line (unit_paths units piece.unit) (r.path, r.line)) starts.0 named, pathed_by units piece runs starts.1 paths.1)
 
 pub all_pathed : (units : List UnitRead) (piece : Piece) (runs : List LineRun) → AreLineRuns units piece runs → ArePathed units piece.unit runs
-all_pathed units piece runs are = pathed_by units piece runs (maximal _ (map number_run runs) are.numbers) (maximal _ (map (path_run (unit_paths units piece.unit)) runs) are.paths)
+all_pathed units piece runs are = pathed_by units piece runs are.starts (maximal _ (map (path_run (unit_paths units piece.unit)) runs) are.paths)

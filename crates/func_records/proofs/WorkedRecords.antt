@@ -17,7 +17,7 @@ entry tag name file line = record (bare_entry tag) { parent = Some 0; linkage = 
 -- A unit with a function and three inlined copies, whose files are numbered from `first` on.
 unfoldable unit : ℕ → UnitRead
 unit first = record (bare_unit (entry 0x2e (codes "f") None 0 ∷ entry 0x1d (codes "g") (Some 1) 7 ∷ entry 0x1d (codes "h") None 0 ∷ entry 0x1d (codes "g") (Some 0) 8 ∷ []) []) {
-  lines = record { lines = record { stops = []; values = [] }; paths = codes "b.h" ∷ codes "a.c" ∷ []; first = first; files = 1 ∷ 0 ∷ [] };
+  lines = record { lines = record { stops = []; values = [] }; first = first; paths = codes "a.c" ∷ codes "b.h" ∷ [] };
 }
 
 -- Files are numbered from 1 in the first unit, and from 0 in the second.
@@ -56,7 +56,7 @@ unfoldable part : Part
 part = record {
   piece = record { unit = 0; entry = 0; start = 0x1010; end = 0x1050; many = false };
   copies = record { level = 0; entry = 1; spans = on 0x1014 0x1018 ∷ on 0x1020 0x1030 ∷ [] } ∷ record { level = 1; entry = 2; spans = on 0x1024 0x1028 ∷ [] } ∷ [];
-  lines = record { start = 0x1010; end = 0x1050; path = 0; line = 3 } ∷ [];
+  lines = record { start = 0x1010; end = 0x1050; path = 1; line = 3 } ∷ [];
 }
 
 -- Numbers are in the order of bytes, and the base is subtracted from all addresses.

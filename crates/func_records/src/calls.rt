@@ -14,7 +14,7 @@ pub struct CallSite {
 }
 
 /// The number of a file's path.
-fn number_of_file(table: &LineTable, file: Option<u64>) -> Option<u32>
+fn number_of_file(table: &LineTable<'_>, file: Option<u64>) -> Option<u32>
     ensures number { result ≡ option_and_then (numbered_file table.now) file }
     ensures known { IfSome result (λ path. path < length table.now.paths) }
 {

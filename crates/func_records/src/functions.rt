@@ -11,7 +11,7 @@ use crate::names::{gather_names, join_refs};
 use crate::numbers::{Numbers, number_of, numbers_at, numbers_of};
 use crate::path_list::no_path;
 use crate::path_numbers::PathNumbers;
-use crate::paths::{UsedPaths, used_paths};
+use crate::paths::{UsedPaths, slices_of, used_paths};
 use crate::speller::{FoundPieces, add_shares};
 use crate::text_numbers::{Numbering, add_texts};
 use crate::text_ranks::{RankedTexts, ranked_texts};
@@ -69,14 +69,22 @@ pub fn add_functions<R: Threads + Sync>(
     let alloc = crew.alloc();
     let found = find_shares(crew, units, pieces)?;
     let shares = found.as_slice();
-    let UsedPaths { refs, texts } = used_paths(alloc, units, shares)?;
+    let UsedPaths { refs, texts: made } = used_paths(alloc, units, shares)?;
+    let texts = slices_of(alloc, &made)?;
     let ranked = ranked_texts(crew, texts.as_slice())?;
     let RankedTexts { sorted, guesses } = ranked;
     let paths = sorted.as_slice();
     if paths.len() > u32::MAX as usize {
         return Err(OutOfMemory);
     }
-    let rows = PathNumbers::of(crew, units, paths, refs.as_slice(), guesses.as_slice())?;
+    let rows = PathNumbers::of(
+        crew,
+        units,
+        paths,
+        refs.as_slice(),
+        texts.as_slice(),
+        guesses.as_slice(),
+    )?;
     let omitted = number_of(paths, no_path());
     let mut text = front;
     add_texts(alloc, Numbering::Files, paths, &mut text)?;

@@ -1,5 +1,5 @@
 //! Spells the records of inlined copies.
-ghost use Rattle.std.specs.Prelude.{◌≡◌, ◌++◌, ◌<◌, ◌≤◌, true, length, map, unwrap_or, OnOk};
+ghost use Rattle.std.specs.Prelude.{◌≡◌, ◌++◌, ◌<◌, ◌≤◌, true, length, map, unwrap_or, IfOk, OnOk};
 ghost use Rattle.std.specs.List.{list_all, slice_get};
 ghost use Rattle.sym_records.specs.Canon.{canon, canon_text};
 ghost use Rattle.sym_records.specs.Fields.{is_range};
@@ -44,12 +44,15 @@ fn fill_ranges(base: u64, spans: &[Span], ranges: &mut Vec<Extent>) -> Result<()
 }
 
 /// The FILE number of a call's path.
-fn file_number(numbers: Numbers<'_, '_>, unit: u32, path: Option<u32>) -> u32
-    ensures { result ≡ file_by (row_of numbers.entry.rows.now unit) numbers.entry.omitted path }
+fn file_number(numbers: Numbers<'_, '_>, unit: u32, path: Option<u32>) -> Result<u32, OutOfMemory>
+    ensures { IfOk result (λ number. number ≡ file_by (row_of numbers.entry.rows.now unit) numbers.entry.omitted path) }
 {
     match path {
-        Some(path) => numbers.rows.number(unit, path).number,
-        None => numbers.omitted,
+        Some(path) => {
+            let one = numbers.rows.number(unit, path)?;
+            Ok(one.number)
+        }
+        None => Ok(numbers.omitted),
     }
 }
 
@@ -70,7 +73,7 @@ fn add_copy(
 {
     records_of_functions_fit();
     let site = call_site(writer.units, unit, copy.entry);
-    let file = file_number(writer.numbers, unit, site.path);
+    let file = file_number(writer.numbers, unit, site.path)?;
     fill_ranges(writer.base, copy.spans.spans(), ranges)?;
     add_inline(text, copy.level, site.line, file, origin, ranges.as_slice())
 }

@@ -1,7 +1,6 @@
 //! The paths of lines.
 ghost use Rattle.std.specs.Prelude.{◌≡◌, ℕ, ◌<◌, List, ◌||◌, true, OnOk};
 ghost use Rattle.debug_units.specs.declared.unit_read.UnitRead.{UnitRead};
-ghost use Rattle.line_program.specs.LineMaps.{AreDistinct};
 ghost use Rattle.func_records.specs.internal.Gathering.{has_path};
 ghost use Rattle.func_records.specs.internal.Noting.{has_line, Noted, AddsLines};
 
@@ -57,7 +56,7 @@ fn note_before(
 /// Adds the paths of the lines from `start` up to `end`, from one stop of the table to the next.
 fn note_lines(
     unit: u32,
-    table: &LineTable,
+    table: &LineTable<'_>,
     start: u64,
     end: u64,
     paths: &mut PathList,
@@ -82,16 +81,6 @@ fn note_lines(
     Ok(())
 }
 
-/// No two numbers have the same path.
-#[tactic(auto, using(crate::proofs::LinePathLemmas::none_alike))]
-fn tell_apart(table: &LineTable)
-    ensures { AreDistinct table.now.paths }
-{
-    if table.path_count() > 0 {
-        let _path = table.path(0);
-    }
-}
-
 /// Adds the paths of a piece's lines.
 #[tactic(auto, using(crate::proofs::LinePathLemmas::adds_empty))]
 pub fn gather_lines(
@@ -109,6 +98,5 @@ pub fn gather_lines(
     }
     let table = part.lines.table();
     note_lines(piece.unit, table, piece.start, piece.end, paths)?;
-    tell_apart(table);
     Ok(())
 }

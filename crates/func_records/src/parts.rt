@@ -20,6 +20,7 @@ use die_names::{name_of, name_slice, name_text};
 use flat_lists::FlatLists;
 use func_flatten::{LineRun, Piece, lines_of};
 use inline_chain::InlineRun;
+use line_program::PathPair;
 use std::alloc::Global;
 use sym_edges::OutOfMemory;
 use sym_records::laws::{cleaned_bytes_are_names, records_of_functions_fit};
@@ -50,10 +51,10 @@ fn add_runs(
     let Some(first) = runs.first() else {
         return Ok(());
     };
-    let mut known = rows.number(unit, first.path);
+    let mut known = rows.number(unit, first.path)?;
     let mut rest = runs;
     'runs: while let Some((run, later)) = rest.split_first() {
-        known = rows.number_after(known, run.path);
+        known = rows.number_after(known, run.path)?;
         add_run(text, base, known.number, *run)?;
         rest = later;
     }
@@ -84,11 +85,12 @@ fn add_owner(
     add_func(text, piece.many, address, size, 0, made.as_slice())
 }
 
-/// Lists that are filled anew for each piece. They are kept to reuse their memory; what they hold does not matter.
+/// Lists and texts that are filled anew for each piece. They are kept to reuse their memory; what they hold does not matter.
 #[derive(Drop)]
 struct PartLists {
     ranges: Vec<Extent>,
     runs: Vec<LineRun>,
+    texts: PathPair,
 }
 
 /// Adds the records of a piece, its inlined copies and its lines.
@@ -108,7 +110,7 @@ fn add_part(
     add_owner(alloc, writer, piece, &mut text.last)?;
     let ranges = &mut lists.ranges;
     add_copies(writer, piece.unit, copies, origins, ranges, &mut text.last)?;
-    lines_of(writer.units, piece, &mut lists.runs)?;
+    lines_of(writer.units, piece, &mut lists.runs, &mut lists.texts)?;
     let runs = lists.runs.as_slice();
     let rows = writer.numbers.rows;
     add_runs(&mut text.last, writer.base, rows, piece.unit, runs)?;
@@ -133,6 +135,7 @@ pub fn add_parts(
     let mut lists = PartLists {
         ranges: Vec::new(alloc),
         runs: Vec::new(alloc),
+        texts: PathPair::new(alloc),
     };
     let mut rest = origins;
     'pieces: for place in 0..pieces.len() {

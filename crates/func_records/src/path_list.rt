@@ -9,6 +9,7 @@ ghost use Rattle.func_records.specs.internal.Gathering.{path_at, has_path};
 
 use clean_names::name_omitted;
 use debug_units::Units;
+use line_program::PathTexts;
 use place_guesses::PlaceGuesses;
 use std::alloc::Global;
 use std::marker::Model;
@@ -45,28 +46,37 @@ pub fn no_path() -> &'static [u8]
     name_omitted()
 }
 
-/// The path with this number in a unit's line table.
+/// The path with this number in a unit's line table, made in `texts`.
 #[tactic(auto, unfolding(func_flatten::specs::LineRuns::unit_paths))]
-fn path_in<'u>(units: &'u Units<'_>, unit: u32, path: u32) -> &'u [u8]
-    ensures { result.now ≡ path_in units.now unit path }
+pub fn path_in<'u>(
+    units: &'u Units<'_>,
+    unit: u32,
+    path: u32,
+    texts: &'u mut PathTexts,
+) -> Result<&'u [u8], OutOfMemory>
+    ensures { IfOk result (λ text. text.now ≡ path_in units.now unit path) }
 {
     let Some(part) = units.unit(unit) else {
-        return &[];
+        return Ok(&[]);
     };
     let table = part.lines.table();
     if path as usize >= table.path_count() {
-        return &[];
+        return Ok(&[]);
     }
-    table.path(path)
+    table.path(path, texts)
 }
 
-/// The text of a path.
-pub fn path_text<'u>(units: &'u Units<'_>, at: PathRef) -> &'u [u8]
-    ensures { result.now ≡ path_at units.now at }
+/// The text of a path, made in `texts`.
+pub fn path_text<'u>(
+    units: &'u Units<'_>,
+    at: PathRef,
+    texts: &'u mut PathTexts,
+) -> Result<&'u [u8], OutOfMemory>
+    ensures { IfOk result (λ text. text.now ≡ path_at units.now at) }
 {
     match at.path {
-        Some(path) => path_in(units, at.unit, path),
-        None => no_path(),
+        Some(path) => path_in(units, at.unit, path, texts),
+        None => Ok(no_path()),
     }
 }
 

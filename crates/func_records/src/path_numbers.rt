@@ -1,14 +1,15 @@
 //! The FILE numbers of the paths in use, found by the unit and the number in its line table.
-ghost use Rattle.std.specs.Prelude.{◌≡◌, ℕ, List, ◌<◌, ◌^◌, length, slice_get, unwrap_or, IfOk, IfSome};
+ghost use Rattle.std.specs.Prelude.{◌≡◌, ℕ, List, ◌<◌, ◌^◌, length, map, slice_get, unwrap_or, IfOk, IfSome};
 ghost use Rattle.std.specs.List.{All};
 ghost use Rattle.std.specs.List.Sorted.{IsStrictlySortedBy};
 ghost use Rattle.func_records.specs.internal.Texts.{text_cmp};
-ghost use Rattle.func_records.specs.internal.Gathering.{bytes_of};
+ghost use Rattle.func_records.specs.internal.Gathering.{bytes_of, path_at};
 ghost use Rattle.func_records.specs.internal.Spelling.{unit_numbers, row_of, IsNumbered};
 
-use crate::numbers::{number_guessed, number_in};
+use crate::numbers::{number_guessed, number_in, number_of};
 use crate::path_list::PathRef;
 use debug_units::Units;
+use line_program::PathTexts;
 use std::alloc::Global;
 use std::marker::Model;
 use std::thread::Threads;
@@ -27,43 +28,76 @@ pub struct NumberedPath {
 }
 
 /// The FILE number of a path of a unit: the number of its text among the sorted ones. It is 0 if
-/// the unit has no such path, or the text is not among them. The place `guess` is tried first.
+/// the unit has no such path, or the text is not among them.
 #[tactic(auto, using(crate::proofs::RowLemmas::no_unit, crate::proofs::RowLemmas::no_path_there, crate::proofs::RowLemmas::path_numbered))]
-fn number_in_table(units: &Units<'_>, sorted: &[&[u8]], unit: u32, path: u32, guess: u32) -> u32
+fn number_in_table(
+    alloc: Global,
+    units: &Units<'_>,
+    sorted: &[&[u8]],
+    unit: u32,
+    path: u32,
+) -> Result<u32, OutOfMemory>
     requires sorted { IsStrictlySortedBy text_cmp sorted.now }
     requires few { length sorted.now < 2 ^ 32 }
-    ensures { result ≡ unwrap_or (slice_get (row_of (unit_numbers (bytes_of sorted.now) units.now) unit) path) 0 }
+    ensures { IfOk result (λ number. number ≡ unwrap_or (slice_get (row_of (unit_numbers (bytes_of sorted.now) units.now) unit) path) 0) }
 {
     let Some(part) = units.unit(unit) else {
-        return 0;
+        return Ok(0);
     };
     let table = part.lines.table();
     if path as usize >= table.path_count() {
-        return 0;
+        return Ok(0);
     }
-    number_guessed(sorted, table.path(path), guess)
+    let mut texts = PathTexts::new(alloc);
+    let text = table.path(path, &mut texts)?;
+    Ok(number_of(sorted, text))
 }
 
-/// The FILE numbers of some paths. For each path its place in `guesses` is tried first.
+/// A path with its FILE number, given its text, if it is a path of a unit's table. The place `guess`
+/// is tried first.
+#[tactic(auto, using(crate::proofs::RowLemmas::ref_numbered))]
+fn number_ref(
+    units: &Units<'_>,
+    sorted: &[&[u8]],
+    at: PathRef,
+    text: &[u8],
+    guess: u32,
+) -> Option<NumberedPath>
+    requires sorted { IsStrictlySortedBy text_cmp sorted.now }
+    requires few { length sorted.now < 2 ^ 32 }
+    requires text { text.now ≡ path_at units.now at }
+    ensures { IfSome result (IsNumbered (unit_numbers (bytes_of sorted.now) units.now)) }
+{
+    let unit = at.unit;
+    let path = at.path?;
+    let part = units.unit(unit)?;
+    if path as usize >= part.lines.table().path_count() {
+        return None;
+    }
+    let number = number_guessed(sorted, text, guess);
+    Some(NumberedPath { unit, path, number })
+}
+
+/// The FILE numbers of some paths, given their texts. For each path its place in `guesses` is tried
+/// first.
 fn number_refs(
     alloc: Global,
     units: &Units<'_>,
     sorted: &[&[u8]],
     refs: &[PathRef],
+    texts: &[&[u8]],
     guesses: &[u32],
 ) -> Result<Vec<NumberedPath>, OutOfMemory>
     requires sorted { IsStrictlySortedBy text_cmp sorted.now }
     requires few { length sorted.now < 2 ^ 32 }
+    requires texts { bytes_of texts.now ≡ map (path_at units.now) refs.now }
     ensures { IfOk result (λ list. All (IsNumbered (unit_numbers (bytes_of sorted.now) units.now)) list.items) }
 {
     let mut list = Vec::with_capacity(alloc, refs.len())?;
     'refs: for place in 0..refs.len() {
-        let at = refs[place];
-        if let Some(path) = at.path {
-            let unit = at.unit;
-            let guess = number_in(guesses, place);
-            let number = number_in_table(units, sorted, unit, path, guess);
-            list.push(NumberedPath { unit, path, number })?;
+        let guess = number_in(guesses, place);
+        if let Some(one) = number_ref(units, sorted, refs[place], texts[place], guess) {
+            list.push(one)?;
         }
     }
     Ok(list)
@@ -110,6 +144,7 @@ fn spread(
 /// the Rust, C++ and C programs that were measured each path was there.
 #[derive(Drop)]
 pub struct PathNumbers<'n, 'a> {
+    alloc: Global,
     units: &'n Units<'a>,
     sorted: &'n [&'n [u8]],
     slots: Vec<NumberedPath>,
@@ -136,17 +171,20 @@ impl<'n, 'a> PathNumbers<'n, 'a> {
         units: &'n Units<'a>,
         sorted: &'n [&'n [u8]],
         refs: &[PathRef],
+        texts: &[&[u8]],
         guesses: &[u32],
     ) -> Result<PathNumbers<'n, 'a>, OutOfMemory>
         requires sorted { IsStrictlySortedBy text_cmp sorted.now }
         requires few { length sorted.now < 2 ^ 32 }
+        requires texts { bytes_of texts.now ≡ map (path_at units.now) refs.now }
         ensures { IfOk result (λ numbers. numbers ≡ unit_numbers (bytes_of sorted.now) units.now) }
     {
         let alloc = crew.alloc();
-        let mut list = number_refs(alloc, units, sorted, refs, guesses)?;
+        let mut list = number_refs(alloc, units, sorted, refs, texts, guesses)?;
         crew.sort(list.as_mut_slice())?;
         let (slots, origins) = spread(alloc, list.as_slice(), units.as_slice().len())?;
         Ok(PathNumbers {
+            alloc,
             units,
             sorted,
             slots,
@@ -169,9 +207,9 @@ impl<'n, 'a> PathNumbers<'n, 'a> {
 
     /// The FILE number of a path that is not where it is looked for first.
     #[inline(never)]
-    fn search(&self, unit: u32, path: u32) -> NumberedPath
-        ensures numbered { IsNumbered self.now result }
-        ensures same { (result.unit ≡ unit) × (result.path ≡ path) }
+    fn search(&self, unit: u32, path: u32) -> Result<NumberedPath, OutOfMemory>
+        ensures numbered { IfOk result (IsNumbered self.now) }
+        ensures same { IfOk result (λ one. (one.unit ≡ unit) × (one.path ≡ path)) }
     {
         let sought = NumberedPath {
             unit,
@@ -180,34 +218,34 @@ impl<'n, 'a> PathNumbers<'n, 'a> {
         };
         let place = self.slots.partition_point(|one| *one < sought);
         if let Some(one) = self.stored_at(place, unit, path) {
-            return one;
+            return Ok(one);
         }
-        let number = number_in_table(self.units, self.sorted, unit, path, 0);
-        NumberedPath { unit, path, number }
+        let number = number_in_table(self.alloc, self.units, self.sorted, unit, path)?;
+        Ok(NumberedPath { unit, path, number })
     }
 
     /// The FILE number of a path of a unit, or 0.
     #[inline(always)]
-    pub fn number(&self, unit: u32, path: u32) -> NumberedPath
-        ensures numbered { IsNumbered self.now result }
-        ensures same { (result.unit ≡ unit) × (result.path ≡ path) }
+    pub fn number(&self, unit: u32, path: u32) -> Result<NumberedPath, OutOfMemory>
+        ensures numbered { IfOk result (IsNumbered self.now) }
+        ensures same { IfOk result (λ one. (one.unit ≡ unit) × (one.path ≡ path)) }
     {
         let origin = self.origins.get(unit as usize).copied().unwrap_or(0);
         match self.stored_at(origin.wrapping_add(path as usize), unit, path) {
-            Some(one) => one,
+            Some(one) => Ok(one),
             None => self.search(unit, path),
         }
     }
 
     /// The FILE number of a path of the same unit as `last`, which is often the path itself.
     #[inline]
-    pub fn number_after(&self, last: NumberedPath, path: u32) -> NumberedPath
+    pub fn number_after(&self, last: NumberedPath, path: u32) -> Result<NumberedPath, OutOfMemory>
         requires numbered { IsNumbered self.now last }
-        ensures numbered { IsNumbered self.now result }
-        ensures same { (result.unit ≡ last.unit) × (result.path ≡ path) }
+        ensures numbered { IfOk result (IsNumbered self.now) }
+        ensures same { IfOk result (λ one. (one.unit ≡ last.unit) × (one.path ≡ path)) }
     {
         if last.path == path {
-            return last;
+            return Ok(last);
         }
         self.number(last.unit, path)
     }

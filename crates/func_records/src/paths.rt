@@ -1,6 +1,6 @@
 //! The paths that line records and calls name.
-ghost use Rattle.std.specs.Prelude.{◌≡◌, ℕ, List, length, map, IfOk, OnOk};
-ghost use Rattle.func_records.specs.internal.Gathering.{bytes_of, has_text, path_at, has_path, AddsPiece, Gathered};
+ghost use Rattle.std.specs.Prelude.{◌≡◌, ℕ, List, [], ◌∷◌, ◌++◌, length, map, IfOk, OnOk};
+ghost use Rattle.func_records.specs.internal.Gathering.{bytes_of, path_at, has_path, AddsPiece, Gathered};
 ghost use Rattle.func_records.specs.internal.Shares.{all_paths};
 
 use crate::call_paths::gather_calls;
@@ -11,11 +11,15 @@ use debug_units::Units;
 use flat_lists::FlatLists;
 use func_flatten::Piece;
 use inline_chain::InlineRun;
+use line_program::PathTexts;
 use std::alloc::Global;
 use sym_edges::OutOfMemory;
 
 /// The number of guesses for the paths of a share.
 const SLOTS: usize = 4096;
+
+/// How many bytes are allocated for each path at first; most paths are no longer.
+const USUAL: usize = 64;
 
 /// Adds the paths of a piece.
 #[tactic(auto, using(crate::proofs::LinePathLemmas::adds_piece))]
@@ -49,19 +53,45 @@ pub fn gather_paths(
     Ok(paths.into_refs())
 }
 
-/// The texts of some paths.
-fn texts_of<'u>(
-    alloc: Global,
-    units: &'u Units<'_>,
-    refs: &[PathRef],
-) -> Result<Vec<&'u [u8]>, OutOfMemory>
-    ensures { IfOk result (λ texts. bytes_of texts.items ≡ map (path_at units.now) refs.now) }
+/// Adds the text of a path to a list.
+fn add_text(
+    made: &mut FlatLists<u8>,
+    units: &Units<'_>,
+    at: PathRef,
+    texts: &mut PathTexts,
+) -> Result<(), OutOfMemory>
+    ensures { OnOk result (made.new ≡ made.old ++ path_at units.now at ∷ []) }
 {
-    let mut texts = Vec::with_capacity(alloc, refs.len())?;
+    let text = path_text(units, at, texts)?;
+    made.push(text)?;
+    Ok(())
+}
+
+/// The texts of some paths.
+fn make_texts(
+    alloc: Global,
+    units: &Units<'_>,
+    refs: &[PathRef],
+) -> Result<FlatLists<u8>, OutOfMemory>
+    ensures { IfOk result (λ made. made ≡ map (path_at units.now) refs.now) }
+{
+    let mut made = FlatLists::with_room(alloc, refs.len(), refs.len().saturating_mul(USUAL))?;
+    let mut texts = PathTexts::new(alloc);
     'refs: for place in 0..refs.len() {
-        texts.push(path_text(units, refs[place]))?;
+        add_text(&mut made, units, refs[place], &mut texts)?;
     }
-    Ok(texts)
+    Ok(made)
+}
+
+/// The lists as slices.
+pub fn slices_of<'u>(alloc: Global, lists: &'u FlatLists<u8>) -> Result<Vec<&'u [u8]>, OutOfMemory>
+    ensures { IfOk result (λ slices. bytes_of slices.items ≡ lists.now) }
+{
+    let mut slices = Vec::with_capacity(alloc, lists.len())?;
+    'lists: for place in 0..lists.len() {
+        slices.push(lists.at(place))?;
+    }
+    Ok(slices)
 }
 
 /// For each unit the number of paths in the units before it, plus 1; and the number of all paths, plus 1.
@@ -106,20 +136,21 @@ fn join_paths(
 
 /// The paths in use by their numbers, mostly once each, and their texts.
 #[derive(Drop)]
-pub struct UsedPaths<'u> {
+pub struct UsedPaths {
     pub refs: Vec<PathRef>,
-    pub texts: Vec<&'u [u8]>,
+    pub texts: FlatLists<u8>,
 }
 
 /// The paths that were found.
-pub fn used_paths<'u>(
+pub fn used_paths(
     alloc: Global,
-    units: &'u Units<'_>,
+    units: &Units<'_>,
     shares: &[FoundShare],
-) -> Result<UsedPaths<'u>, OutOfMemory>
-    ensures { IfOk result (λ used. (path : List ℕ) → has_text used.texts.items path ≡ has_path units.now (all_paths shares.now) path) }
+) -> Result<UsedPaths, OutOfMemory>
+    ensures same { IfOk result (λ used. (path : List ℕ) → has_path units.now used.refs.items path ≡ has_path units.now (all_paths shares.now) path) }
+    ensures texts { IfOk result (λ used. used.texts ≡ map (path_at units.now) used.refs.items) }
 {
     let refs = join_paths(alloc, units, shares)?.into_refs();
-    let texts = texts_of(alloc, units, refs.as_slice())?;
+    let texts = make_texts(alloc, units, refs.as_slice())?;
     Ok(UsedPaths { refs, texts })
 }

@@ -1,13 +1,13 @@
 -- The paths of a piece's lines, as they are noted from one stop of a line table to the next.
-use Rattle.std.specs.Prelude.{◌≡◌, ℕ, Bool, false, ◌||◌, List, length, map, Option, None, Some}
+use Rattle.std.specs.Prelude.{◌≡◌, ℕ, Bool, false, ◌||◌, List, map, Option, None, Some}
 use Rattle.std.specs.Str.{bytes_eq}
 use Rattle.step_maps.specs.Runs.{IsRuns, between}
-use Rattle.line_program.specs.LineMaps.{LineMap, numbered_line}
+use Rattle.line_program.specs.LineMaps.{LineMap, numbered_line, named_line}
 use Rattle.debug_units.specs.declared.unit_read.UnitRead.{UnitRead}
 use Rattle.func_flatten.specs.declared.piece.Piece.{Piece}
 use Rattle.func_flatten.specs.declared.line_run.LineRun.{LineRun}
-use Rattle.func_flatten.specs.LineRuns.{number_run, AreLineRuns}
-use Rattle.func_flatten.specs.internal.Growing.{AreKnown, Walks}
+use Rattle.func_flatten.specs.LineRuns.{path_run, unit_paths, AreStarted, AreLineRuns}
+use Rattle.func_flatten.specs.internal.Growing.{Walks}
 use Rattle.func_records.specs.FuncRecords.{path_in}
 use Rattle.func_records.specs.declared.path_list.PathRef.{PathRef}
 use Rattle.func_records.specs.internal.Gathering.{has_path, any_run}
@@ -21,15 +21,15 @@ has_line units unit (Some m) path = bytes_eq path (path_in units unit m.0)
 pub record Noting (table : LineMap) (unit start end : ℕ) (now : Option (ℕ × ℕ)) (rest : List ℕ) (old new : List PathRef) : Type 0 where
   pub reached : ℕ
   pub lines : List LineRun
-  pub walks : Walks (numbered_line table) (length table.paths) start end reached now rest lines
-  pub same : (units : List UnitRead) (path : List ℕ) → (has_path units new path || has_line units unit now path) ≡ ((has_path units old path || any_run units unit lines path) || has_line units unit now path)
+  pub walks : Walks table.paths (numbered_line table) start end reached now rest lines
+  pub same : (units : List UnitRead) (path : List ℕ) → unit_paths units unit ≡ table.paths → (has_path units new path || has_line units unit now path) ≡ ((has_path units old path || any_run units unit lines path) || has_line units unit now path)
 
 -- the new paths are the old ones and those of a line table's runs between two addresses
 pub record Noted (table : LineMap) (unit start end : ℕ) (old new : List PathRef) : Type 0 where
   pub lines : List LineRun
-  pub runs : IsRuns (between start end (numbered_line table)) (map number_run lines)
-  pub known : AreKnown (length table.paths) lines
-  pub same : (units : List UnitRead) (path : List ℕ) → has_path units new path ≡ (has_path units old path || any_run units unit lines path)
+  pub runs : IsRuns (between start end (λ a. named_line table.paths (numbered_line table a))) (map (path_run table.paths) lines)
+  pub starts : AreStarted (numbered_line table) lines
+  pub same : (units : List UnitRead) (path : List ℕ) → unit_paths units unit ≡ table.paths → has_path units new path ≡ (has_path units old path || any_run units unit lines path)
 
 -- the new paths are the old ones and those of a piece's runs
 pub record AddsLines (units : List UnitRead) (piece : Piece) (old new : List PathRef) : Type 0 where

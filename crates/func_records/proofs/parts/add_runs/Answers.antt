@@ -14,14 +14,14 @@ runs-preserved c =
     let row = row_of c.args.rows.now c.args.unit in
     let run = c.in-Some-split_first.run'.now in
     let split : c.runs.rest.now ≡ run ∷ c.in-Some-split_first.later.now = c.in-Some-split_first.ensures.cases.0 in
-    let number : c.number_after-known.result.number ≡ unwrap_or (slice_get row run.path) 0 =
-    c.number_after-known.ensures.numbered
-    ∙ ap (λ u. unwrap_or (slice_get (row_of c.args.rows.now u) c.number_after-known.result.path) 0) (c.number_after-known.ensures.same.0 ∙ c.runs.invariant.unit)
-    ∙ ap (λ p. unwrap_or (slice_get row p) 0) c.number_after-known.ensures.same.1 in
-    let line : Line (run.start - c.args.base) (run.end - run.start) run.line c.number_after-known.result.number ≡ line_by c.args.base row run = ap (Line (run.start - c.args.base) (run.end - run.start) run.line) number in
+    let number : c.in_ok-known-2.known.number ≡ unwrap_or (slice_get row run.path) 0 =
+    c.in_ok-known-2.ensures.numbered
+    ∙ ap (λ u. unwrap_or (slice_get (row_of c.args.rows.now u) c.in_ok-known-2.known.path) 0) (c.in_ok-known-2.ensures.same.0 ∙ c.runs.invariant.unit)
+    ∙ ap (λ p. unwrap_or (slice_get row p) 0) c.in_ok-known-2.ensures.same.1 in
+    let line : Line (run.start - c.args.base) (run.end - run.start) run.line c.in_ok-known-2.known.number ≡ line_by c.args.base row run = ap (Line (run.start - c.args.base) (run.end - run.start) run.line) number in
     record {
-      known = c.number_after-known.ensures.numbered;
-      unit = c.number_after-known.ensures.same.0 ∙ c.runs.invariant.unit;
+      known = c.in_ok-known-2.ensures.numbered;
+      unit = c.in_ok-known-2.ensures.same.0 ∙ c.runs.invariant.unit;
       text = record_more c.runs.text.items _ _ (line_by c.args.base row run) (map (line_by c.args.base row) c.in-Some-split_first.later.now) (ap (λ rs. c.runs.text.items ++ canon_text (map (line_by c.args.base row) rs)) (sym split) ∙ c.runs.invariant.text) (c.in_ok-add_run.ensures.text ∙ ap (λ l. c.runs.text.items ++ canon l) line);
       fit = λ later. c.runs.invariant.fit (rw split (both (sym (ap fields_fit line) ∙ c.in_ok-add_run.ensures.fit) later));
     }
