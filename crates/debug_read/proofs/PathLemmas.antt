@@ -1,13 +1,10 @@
 -- The paths of all line tables that are read are cleaned; for the law `paths_are_clean`.
 use Rattle.std.proofs.Common.{◌≡◌, ℕ, Bool, true, false, cond, nat_lt, length, map, drop, List, [], ◌∷◌, ◌++◌, Option, None, Some, unwrap_or, Result, Ok, Err, sym, subst}
-use Rattle.std.specs.List.{list_any}
-use Rattle.std.specs.Str.{bytes_eq}
 use Rattle.sym_edges.specs.Addresses.{Range}
 use Rattle.sym_edges.specs.Results.{◌>>=◌}
 use Rattle.sym_edges.specs.declared.located.Located.{Located}
 use Rattle.sym_edges.specs.declared.part.Sect.TheVariants.{Line}
 use Rattle.leb_cursor.specs.Ahead.{Ahead}
-use Rattle.clean_names.specs.Cleaning.{cleaned}
 use Rattle.elf_sections.specs.Image.{ImageParts}
 use Rattle.abbrev_units.specs.declared.fault.DwarfKind.{DwarfKind}
 use Rattle.abbrev_units.specs.declared.unit.Unit.{Unit}
@@ -19,7 +16,7 @@ use Rattle.line_program.specs.FileFields.{FileFields}
 use Rattle.line_program.specs.FileTables.{Tables, tables_at}
 use Rattle.line_program.specs.Headers.{table_at}
 use Rattle.line_program.specs.LineAt.{Lines}
-use Rattle.line_program.specs.LineMaps.{LineMap, with_path, paths_from}
+use Rattle.line_program.specs.LineMaps.{LineMap}
 use Rattle.line_program.specs.LineRows.{State, line_rows}
 use Rattle.line_program.specs.LineTables.{lines_of, lines_at, unit_lines}
 use Rattle.line_program.specs.Paths.{directories_of, file_path}
@@ -117,24 +114,9 @@ units_clean sections (unit ∷ units) =
     also_holds SaysClean AllSayClean (unit_says sections unit) _ (says_clean sections unit) (λ says clean.
     made_holds AllSayClean AllSayClean (each_of (unit_says sections) units) (λ rest. says ∷ rest) (units_clean sections units) (λ rest all. (clean, all)))
 
--- Each path is listed once.
-with_clean : (paths : List (List ℕ)) (path : List ℕ) (there : Bool) → AreClean paths → cleaned path ≡ path → AreClean (cond there paths (paths ++ path ∷ []))
-with_clean paths path true clean is = clean
-with_clean paths path false clean is = push paths clean
-  where
-    push : (ps : List (List ℕ)) → AreClean ps → AreClean (ps ++ path ∷ [])
-    push [] all = (is, tt)
-    push (p ∷ ps) all = (all.0, push ps all.1)
-
-paths_clean : (paths files : List (List ℕ)) → AreClean paths → AreClean files → AreClean (paths_from paths files)
-unfolding paths_from
-paths_clean paths [] clean all = clean
-paths_clean paths (file ∷ files) clean all =
-    paths_clean (with_path paths file) files (with_clean paths file (list_any (λ other. bytes_eq file other) paths) clean all.0) all.1
-
 -- The paths that are kept.
 kept_clean : (code : List Range) (asked : Bool) (lines : Option Lines) (kept : LineMap) → MayHaveClean lines → KeepsLines code asked lines kept → AreClean kept.paths
-kept_clean code true (Some lines) kept clean says = subst AreClean (sym says.paths) (paths_clean [] lines.files tt clean)
+kept_clean code true (Some lines) kept clean says = subst AreClean (sym says.paths) clean
 kept_clean code true None kept clean says = subst (λ (m : LineMap). AreClean m.paths) (sym says) tt
 kept_clean code false lines kept clean says = subst (λ (m : LineMap). AreClean m.paths) (sym says) tt
 

@@ -42,13 +42,13 @@ pub fn comp_dir_of<'a>(root: &Root<'a>) -> &'a [u8]
 }
 
 /// Reads the line table at the offset that a root gives.
-pub fn read_table(
+pub fn read_table<'a>(
     alloc: Global,
-    sections: &Sections<'_>,
-    root: &Root<'_>,
+    sections: &Sections<'a>,
+    root: &Root<'a>,
     offset: u64,
     code: &Enclosing,
-) -> Result<LineTable, Stop<DwarfFault>>
+) -> Result<LineTable<'a>, Stop<DwarfFault>>
     ensures { MatchStop result
         (λ table. (spans : List Range) → EncloseAlike code.now spans → SaysTable (encloses spans) (unit_lines sections.now offset root.now.at (unwrap_or root.now.comp_dir [])) table)
         (λ fault. unit_lines sections.now offset root.now.at (unwrap_or root.now.comp_dir []) ≡ Err fault)

@@ -32,10 +32,10 @@ pub struct TableName<'a> {
 /// What was read at an offset: nothing, since the offset is outside of the section; a line table
 /// without a fault, whose lines are kept or not; or a line table with a fault.
 #[derive(Drop)]
-pub enum TableRead {
+pub enum TableRead<'a> {
     Outside,
     Sound,
-    Whole(SharedLines),
+    Whole(SharedLines<'a>),
     Refused(DwarfFault),
 }
 
@@ -43,12 +43,16 @@ pub enum TableRead {
 #[derive(Drop)]
 pub struct NamedTable<'a> {
     pub name: TableName<'a>,
-    pub read: TableRead,
+    pub read: TableRead<'a>,
 }
 
 /// What is kept of a line table without a fault.
-fn keep_table(alloc: Global, table: LineTable, kept: bool) -> Result<TableRead, OutOfMemory>
-    ensures { IfOk result (λ read. (code : List Range) (sections : DebugSections) (offset : ℕ) (comp_dir : List ℕ) → WholeBy code sections offset comp_dir table → TableBy code sections offset comp_dir read) }
+fn keep_table<'a>(
+    alloc: Global,
+    table: LineTable<'a>,
+    kept: bool,
+) -> Result<TableRead<'a>, OutOfMemory>
+    ensures { IfOk result (λ read. (code : List Range) (sections : DebugSections) (offset : ℕ) (comp_dir : List ℕ) → WholeBy code sections offset comp_dir table.entry → TableBy code sections offset comp_dir read) }
 {
     if !kept {
         return Ok(TableRead::Sound);

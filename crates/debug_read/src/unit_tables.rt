@@ -37,16 +37,16 @@ struct KnownTables<'s, 'a> {
     sections: &'s Sections<'a>,
     code: &'s Enclosing,
     tables: Vec<NamedTable<'a>>,
-    empty: SharedLines,
+    empty: SharedLines<'a>,
 }
 
 /// What a unit keeps of a line table: the table if the unit has a function, otherwise an empty
 /// table.
-fn keep_lines(
-    known: &KnownTables<'_, '_>,
-    lines: &SharedLines,
+fn keep_lines<'a>(
+    known: &KnownTables<'_, 'a>,
+    lines: &SharedLines<'a>,
     function: bool,
-) -> Result<SharedLines, OutOfMemory>
+) -> Result<SharedLines<'a>, OutOfMemory>
     requires { AreKnown known.now }
     ensures { IfOk result (λ kept. kept ≡ (if function then lines.now else no_lines)) }
 {
@@ -57,13 +57,13 @@ fn keep_lines(
 }
 
 /// Reads the line table at the offset that a root gives, for that unit alone.
-fn own_lines(
+fn own_lines<'a>(
     alloc: Global,
-    known: &KnownTables<'_, '_>,
-    root: &Root<'_>,
+    known: &KnownTables<'_, 'a>,
+    root: &Root<'a>,
     offset: u64,
     function: bool,
-) -> Result<Result<SharedLines, DwarfFault>, OutOfMemory>
+) -> Result<Result<SharedLines<'a>, DwarfFault>, OutOfMemory>
     requires known { AreKnown known.now }
     requires offset { root.now.stmt_list ≡ Some offset }
     ensures { IfOk result (λ read. (spans : List Range) → EncloseAlike known.now.code.now spans → LinesAre spans known.now.sections.now root.now function read) }
@@ -81,12 +81,12 @@ fn own_lines(
 
 /// The lines that a unit keeps, or the fault of its table; `function` says whether the unit has a
 /// function.
-fn lines_of(
+fn lines_of<'a>(
     alloc: Global,
-    known: &KnownTables<'_, '_>,
-    root: &Root<'_>,
+    known: &KnownTables<'_, 'a>,
+    root: &Root<'a>,
     function: bool,
-) -> Result<Result<SharedLines, DwarfFault>, OutOfMemory>
+) -> Result<Result<SharedLines<'a>, DwarfFault>, OutOfMemory>
     requires { AreKnown known.now }
     ensures { IfOk result (λ read. (spans : List Range) → EncloseAlike known.now.code.now spans → LinesAre spans known.now.sections.now root.now function read) }
 {
