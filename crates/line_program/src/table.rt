@@ -204,12 +204,7 @@ impl<'a> LineTable<'a> {
     }
 
     /// Whether a number has this path, which is made in `texts`.
-    fn has_path(
-        &self,
-        number: u32,
-        path: &[u8],
-        texts: &mut PathTexts,
-    ) -> Result<bool, OutOfMemory>
+    fn has_path(&self, number: u32, path: &[u8], texts: &mut PathTexts) -> Result<bool, OutOfMemory>
         requires { number < length self.now.paths }
         ensures { IfOk result (λ same. same ≡ bytes_eq path.now (path_numbered self.now number)) }
     {
