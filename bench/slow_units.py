@@ -91,15 +91,13 @@ def files_in(path, count, directory):
     functions_of_lines(path, 1, 5, b"\x01\x01\x08\x01" + directory + b"\0\x01\x01\x08" + leb(count) + names, 4)
 
 
-def files_of_a_long_directory(path, scale):
-    files_in(path, 2_500 * scale, b"/" + b"d" * 65_000)
-
-
-def files_of_spaces(path, scale):
-    """The slash of the directory is in front of the spaces, so they stay in the paths."""
-    count = 5_000 * scale
-    names = b"".join(struct.pack("<I", k) for k in range(count))
-    functions_of_lines(path, 1, 5, b"\x01\x01\x08\x01/\0\x01\x01\x0e" + leb(count) + names, 4, b" " * (15_000 * scale) + b"a.c\0")
+def files_that_lines_name(path, scale):
+    """Each row of the function is of another file, and the text has the paths of all."""
+    count = 2_500 * scale
+    tables = b"\x01\x01\x08\x01/" + b"d" * 65_000 + b"\0\x01\x01\x08" + leb(count) + b"".join(b"%d.c\0" % k for k in range(count))
+    rows = b"".join(b"\x04" + leb(k) + b"\x21" for k in range(count))
+    entries = b"\x01" + struct.pack("<I", 0) + b"\x02" + struct.pack("<QQ", CODE, count) + b"f\0\0"
+    units(path, unit(entries), b"\x01\x11\x01\x10\x17\0\0" + FUNCTION + b"\0", line_table(5, tables, sequence(CODE, rows)))
 
 
 def lines_in_lines(path, scale):
@@ -160,9 +158,8 @@ def functions_of_one_address(path, scale):
 
 
 CASES = (
-    ("10,000 files in a directory of 65,000 bytes", files_of_a_long_directory),
+    ("10,000 lines that name as many files in a directory of 65,000 bytes", files_that_lines_name),
     ("4,000 functions whose lists begin at other places of one list of as many ranges", lists_in_a_list),
-    ("20,000 files whose names begin with 40,000 to 60,000 spaces", files_of_spaces),
     ("8,000 units whose abbreviations begin at other places of one list", abbreviations_in_a_list),
     ("8,000 units with a function whose line tables lie inside one another", lines_in_lines),
     ("20,000 functions whose names are ends of one text of 65,536 bytes with a control byte", functions_with_a_control_byte),
