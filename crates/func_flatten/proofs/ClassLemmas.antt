@@ -1,5 +1,5 @@
 -- Where functions with different names have the same address.
-use Rattle.std.proofs.Common.{◌≡◌, ℕ, zero, suc, ◌+◌, ◌-◌, ◌<◌, ◌≤◌, ◌==◌, Bool, true, false, not, ◌&&◌, nat_le, nat_lt, map, List, [], ◌∷◌, ◌++◌, Option, None, Some, arith, refl, sym, ap, ◌∙◌, subst, length, get_or, take, drop, set}
+use Rattle.std.proofs.Common.{◌≡◌, ℕ, zero, suc, ◌+◌, ◌-◌, ◌<◌, ◌≤◌, ◌==◌, Bool, true, false, not, ◌&&◌, nat_le, nat_lt, if◌then◌else◌, map, List, [], ◌∷◌, ◌++◌, Option, None, Some, arith, refl, sym, ap, ◌∙◌, subst, length, get_or, take, drop, set}
 use Rattle.std.proofs.lemmas.Bool.Decides.{nat_tests}
 use Rattle.std.proofs.lemmas.List.Edits.{map_over_more}
 use Rattle.std.proofs.lemmas.Map.Views.{any-filter_same}
@@ -26,10 +26,12 @@ use Rattle.step_maps.specs.SpanStretches.{span_stretches}
 use Rattle.func_flatten.specs.internal.Collecting.{function_stretches, own_class}
 use Rattle.func_flatten.specs.internal.Standing.{IsCollected}
 use Rattle.func_flatten.specs.internal.MetNames.{AreNamed, IsClass}
+use Rattle.func_flatten.specs.internal.Repeats.{AreOwn, Represents}
 use Rattle.func_flatten.specs.internal.Classes.{number_name, has_other_name, shared_starts, reaches_any, classed, shared_in, marked, TellMany, AreNamedCovers}
 use Rattle.func_flatten.proofs.FunctionLemmas.{many_is, other_name_is}
 use Rattle.func_flatten.proofs.StandLemmas.{name_get}
 use Rattle.func_flatten.proofs.PieceLemmas.{stand_all}
+use Rattle.func_flatten.proofs.RepeatLemmas.{own_joined, other_kept}
 
 -- An address has a stretch of another name exactly if it has a function with another name.
 other_is : (units : List UnitRead) (places : List EntryRef) (stretches : List Stretch) (low a : ℕ) → IsCollected units places stretches low [] → has_other_name (number_name units places) stretches a ≡ is_many units a
@@ -48,18 +50,21 @@ of_found : (P : Stretch → Type 0) (test : Stretch → Bool) (items : List Stre
 of_found P test [] s all is = absurd (cc)
 of_found P test (t ∷ items) s all is = grind (arith, nat_tests, is, all.0, of_found P test items s all.1)
 
-of_joined : (P : Stretch → Type 0) (xs ys : List Stretch) → AllOf P xs → AllOf P ys → AllOf P (xs ++ ys)
-of_joined P [] ys p q = q
-of_joined P (x ∷ xs) ys p q = (p.0, of_joined P xs ys p.1 q)
-
 -- Each stretch has the number of its function as its class.
-own_spans : (k : ℕ) (spans : List Range) → AllOf (λ t. t.class ≡ t.index) (span_stretches k k spans)
+own_spans : (k : ℕ) (spans : List Range) → AreOwn (span_stretches k k spans)
 own_spans k [] = tt
 own_spans k (r ∷ spans) = (refl, own_spans k spans)
 
-own_classes : (k : ℕ) (functions : List Covering) → AllOf (λ t. t.class ≡ t.index) (function_stretches own_class k functions)
+own_classes : (k : ℕ) (functions : List Covering) → AreOwn (function_stretches own_class k functions)
 own_classes k [] = tt
-own_classes k (c ∷ functions) = of_joined (λ t. t.class ≡ t.index) (span_stretches k k c.spans) (function_stretches own_class (k + 1) functions) (own_spans k c.spans) (own_classes (k + 1) functions)
+own_classes k (c ∷ functions) = own_joined (span_stretches k k c.spans) (function_stretches own_class (k + 1) functions) (own_spans k c.spans) (own_classes (k + 1) functions)
+
+pub own_collected : (units : List UnitRead) (places : List EntryRef) (stretches : List Stretch) → (low : ℕ) × IsCollected units places stretches low [] → AreOwn stretches
+own_collected units places stretches c = subst AreOwn (sym c.1.stretched) (own_classes 0 c.1.functions)
+
+own_all : (items : List Stretch) → AreOwn items → AllOf (λ t. t.class ≡ t.index) items
+own_all [] own = tt
+own_all (s ∷ items) own = (own.0, own_all items own.1)
 
 finer_any : (name : ℕ → List ℕ) (s : Stretch) (a : ℕ) (items : List Stretch) → s.class ≡ s.index → AllOf (λ t. t.class ≡ t.index) items → list_any (λ t. reaches t a && not (t.class == s.class)) items ≡ false → list_any (λ t. reaches t a && not (bytes_eq (name t.index) (name s.index))) items ≡ false
 finer_any name s a [] own all none = refl
@@ -80,9 +85,9 @@ found_kept keep a [] all = refl
 found_kept keep a (s ∷ items) all = grind (arith, nat_tests, all s, found_kept keep a items all)
 
 -- The stretches that are kept show whether there is another name.
-other_kept : (name : ℕ → List ℕ) (keep : Stretch → Bool) (a : ℕ) (items : List Stretch) → ((s : Stretch) → reaches s a ≡ true → keep s ≡ true) → has_other_name name (filter keep items) a ≡ has_other_name name items a
+other_filtered : (name : ℕ → List ℕ) (keep : Stretch → Bool) (a : ℕ) (items : List Stretch) → ((s : Stretch) → reaches s a ≡ true → keep s ≡ true) → has_other_name name (filter keep items) a ≡ has_other_name name items a
 unfolding has_other_name first_at
-other_kept name keep a items all =
+other_filtered name keep a items all =
     ap (λ o. option_map_or (λ s. list_any (λ t. reaches t a && not (bytes_eq (name t.index) (name s.index))) (filter keep items)) o false) (found_kept keep a items all)
     ∙ go (find (λ s. reaches s a) items)
   where
@@ -179,22 +184,23 @@ shared_item items a = go (first_at items a)
     go (Some s) = refl
 
 -- What is found at the first address of a shared cover shows whether names differ.
-found_other : (units : List UnitRead) (places : List EntryRef) (stretches kept named : List Stretch) (addresses : List ℕ) (items : Stepping (Option FirstItem)) (low a : ℕ) → IsCollected units places stretches low []
-    → kept ≡ filter (reaches_any addresses) stretches → (class : ℕ → ℕ) × IsClass (number_name units places) class kept × (named ≡ map (classed class) kept) → value_at None items a ≡ first_item named a → IsKept addresses a → shared_in (value_at None items a) ≡ is_many units a
-found_other units places stretches kept named addresses items low a c keeps classes found all =
+found_other : (units : List UnitRead) (places : List EntryRef) (stretches single kept named : List Stretch) (addresses : List ℕ) (items : Stepping (Option FirstItem)) (low a : ℕ) → IsCollected units places stretches low []
+    → Represents (number_name units places) stretches single → kept ≡ filter (reaches_any addresses) single → (class : ℕ → ℕ) × IsClass (number_name units places) class kept × (named ≡ map (classed class) kept) → value_at None items a ≡ first_item named a → IsKept addresses a → shared_in (value_at None items a) ≡ is_many units a
+found_other units places stretches single kept named addresses items low a c r keeps classes found all =
     ap shared_in found
     ∙ shared_item named a
     ∙ ap (λ l. is_shared l a) classes.2
     ∙ shared_classed (number_name units places) classes.0 kept a classes.1
     ∙ ap (λ l. has_other_name (number_name units places) l a) keeps
-    ∙ other_kept (number_name units places) (reaches_any addresses) a stretches all
+    ∙ other_filtered (number_name units places) (reaches_any addresses) a single all
+    ∙ other_kept (number_name units places) stretches single a r
     ∙ other_is units places stretches low a c
 
 -- If a cover is not shared, there is no other name.
-found_none : (units : List UnitRead) (places : List EntryRef) (stretches : List Stretch) (low a : ℕ) → IsCollected units places stretches low [] → is_shared stretches a ≡ false → is_many units a ≡ false
-found_none units places stretches low a c none =
-    sym (other_is units places stretches low a c)
-    ∙ other_none (number_name units places) stretches a (subst (λ l. AllOf (λ t. t.class ≡ t.index) l) (sym c.stretched) (own_classes 0 c.functions)) none
+found_none : (units : List UnitRead) (places : List EntryRef) (stretches single : List Stretch) (low a : ℕ) → IsCollected units places stretches low [] → Represents (number_name units places) stretches single → AreOwn single → is_shared single a ≡ false → is_many units a ≡ false
+found_none units places stretches single low a c r own none =
+    sym (other_kept (number_name units places) stretches single a r ∙ other_is units places stretches low a c)
+    ∙ other_none (number_name units places) single a (own_all single own) none
 
 abbrev AreLow : List Cover → Type 0
 AreLow [] = Unit {0}
@@ -215,15 +221,20 @@ marked_runs : (items : Stepping (Option FirstItem)) (covers : List Cover) → ma
 marked_runs items [] = refl
 marked_runs items (c ∷ covers) = ap (λ l. cover_run c ∷ l) (marked_runs items covers)
 
+index_kept : (name : ℕ → List ℕ) (items kept : List Stretch) (a : ℕ) → Represents name items kept → between 0 18446744073709551616 (index_at kept) a ≡ between 0 18446744073709551616 (index_at items) a
+unfolding index_at
+index_kept name items kept a r = ap (λ o. if nat_le 0 a && nat_lt a 18446744073709551616 then option_map (λ s. s.index) o else None) (r.first a)
+
 -- The covers, marked by what was found among the stretches that are kept.
-pub covers_named : (units : List UnitRead) (places : List EntryRef) (stretches kept named : List Stretch) (covers : List Cover) (items : Stepping (Option FirstItem)) → (low : ℕ) × IsCollected units places stretches low [] → AreCovers stretches covers
-    → kept ≡ filter (reaches_any (shared_starts covers)) stretches → (class : ℕ → ℕ) × IsClass (number_name units places) class kept × (named ≡ map (classed class) kept) → ((a : ℕ) → a < 18446744073709551616 → value_at None items a ≡ first_item named a)
+pub covers_named : (units : List UnitRead) (places : List EntryRef) (stretches single kept named : List Stretch) (covers : List Cover) (items : Stepping (Option FirstItem)) → (low : ℕ) × IsCollected units places stretches low [] → Represents (number_name units places) stretches single → AreOwn single → AreCovers single covers
+    → kept ≡ filter (reaches_any (shared_starts covers)) single → (class : ℕ → ℕ) × IsClass (number_name units places) class kept × (named ≡ map (classed class) kept) → ((a : ℕ) → a < 18446744073709551616 → value_at None items a ≡ first_item named a)
     → AreNamedCovers units stretches (map (marked items) covers)
-covers_named units places stretches kept named covers items c is keeps classes found = record {
-  runs = subst (λ l. IsRuns (between 0 18446744073709551616 (index_at stretches)) l) (sym (marked_runs items covers)) is.runs;
-  marks = tell_all units stretches items (shared_starts covers) covers (λ a none. found_none units places stretches c.0 a c.1 none)
-      (λ a low all. found_other units places stretches kept named (shared_starts covers) items c.0 a c.1 keeps classes (found a low) all)
-      is.marks (kept_starts covers) (low_all (index_at stretches) covers (maximal (between 0 18446744073709551616 (index_at stretches)) (map cover_run covers) is.runs));
+covers_named units places stretches single kept named covers items c r own is keeps classes found = record {
+  runs = subst (λ l. IsRuns (between 0 18446744073709551616 (index_at stretches)) l) (sym (marked_runs items covers))
+      (record { apart = is.runs.apart; values = λ a. is.runs.values a ∙ index_kept (number_name units places) stretches single a r });
+  marks = tell_all units single items (shared_starts covers) covers (λ a none. found_none units places stretches single c.0 a c.1 r own none)
+      (λ a low all. found_other units places stretches single kept named (shared_starts covers) items c.0 a c.1 r keeps classes (found a low) all)
+      is.marks (kept_starts covers) (low_all (index_at single) covers (maximal (between 0 18446744073709551616 (index_at single)) (map cover_run covers) is.runs));
 }
 
 none_past : (addresses : List ℕ) (s : Stretch) → ((k : ℕ) → k < length addresses → s.last < get_or addresses k 0) → reaches_any addresses s ≡ false

@@ -3,6 +3,7 @@ pub mod CollectLemmas
 pub mod MappedRuns
 pub mod FunctionLemmas
 pub mod PieceLemmas
+pub mod RepeatLemmas
 pub mod ClassLemmas
 pub mod NameLemmas
 pub mod BlockLemmas

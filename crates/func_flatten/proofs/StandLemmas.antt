@@ -14,7 +14,7 @@ use Rattle.func_flatten.specs.internal.Collecting.{has_address}
 use Rattle.func_flatten.specs.internal.Classes.{place_at, number_name}
 use Rattle.func_flatten.specs.internal.Standing.{any_name, StandFor, place_key, Rise, set_in, AreThere}
 
-no_more : (o : Option Covering) → option_or o None ≡ o
+pub no_more : {A : Type 0} (o : Option A) → option_or o None ≡ o
 no_more None = refl
 no_more (Some c) = refl
 
@@ -31,12 +31,12 @@ stand_more name all kept c s = record {
       ∙ sym (list_any-append (λ d. has_address a d && not (bytes_eq (name d) text)) all (c ∷ []));
 }
 
-any_here : (test : Covering → Bool) (kept : List Covering) (k : ℕ) (f : Covering) → slice_get kept k ≡ Some f → test f ≡ true → list_any test kept ≡ true
+pub any_here : {A : Type 0} (test : A → Bool) (kept : List A) (k : ℕ) (f : A) → slice_get kept k ≡ Some f → test f ≡ true → list_any test kept ≡ true
 any_here test [] k f there is = absurd (cc)
 any_here test (d ∷ kept) zero f there is = grind (arith, nat_tests, there, is)
 any_here test (d ∷ kept) (suc k) f there is = grind (arith, nat_tests, any_here test kept k f there is)
 
-first_kept : (test : Covering → Bool) (kept : List Covering) (o : Option Covering) → list_any test kept ≡ true → option_or (find test kept) o ≡ find test kept
+pub first_kept : {A : Type 0} (test : A → Bool) (kept : List A) (o : Option A) → list_any test kept ≡ true → option_or (find test kept) o ≡ find test kept
 first_kept test [] o any = absurd (cc)
 first_kept test (d ∷ kept) o any = grind (arith, nat_tests, any, first_kept test kept o)
 

@@ -4,6 +4,7 @@ pub mod Classes
 pub mod Growing
 pub mod Grouping
 pub mod Standing
+pub mod Repeats
 pub mod NameBlocks
 pub mod ScopeFronts
 pub mod MetNames

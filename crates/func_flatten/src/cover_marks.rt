@@ -10,6 +10,7 @@ ghost use Rattle.func_flatten.specs.internal.Classes.{shared_starts, reaches_any
 
 use crate::functions::Collected;
 use crate::name_classes::with_classes;
+use crate::repeats::without_repeats;
 use debug_units::Units;
 use std::alloc::{AllocError, Global};
 use step_maps::{Cover, CoverList, FirstItem, StepMap, Stretch, covers, first_items};
@@ -105,7 +106,8 @@ pub fn named_covers(
     requires fit { AreFit all.now.stretches.items }
     ensures { IfOk result (λ covers. AreNamedCovers units.now all.now.stretches.items covers) }
 {
-    let stretches = all.stretches.as_slice();
+    let single = without_repeats(alloc, units, all.places.as_slice(), all.stretches.as_slice())?;
+    let stretches = single.as_slice();
     let apart = covers(alloc, stretches)?;
     let starts = shared_starts(alloc, apart.as_slice())?;
     let kept = stretches_at(alloc, starts.as_slice(), stretches)?;

@@ -28,6 +28,7 @@ mod name_met;
 mod owners;
 mod piece;
 mod public;
+mod repeats;
 mod scope_keys;
 mod set_owners;
 mod uncovered;

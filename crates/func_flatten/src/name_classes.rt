@@ -25,7 +25,7 @@ struct Names<'a> {
 }
 
 /// The entry of the function with a number.
-fn place_at(places: &[EntryRef], number: u32) -> EntryRef
+pub(crate) fn place_at(places: &[EntryRef], number: u32) -> EntryRef
     ensures { result ≡ place_at places.now number }
 {
     match places.get(number as usize) {
