@@ -5,9 +5,6 @@ use Rattle.std.specs.List.{slice_get}
 use Rattle.sym_edges.specs.Addresses.{Range}
 use Rattle.sym_edges.specs.Results.{◌>>=◌}
 use Rattle.sym_edges.specs.declared.located.Located.{Located}
-use Rattle.sym_edges.specs.declared.fault.Stop.{Stop}
-use Rattle.sym_edges.specs.declared.fault.Stop.TheVariants.{Fault, NoMemory}
-use Rattle.sym_edges.specs.Outside.{MatchStop}
 use Rattle.abbrev_units.specs.declared.fault.DwarfKind.{DwarfKind}
 use Rattle.abbrev_units.specs.declared.unit.Unit.{Unit}
 use Rattle.abbrev_units.specs.DebugSections.{DebugSections}

@@ -1,6 +1,6 @@
 -- A line table has the same faults, whichever unit names it; for src/named_tables.rt and
 -- src/unit_tables.rt.
-use Rattle.std.proofs.Common.{◌≡◌, ◌≤◌, ℕ, nat_lt, Bool, true, false, cond, if◌then◌else◌, List, [], drop, length, Option, Some, unwrap_or, Result, Ok, Err, refl, sym, ap, subst, ◌∙◌, arith}
+use Rattle.std.proofs.Common.{◌≡◌, ◌≤◌, ℕ, nat_lt, Bool, true, false, cond, if◌then◌else◌, List, [], drop, length, Some, unwrap_or, Result, Ok, Err, refl, sym, ap, subst, ◌∙◌, arith}
 use Rattle.std.proofs.lemmas.Bool.{cond-false, le-ltb}
 use Rattle.sym_edges.specs.Addresses.{Range}
 use Rattle.sym_edges.specs.Results.{◌>>=◌}
@@ -24,13 +24,12 @@ use Rattle.line_program.specs.LineMaps.{LineMap, EncloseAlike, no_lines}
 use Rattle.line_program.specs.LineRows.{State, line_rows}
 use Rattle.line_program.specs.LineTables.{lines_of, lines_at, unit_lines, Says as SaysTable}
 use Rattle.debug_read.specs.Each.{Says}
-use Rattle.debug_read.specs.UnitSays.{lines_by, root_lines}
+use Rattle.debug_read.specs.UnitSays.{root_lines}
 use Rattle.debug_read.specs.UnitsRead.{KeepsLines}
 use Rattle.debug_read.specs.declared.named_tables.NamedTable.{NamedTable}
 use Rattle.debug_read.specs.declared.named_tables.TableName.{TableName}
-use Rattle.debug_read.specs.declared.named_tables.TableRead.{TableRead}
 use Rattle.debug_read.specs.declared.named_tables.TableRead.TheVariants.{Sound, Whole, Refused}
-use Rattle.debug_read.specs.internal.Owing.{IsOk, IsSound, IsRefused, WholeBy, TableBy, IsTable, IsFor}
+use Rattle.debug_read.specs.internal.Owing.{IsOk, IsSound, IsRefused, WholeBy, IsTable, IsFor}
 use Rattle.debug_read.proofs.LineLemmas.{table_kept, table_refused}
 
 abbrev LineFault : Type 0

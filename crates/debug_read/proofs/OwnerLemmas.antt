@@ -1,11 +1,11 @@
 -- The addresses that functions own are code; for the law `owners_are_code`.
-use Rattle.std.proofs.Common.{◌≡◌, ℕ, ◌+◌, ◌≤◌, Bool, true, false, ◌&&◌, ◌||◌, nat_le, nat_lt, cond, List, [], ◌∷◌, ◌++◌, Some, arith, refl, sym, ◌∙◌}
+use Rattle.std.proofs.Common.{◌≡◌, ℕ, ◌+◌, ◌≤◌, Bool, true, ◌&&◌, List, [], ◌∷◌, ◌++◌, Some, arith}
 use Rattle.std.proofs.lemmas.Bool.Decides.{nat_tests}
 use Rattle.std.specs.List.{find, list_any}
 use Rattle.sym_edges.specs.Addresses.{Range}
 use Rattle.elf_sections.specs.Image.{ImageParts}
 use Rattle.range_set.specs.Enclosing.{encloses}
-use Rattle.range_set.specs.Members.{holds, holds_any}
+use Rattle.range_set.specs.Members.{holds_any}
 use Rattle.range_set.specs.Starts.{AllFrom}
 use Rattle.range_lists.specs.EntryRanges.{in_pairs}
 use Rattle.die_walk.specs.EntryTable.{DieFields}

@@ -1,5 +1,5 @@
 -- What is kept of units gives the same owners, chains and lines as what the units say; for the law.
-use Rattle.std.proofs.Common.{◌≡◌, ℕ, zero, suc, ◌+◌, ◌^◌, ◌<◌, ◌≤◌, ◌&&◌, ◌||◌, Bool, true, false, cond, List, [], ◌∷◌, ◌++◌, map, Option, None, Some, option_map, arith, refl, sym, ap, subst, ◌∙◌}
+use Rattle.std.proofs.Common.{◌≡◌, ℕ, zero, suc, ◌+◌, ◌^◌, ◌<◌, ◌≤◌, ◌&&◌, Bool, true, false, List, [], ◌∷◌, ◌++◌, map, Option, None, Some, option_map, arith, refl, sym, ap, ◌∙◌}
 use Rattle.std.specs.Prelude.{◌==◌, option_and_then}
 use Rattle.std.specs.List.{find, slice_get, list_any}
 use Rattle.std.specs.Option.{option_map_or, option_or}
@@ -8,7 +8,7 @@ use Rattle.std.proofs.lemmas.List.Folds.{find-append}
 use Rattle.sym_edges.specs.Addresses.{Range}
 use Rattle.range_set.specs.Enclosing.{encloses}
 use Rattle.range_set.specs.Members.{holds_any}
-use Rattle.die_walk.specs.EntryTable.{DieFields, EntryTable}
+use Rattle.die_walk.specs.EntryTable.{DieFields}
 use Rattle.die_walk.specs.EntryKinds.{is_function, is_inlined}
 use Rattle.range_lists.specs.EntryRanges.{in_pairs}
 use Rattle.line_program.specs.LineAt.{Lines, line_at}

@@ -1,21 +1,17 @@
 -- What is kept of units gives the same names of entries and paths of calls as what the units say;
 -- for the law.
-use Rattle.std.proofs.Common.{◌≡◌, ℕ, ◌+◌, ◌&&◌, Bool, true, false, cond, List, [], ◌∷◌, codes, map, Option, None, Some, unwrap_or, option_and_then, arith, refl, sym, ap, ◌∙◌}
+use Rattle.std.proofs.Common.{◌≡◌, ℕ, ◌+◌, Bool, true, false, List, [], ◌∷◌, codes, map, Option, None, Some, unwrap_or, option_and_then, arith, refl, sym, ap, ◌∙◌}
 use Rattle.std.proofs.lemmas.Bool.Decides.{nat_tests}
-use Rattle.std.specs.Prelude.{◌==◌}
 use Rattle.std.specs.List.{find, slice_get}
-use Rattle.std.specs.Option.{option_map_or}
 use Rattle.sym_edges.specs.Addresses.{Range}
-use Rattle.range_set.specs.Members.{holds_any}
 use Rattle.die_walk.specs.EntryTable.{DieFields, EntryTable}
-use Rattle.die_walk.specs.EntryKinds.{is_inlined}
 use Rattle.line_program.specs.LineAt.{Lines, path_of}
 use Rattle.line_program.specs.LineMaps.{LineMap, no_lines, numbered_file}
 use Rattle.debug_units.specs.declared.unit_read.UnitRead.{UnitRead}
 use Rattle.die_names.specs.Names.{entry_name}
 use Rattle.debug_units.specs.EntriesAlone.{with_entries}
 use Rattle.debug_units.specs.CallPaths.{no_path, file_path, file_path_in, path_of_call}
-use Rattle.debug_units.specs.Owners.{Covering, unit_covering, inside_of, chain_from, chain_by, chain_under, entry_chain, chain, owner}
+use Rattle.debug_units.specs.Owners.{Covering, unit_covering, chain_from, chain_by, chain_under, entry_chain, chain, owner}
 use Rattle.die_names.proofs.AloneLemmas.{alone, name_alone}
 use Rattle.debug_read.specs.Each.{Match}
 use Rattle.debug_read.specs.UnitSays.{UnitSays}

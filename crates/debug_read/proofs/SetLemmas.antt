@@ -1,12 +1,12 @@
 -- The set of addresses of an entry.
-use Rattle.std.proofs.Common.{◌≡◌, ℕ, suc, ◌+◌, ◌<◌, Bool, true, false, List, [], ◌∷◌, ◌++◌, drop, length, replicate, get_or, Option, Some, Result, Ok, Err, refl, sym, ap, subst, ◌∙◌, add-one, length-append, arith}
+use Rattle.std.proofs.Common.{◌≡◌, ℕ, suc, ◌+◌, ◌<◌, Bool, false, List, [], ◌∷◌, ◌++◌, drop, length, replicate, get_or, Option, Some, Result, Ok, Err, refl, sym, ap, subst, ◌∙◌, add-one, length-append, arith}
 use Rattle.std.proofs.lemmas.Bool.Decides.{nat_tests}
 use Rattle.std.proofs.lemmas.List.{replicate-append-replicate}
 use Rattle.std.proofs.lemmas.Option.{slice_get-get_or}
 use Rattle.std.specs.List.{slice_get}
 use Rattle.abbrev_units.specs.declared.unit.Unit.{Unit}
 use Rattle.abbrev_units.specs.DebugSections.{DebugSections}
-use Rattle.abbrev_units.proofs.FormTableLemmas.{each_more, none_at}
+use Rattle.abbrev_units.proofs.FormTableLemmas.{each_more}
 use Rattle.die_walk.specs.EntryTable.{DieFields, RootFields}
 use Rattle.range_set.specs.Canonical.{IsCanonical}
 use Rattle.sym_edges.specs.Addresses.{Range}
@@ -20,7 +20,7 @@ use Rattle.range_lists.specs.EntryRanges.{in_pairs, in_ranges, IsRanges, pairs_o
 use Rattle.debug_read.specs.Each.{each_of, Match, Says}
 use Rattle.debug_read.specs.UnitSays.{no_pairs}
 use Rattle.debug_read.specs.UnitsRead.{IsSet}
-use Rattle.debug_read.proofs.EachLemmas.{Going, going_begins, going_more, going_ends, going_stops}
+use Rattle.debug_read.proofs.EachLemmas.{Going, going_more, going_ends, going_stops}
 
 -- The tests of an address.
 abbrev answer : Result Bool (Located DwarfKind) → Bool
