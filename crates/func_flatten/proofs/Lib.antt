@@ -5,7 +5,7 @@ pub mod FunctionLemmas
 pub mod PieceLemmas
 pub mod ClassLemmas
 pub mod NameLemmas
-pub mod BlockLemmas
+pub mod KeyLemmas
 pub mod FrontLemmas
 pub mod GrowingRuns
 pub mod LineLemmas

@@ -4,6 +4,6 @@ pub mod Classes
 pub mod Growing
 pub mod Grouping
 pub mod Standing
-pub mod NameBlocks
 pub mod ScopeFronts
-pub mod MetNames
+pub mod NameKeys
+pub mod NameClasses
