@@ -107,13 +107,16 @@ outer_tail dies entry xs n rest is = go (slice_get dies entry) xs is
 kept_twice : (text a b : List ℕ) → kept_more (kept_more (kept text) a) b ≡ kept (text ++ (a ++ b))
 kept_twice text a b = ap (λ l. kept_more l b) (sym (kept_joined text a)) ∙ sym (kept_joined (text ++ a) b) ∙ ap kept (append_assoc text a b)
 
+front_some : (dies : List DieFields) (k : ℕ) (d : DieFields) → Some d ≡ slice_get dies k → front_at dies k ≡ scope_front d
+front_some dies k d is = ap (λ o. option_map_or scope_front o []) (sym is)
+
 -- The key after the prefix of a scope was added.
-pub key_scope : (units : List UnitRead) (first second third : NameKey) (d : DieFields) (name : List ℕ) → is_scope d ≡ true → name ≡ scope_name d
+pub key_scope : (units : List UnitRead) (first second third : NameKey) (dies : List DieFields) (k : ℕ) (d : DieFields) (name : List ℕ) → Some d ≡ slice_get dies k → is_scope d ≡ true → name ≡ scope_name d
     → ((text : List ℕ) → IsKey units first text → IsKey units second (kept_more text name)) → ((text : List ℕ) → IsKey units second text → IsKey units third (kept_more text (codes "::")))
-    → (text : List ℕ) → IsKey units first (kept text) → IsKey units third (kept (text ++ scope_front d))
+    → (text : List ℕ) → IsKey units first (kept text) → IsKey units third (kept (text ++ front_at dies k))
 unfolding scope_front
-key_scope units first second third d name is named add next text of =
-    let front : scope_front d ≡ scope_name d ++ codes "::" = cond-true _ _ _ is in
+key_scope units first second third dies k d name there is named add next text of =
+    let front : front_at dies k ≡ scope_name d ++ codes "::" = front_some dies k d there ∙ cond-true _ _ _ is in
     subst (IsKey units third)
     (kept_twice text name (codes "::") ∙ ap (λ n. kept (text ++ (n ++ codes "::"))) named ∙ ap (λ f. kept (text ++ f)) (sym front))
     (next (kept_more (kept text) name) (add (kept text) of))
@@ -122,15 +125,12 @@ key_scope units first second third d name is named add next text of =
 key_same : (units : List UnitRead) (key : NameKey) (front text : List ℕ) → front ≡ [] → IsKey units key (kept text) → IsKey units key (kept (text ++ front))
 key_same units key front text none of = subst (λ l. IsKey units key (kept l)) (sym (append-nil text) ∙ ap (λ l. text ++ l) (sym none)) of
 
-pub key_bare : (units : List UnitRead) (key : NameKey) (d : DieFields) → is_scope d ≡ false → (text : List ℕ) → IsKey units key (kept text) → IsKey units key (kept (text ++ scope_front d))
+pub key_bare : (units : List UnitRead) (key : NameKey) (dies : List DieFields) (k : ℕ) (d : DieFields) → Some d ≡ slice_get dies k → is_scope d ≡ false → (text : List ℕ) → IsKey units key (kept text) → IsKey units key (kept (text ++ front_at dies k))
 unfolding scope_front
-key_bare units key d is text of = key_same units key (scope_front d) text (cond-false _ _ _ is) of
+key_bare units key dies k d there is text of = key_same units key (front_at dies k) text (front_some dies k d there ∙ cond-false _ _ _ is) of
 
 pub key_none : (units : List UnitRead) (key : NameKey) (dies : List DieFields) (k : ℕ) → None ≡ slice_get dies k → (text : List ℕ) → IsKey units key (kept text) → IsKey units key (kept (text ++ front_at dies k))
 key_none units key dies k is text of = key_same units key (front_at dies k) text (ap (λ o. option_map_or scope_front o []) (sym is)) of
-
-pub front_some : (dies : List DieFields) (k : ℕ) (d : DieFields) → Some d ≡ slice_get dies k → front_at dies k ≡ scope_front d
-front_some dies k d is = ap (λ o. option_map_or scope_front o []) (sym is)
 
 -- ---- What is noted of entries.
 

@@ -233,7 +233,7 @@ grows_parted units name old firsts rare key hash one held at alone is added upda
     let text_is : key.items ≡ name one.first = is ∙ known.0 in
     grows units name old _ held (alike_more name old.firsts firsts hash _ held.alike updates known.0 known.1) (rare_numbers name old.rare rare key one.first added text_is held.numbers) refl
     (λ text n found. first_stays name old.firsts firsts rare hash _ updates (λ t m so. grind (arith, nat_tests, at, alone, so, rare_is old.rare rare key one.first added t, text_is, (bytes_eq-Decides (name one.first) t).0, (bytes_eq-Decides key.items t).1)) text n
-        (stored name old.firsts old.rare rare key hash one at alone (ap hash_of text_is ∙ known.1) added text n found))
+    (stored name old.firsts old.rare rare key hash one at alone (ap hash_of text_is ∙ known.1) added text n found))
 
 -- ---- The classes of roots.
 

@@ -190,8 +190,7 @@ impl NameClasses {
         ensures class { IfOk result (λ class. class_at (number_name units.now places.now) self.new (number_name units.now places.now number) ≡ Some class) }
     {
         let Some(root) = key.root else {
-            let class = self.hash_class(units, places, number, key.hash)?;
-            return Ok(class);
+            return self.hash_class(units, places, number, key.hash);
         };
         if let Some(class) = self.roots.get(&place_of(root.unit, root.entry)) {
             return Ok(*class);
@@ -215,12 +214,7 @@ fn last_class(named: &[Stretch], number: u32) -> Option<u32>
 fn classed(stretch: Stretch, class: u32) -> Stretch
     ensures { result ≡ record { first = stretch.first; last = stretch.last; index = stretch.index; class = class } }
 {
-    Stretch {
-        first: stretch.first,
-        last: stretch.last,
-        index: stretch.index,
-        class,
-    }
+    Stretch { class, ..stretch }
 }
 
 /// The stretches, each with a class by the name of its function. Neighbouring stretches of one function share what was found for the first of them. A

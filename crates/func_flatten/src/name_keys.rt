@@ -99,10 +99,7 @@ impl NameKey {
     pub(crate) fn rooted(self, unit: u32, entry: u32) -> NameKey
         ensures { (units : List UnitRead) → IsKey units self (kept (inner_front units unit entry)) → IsKey units result (kept (inner_front units unit entry)) }
     {
-        if self.length != NAME_LIMIT {
-            return self;
-        }
-        if self.root.is_some() {
+        if self.length != NAME_LIMIT || self.root.is_some() {
             return self;
         }
         NameKey {

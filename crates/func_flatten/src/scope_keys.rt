@@ -1,10 +1,8 @@
 //! The keys of the prefixes that scopes give to names, and of the names themselves. Each entry is visited once for all names.
 ghost use Rattle.std.specs.Prelude.{◌≡◌, ℕ, ◌++◌, List, [], if◌then◌else◌, IfOk, IfSome, OnOk, ◌<◌, ◌^◌};
 ghost use Rattle.std.specs.List.{slice_get};
-ghost use Rattle.clean_names.specs.Cleaning.{cleaned};
 ghost use Rattle.debug_units.specs.declared.unit_read.UnitRead.{UnitRead};
-ghost use Rattle.die_names.specs.Names.{scope_front, front_at};
-ghost use Rattle.die_names.specs.NameRefs.{name_bytes};
+ghost use Rattle.die_names.specs.Names.{front_at};
 ghost use Rattle.func_flatten.specs.internal.Classes.{place_name};
 ghost use Rattle.func_flatten.specs.internal.ScopeFronts.{unit_dies, outer, outer_from, outer_front, inner_front, place_of};
 ghost use Rattle.func_flatten.specs.internal.NameKeys.{kept, IsKey, AreFronts, IsHalfway};
@@ -47,18 +45,12 @@ fn outer_of(units: &Units<'_>, unit: u32, entry: u32) -> Option<u32>
     ensures around { outer (unit_dies units.now unit) entry ≡ outer_from (unit_dies units.now unit) result }
     ensures before { IfSome result (λ number. number < entry) }
 {
-    let Some(die) = entry_at(units, unit, entry) else {
-        return None;
-    };
-    let Some(number) = die.parent() else {
-        return None;
-    };
+    let die = entry_at(units, unit, entry)?;
+    let number = die.parent()?;
     if number >= entry {
         return None;
     }
-    let Some(_around) = entry_at(units, unit, number) else {
-        return None;
-    };
+    let _around = entry_at(units, unit, number)?;
     Some(number)
 }
 
@@ -71,25 +63,17 @@ pub(crate) fn place_of(unit: u32, entry: u32) -> u64
 }
 
 /// The key of a text after which the prefix follows that an entry gives to the names in it.
-fn with_front(key: NameKey, die: &Die<'_, '_>) -> NameKey
-    ensures { (units : List UnitRead) (text : List ℕ) → IsKey units key (kept text) → IsKey units result (kept (text ++ scope_front die.now)) }
-{
-    if !die.is_scope() {
-        return key;
-    }
-    let named = key.with(scope_name(die));
-    named.with(b"::")
-}
-
-/// The key of a text after which the prefix follows that the entry with a number gives.
-#[tactic(auto, using(crate::proofs::FrontLemmas::key_none, crate::proofs::FrontLemmas::front_some))]
-fn with_front_at(key: NameKey, units: &Units<'_>, unit: u32, entry: u32) -> NameKey
+fn with_front(key: NameKey, units: &Units<'_>, unit: u32, entry: u32) -> NameKey
     ensures { (text : List ℕ) → IsKey units.now key (kept text) → IsKey units.now result (kept (text ++ front_at (unit_dies units.now unit) entry)) }
 {
     let Some(die) = entry_at(units, unit, entry) else {
         return key;
     };
-    with_front(key, &die)
+    if !die.is_scope() {
+        return key;
+    }
+    let named = key.with(scope_name(&die));
+    named.with(b"::")
 }
 
 impl ScopeKeys {
@@ -99,17 +83,6 @@ impl ScopeKeys {
     {
         ScopeKeys {
             known: BTreeMap::new(alloc),
-        }
-    }
-
-    /// The key of the prefix that an entry and the scopes around it give to the names in it, if the key is known.
-    fn known(&self, units: &Units<'_>, unit: u32, entry: u32) -> Option<NameKey>
-        requires { AreFronts units.now self.now.known }
-        ensures { IfSome result (λ key. IsKey units.now key (kept (inner_front units.now unit entry))) }
-    {
-        match self.known.get(&place_of(unit, entry)) {
-            Some(key) => Some(*key),
-            None => None,
         }
     }
 
@@ -131,31 +104,12 @@ impl ScopeKeys {
                 let key = NameKey::empty();
                 return Ok(Halfway { numbers, key });
             };
-            if let Some(key) = self.known(units, unit, number) {
-                return Ok(Halfway { numbers, key });
+            if let Some(key) = self.known.get(&place_of(unit, number)) {
+                return Ok(Halfway { numbers, key: *key });
             }
             numbers.push(number)?;
             at = number;
         }
-    }
-
-    /// The key of the prefix that an entry and the scopes around it give, made from the key for the scopes around it. It is kept.
-    fn enter(
-        &mut self,
-        units: &Units<'_>,
-        unit: u32,
-        entry: u32,
-        outside: NameKey,
-    ) -> Result<NameKey, OutOfMemory>
-        requires fronts { AreFronts units.now self.old.known }
-        requires key { IsKey units.now outside (kept (outer_front units.now unit entry)) }
-        ensures fronts { OnOk result (AreFronts units.now self.new.known) }
-        ensures key { IfOk result (λ key. IsKey units.now key (kept (inner_front units.now unit entry))) }
-    {
-        let inside = with_front_at(outside, units, unit, entry);
-        let key = inside.rooted(unit, entry);
-        self.known.insert(place_of(unit, entry), key)?;
-        Ok(key)
     }
 
     /// Goes down to an entry, and keeps the keys of the entries around it.
@@ -174,7 +128,9 @@ impl ScopeKeys {
         let mut numbers = half.numbers;
         let mut key = half.key;
         'inner: while let Some(number) = numbers.pop() {
-            key = self.enter(units, unit, number, key)?;
+            let inside = with_front(key, units, unit, number);
+            key = inside.rooted(unit, number);
+            self.known.insert(place_of(unit, number), key)?;
         }
         Ok(key)
     }
@@ -199,26 +155,6 @@ impl ScopeKeys {
         Ok(key)
     }
 
-    /// The key of a name as a record carries it.
-    fn cleaned(
-        &mut self,
-        alloc: Global,
-        units: &Units<'_>,
-        name: NameRef,
-    ) -> Result<NameKey, OutOfMemory>
-        requires { AreFronts units.now self.old.known }
-        ensures fronts { OnOk result (AreFronts units.now self.new.known) }
-        ensures key { IfOk result (λ key. IsKey units.now key (cleaned (name_bytes units.now name))) }
-    {
-        let parts = name_parts(units, name);
-        let front = self.front(alloc, units, name, parts.is_joined)?;
-        let key = front.with(parts.bytes);
-        if key.is_empty() {
-            return Ok(key.with(name_omitted()));
-        }
-        Ok(key)
-    }
-
     /// The key of the name of a function.
     pub(crate) fn key(
         &mut self,
@@ -231,7 +167,12 @@ impl ScopeKeys {
         ensures key { IfOk result (λ key. IsKey units.now key (place_name units.now place)) }
     {
         let name = name_of(units, place.unit, place.entry);
-        let key = self.cleaned(alloc, units, name)?;
+        let parts = name_parts(units, name);
+        let front = self.front(alloc, units, name, parts.is_joined)?;
+        let key = front.with(parts.bytes);
+        if key.is_empty() {
+            return Ok(key.with(name_omitted()));
+        }
         Ok(key)
     }
 }

@@ -12,8 +12,8 @@ returns-in-Some-get-clause-class c =
 pub returns-clause-grows : goal.returns-clause-grows
 returns-clause-grows c =
     let name = number_name c.args.units.now c.args.places.now in
-    grows_root c.args.units.now name c.args.self.now c.hash_class-2.new.self c.insert.new.self c.args.key (name c.args.number) c.in-Some.root.unit c.in-Some.root.entry c.place_of-2.result c.in_ok-class-2.class c.in_ok-class-2.ensures.grows c.requires.key (sym c.in-Some.is) c.place_of-2.ensures.fits.1 c.place_of-2.ensures.place c.in_ok-class-2.ensures.class c.in_ok-insert.ensures.updates
+    grows_root c.args.units.now name c.args.self.now c.hash_class-2.new.self c.insert.new.self c.args.key (name c.args.number) c.in-Some.root.unit c.in-Some.root.entry c.place_of-2.result c.in_ok-class.class c.in_ok-class.ensures.grows c.requires.key (sym c.in-Some.is) c.place_of-2.ensures.fits.1 c.place_of-2.ensures.place c.in_ok-class.ensures.class c.in_ok-insert.ensures.updates
 
 pub returns-clause-class : goal.returns-clause-class
 unfolding class_at
-returns-clause-class c = c.in_ok-class-2.ensures.class
+returns-clause-class c = c.in_ok-class.ensures.class
