@@ -24,7 +24,7 @@ use sym_edges::OutOfMemory;
 /// Functions whose names have the same hash, by their numbers: the first one, and the last one that has the same name as the first. `differ` says
 /// whether the names of others differ from it.
 #[derive(Clone, Copy, Debug)]
-pub(crate) struct Bearers {
+struct Bearers {
     first: u32,
     last: u32,
     differ: bool,
@@ -33,7 +33,7 @@ pub(crate) struct Bearers {
 /// The classes of names: `firsts` has the functions by the hashes of their names, `rare` the classes by the texts of those names whose hash is also that
 /// of another name, and `roots` the classes by the roots of names.
 #[derive(Drop)]
-pub(crate) struct NameClasses {
+struct NameClasses {
     alloc: Global,
     firsts: BTreeMap<u64, Bearers>,
     rare: BTreeMap<Vec<u8>, u32>,
