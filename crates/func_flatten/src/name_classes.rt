@@ -1,8 +1,11 @@
 //! Classes of functions: two functions have the same class exactly if their names are equal.
 //!
-//! The class of a function is the number of the first function with its name. It is found by the hash of the name. Names are compared exactly where
-//! their hashes are equal, a function with the last one that was found to have the same name, so that no function is compared more than twice however
-//! deep its scopes are. If names with one hash differ, which happens only in files made for it, their texts are stored.
+//! A class is the number of a function with the name. It is found by the hash of the name. If another function has this hash, the two names are compared
+//! byte by byte. The other function is then the last one that was compared and has the first one's name, and not the first one itself. To read a name
+//! takes as many steps as there are scopes around it; so each name is read a few times only, and the scopes of one function are not walked for each of
+//! the others. If names with one hash differ, their texts are stored; that happens only in files that are made for it.
+//!
+//! The scopes below a root may be many, but all names there are the same text: the class is kept for the root, and no name there is read.
 ghost use Rattle.std.specs.Prelude.{◌≡◌, false, true, List, ℕ, Option, Some, map, IfOk, OnOk};
 ghost use Rattle.std.specs.BTreeMap.{get};
 ghost use Rattle.std.specs.Ordering.{nat_cmp};
@@ -21,8 +24,8 @@ use std::collections::BTreeMap;
 use step_maps::Stretch;
 use sym_edges::OutOfMemory;
 
-/// Functions whose names have the same hash, by their numbers: the first one, and the last one that has the same name as the first. `differ` says
-/// whether the names of others differ from it.
+/// The functions whose names have one hash, by their numbers: the first one, and the last one that was found to have the same name. `differ` says whether
+/// another of these names differs from it.
 #[derive(Clone, Copy, Debug)]
 struct Bearers {
     first: u32,
@@ -30,8 +33,8 @@ struct Bearers {
     differ: bool,
 }
 
-/// The classes of names: `firsts` has the functions by the hashes of their names, `rare` the classes by the texts of those names whose hash is also that
-/// of another name, and `roots` the classes by the roots of names.
+/// The classes of names: `firsts` has the functions by the hashes of their names, `rare` has the classes by the texts of names whose hash is also that of
+/// another name, and `roots` has the classes by the places of roots.
 #[derive(Drop)]
 struct NameClasses {
     alloc: Global,
@@ -120,7 +123,7 @@ impl NameClasses {
         Ok(number)
     }
 
-    /// Stores the text of the name that the first and the last function with a hash have, since another name has this hash.
+    /// Stores the text of the first name with a hash, since another name has this hash.
     fn part(
         &mut self,
         units: &Units<'_>,
