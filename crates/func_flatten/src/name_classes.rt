@@ -5,7 +5,7 @@
 //! takes as many steps as there are scopes around it; so each name is read a few times only, and the scopes of one function are not walked for each of
 //! the others. If names with one hash differ, their texts are stored; that happens only in files that are made for it.
 //!
-//! The scopes below a root may be many, but all names there are the same text: the class is kept for the root, and no name there is read.
+//! Below a root there may be many scopes, but all names there are the same text: the class is kept for the root, and only the first of them is compared.
 ghost use Rattle.std.specs.Prelude.{◌≡◌, false, true, List, ℕ, Option, Some, map, IfOk, OnOk};
 ghost use Rattle.std.specs.BTreeMap.{get};
 ghost use Rattle.std.specs.Ordering.{nat_cmp};
@@ -139,11 +139,8 @@ impl NameClasses {
     {
         let text = text_of(self.alloc, units, place_at(places, one.last))?;
         self.rare.insert(text, one.first)?;
-        let parted = Bearers {
-            first: one.first,
-            last: one.last,
-            differ: true,
-        };
+        let mut parted = one;
+        parted.differ = true;
         self.firsts.insert(hash, parted)?;
         Ok(())
     }
@@ -203,6 +200,7 @@ impl NameClasses {
         Ok(class)
     }
 }
+
 /// The class of the last stretch, if that is a stretch of this function.
 fn last_class(named: &[Stretch], number: u32) -> Option<u32>
     ensures { result ≡ last_class named.now number }
