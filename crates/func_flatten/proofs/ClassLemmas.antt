@@ -25,7 +25,7 @@ use Rattle.func_flatten.specs.Pieces.{place_of, covering_name, is_many}
 use Rattle.step_maps.specs.SpanStretches.{span_stretches}
 use Rattle.func_flatten.specs.internal.Collecting.{function_stretches, own_class}
 use Rattle.func_flatten.specs.internal.Standing.{IsCollected}
-use Rattle.func_flatten.specs.internal.MetNames.{AreNamed, IsClass}
+use Rattle.func_flatten.specs.internal.NameClasses.{AreNamed, IsClass}
 use Rattle.func_flatten.specs.internal.Repeats.{AreOwn, Represents}
 use Rattle.func_flatten.specs.internal.Classes.{number_name, has_other_name, shared_starts, reaches_any, classed, shared_in, marked, TellMany, AreNamedCovers}
 use Rattle.func_flatten.proofs.FunctionLemmas.{many_is, other_name_is}

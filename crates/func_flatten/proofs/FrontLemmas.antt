@@ -1,5 +1,5 @@
 -- The prefixes that scopes give to names, and the keys of these prefixes.
-use Rattle.std.proofs.Common.{◌≡◌, ℕ, zero, suc, ◌^◌, ◌<◌, ◌≤◌, ◌==◌, Bool, true, false, cond, List, [], ◌∷◌, ◌++◌, codes, Option, None, Some, IfSome, refl, sym, ap, subst, ◌∙◌, arith, append-nil}
+use Rattle.std.proofs.Common.{◌≡◌, ℕ, zero, suc, ◌^◌, ◌<◌, ◌≤◌, ◌==◌, Bool, true, false, cond, List, [], ◌∷◌, ◌++◌, codes, Option, None, Some, refl, sym, ap, subst, ◌∙◌, arith, append-nil}
 use Rattle.std.proofs.lemmas.Bool.{cond-true, cond-false}
 use Rattle.std.proofs.lemmas.Bool.Decides.{nat_tests}
 use Rattle.std.proofs.lemmas.List.{append_assoc}
@@ -14,11 +14,10 @@ use Rattle.debug_units.specs.declared.unit_read.EntryRef.{EntryRef}
 use Rattle.debug_units.specs.declared.unit_read.UnitRead.{UnitRead}
 use Rattle.die_names.specs.Names.{around, scope_name, scope_front, front_at, fronts, dies_of}
 use Rattle.debug_units.specs.UnitEntries.{die_from, die_in}
-use Rattle.func_flatten.specs.declared.name_blocks.NameKey.{NameKey}
-use Rattle.clean_names.specs.Names.{skip}
-use Rattle.func_flatten.specs.internal.NameBlocks.{kept_upto, kept, kept_more, BlockNumbers, Grows, IsKey}
-use Rattle.func_flatten.specs.internal.ScopeFronts.{unit_dies, outer, outer_front, inner_front, place_of, AreFronts, IsHalfway}
-use Rattle.func_flatten.proofs.BlockLemmas.{kept_joined, key_grows}
+use Rattle.func_flatten.specs.declared.name_keys.NameKey.{NameKey}
+use Rattle.func_flatten.specs.internal.ScopeFronts.{unit_dies, outer, outer_front, inner_front, place_of, AreNoted}
+use Rattle.func_flatten.specs.internal.NameKeys.{kept, kept_more, IsKey, AreFronts, IsHalfway}
+use Rattle.func_flatten.proofs.KeyLemmas.{kept_joined}
 
 -- ---- Entries.
 
@@ -108,107 +107,99 @@ outer_tail dies entry xs n rest is = go (slice_get dies entry) xs is
 kept_twice : (text a b : List ℕ) → kept_more (kept_more (kept text) a) b ≡ kept (text ++ (a ++ b))
 kept_twice text a b = ap (λ l. kept_more l b) (sym (kept_joined text a)) ∙ sym (kept_joined (text ++ a) b) ∙ ap kept (append_assoc text a b)
 
+front_some : (dies : List DieFields) (k : ℕ) (d : DieFields) → Some d ≡ slice_get dies k → front_at dies k ≡ scope_front d
+front_some dies k d is = ap (λ o. option_map_or scope_front o []) (sym is)
+
 -- The key after the prefix of a scope was added.
-pub key_scope : (old mid new : BlockNumbers) (first second third : NameKey) (d : DieFields) (name : List ℕ) → is_scope d ≡ true → name ≡ scope_name d
-    → ((text : List ℕ) → IsKey old first text → IsKey mid second (kept_more text name)) → ((text : List ℕ) → IsKey mid second text → IsKey new third (kept_more text (codes "::")))
-    → (text : List ℕ) → IsKey old first (kept text) → IsKey new third (kept (text ++ scope_front d))
+pub key_scope : (units : List UnitRead) (first second third : NameKey) (dies : List DieFields) (k : ℕ) (d : DieFields) (name : List ℕ) → Some d ≡ slice_get dies k → is_scope d ≡ true → name ≡ scope_name d
+    → ((text : List ℕ) → IsKey units first text → IsKey units second (kept_more text name)) → ((text : List ℕ) → IsKey units second text → IsKey units third (kept_more text (codes "::")))
+    → (text : List ℕ) → IsKey units first (kept text) → IsKey units third (kept (text ++ front_at dies k))
 unfolding scope_front
-key_scope old mid new first second third d name is named add next text of =
-    let front : scope_front d ≡ scope_name d ++ codes "::" = cond-true _ _ _ is in
-    subst (IsKey new third)
+key_scope units first second third dies k d name there is named add next text of =
+    let front : front_at dies k ≡ scope_name d ++ codes "::" = front_some dies k d there ∙ cond-true _ _ _ is in
+    subst (IsKey units third)
     (kept_twice text name (codes "::") ∙ ap (λ n. kept (text ++ (n ++ codes "::"))) named ∙ ap (λ f. kept (text ++ f)) (sym front))
     (next (kept_more (kept text) name) (add (kept text) of))
 
--- An entry that is no scope does not change the key.
-pub key_bare : (numbers : BlockNumbers) (key : NameKey) (d : DieFields) → is_scope d ≡ false → (text : List ℕ) → IsKey numbers key (kept text) → IsKey numbers key (kept (text ++ scope_front d))
+-- An entry that gives no prefix does not change the key.
+key_same : (units : List UnitRead) (key : NameKey) (front text : List ℕ) → front ≡ [] → IsKey units key (kept text) → IsKey units key (kept (text ++ front))
+key_same units key front text none of = subst (λ l. IsKey units key (kept l)) (sym (append-nil text) ∙ ap (λ l. text ++ l) (sym none)) of
+
+pub key_bare : (units : List UnitRead) (key : NameKey) (dies : List DieFields) (k : ℕ) (d : DieFields) → Some d ≡ slice_get dies k → is_scope d ≡ false → (text : List ℕ) → IsKey units key (kept text) → IsKey units key (kept (text ++ front_at dies k))
 unfolding scope_front
-key_bare numbers key d is text of =
-    let front : scope_front d ≡ [] = cond-false _ _ _ is in
-    subst (λ l. IsKey numbers key (kept l)) (sym (append-nil text) ∙ ap (λ l. text ++ l) (sym front)) of
+key_bare units key dies k d there is text of = key_same units key (front_at dies k) text (front_some dies k d there ∙ cond-false _ _ _ is) of
 
-pub key_none : (numbers : BlockNumbers) (key : NameKey) (dies : List DieFields) (k : ℕ) → None ≡ slice_get dies k → (text : List ℕ) → IsKey numbers key (kept text) → IsKey numbers key (kept (text ++ front_at dies k))
-key_none numbers key dies k is text of =
-    let front : front_at dies k ≡ [] = ap (λ o. option_map_or scope_front o []) (sym is) in
-    subst (λ l. IsKey numbers key (kept l)) (sym (append-nil text) ∙ ap (λ l. text ++ l) (sym front)) of
+pub key_none : (units : List UnitRead) (key : NameKey) (dies : List DieFields) (k : ℕ) → None ≡ slice_get dies k → (text : List ℕ) → IsKey units key (kept text) → IsKey units key (kept (text ++ front_at dies k))
+key_none units key dies k is text of = key_same units key (front_at dies k) text (ap (λ o. option_map_or scope_front o []) (sym is)) of
 
-pub front_some : (dies : List DieFields) (k : ℕ) (d : DieFields) → Some d ≡ slice_get dies k → front_at dies k ≡ scope_front d
-front_some dies k d is = ap (λ o. option_map_or scope_front o []) (sym is)
+-- ---- What is noted of entries.
 
--- ---- The keys that are known.
-
-pub fronts_none : (units : List UnitRead) (numbers : BlockNumbers) (known : BTreeMap ℕ NameKey) → known.entries ≡ [] → AreFronts units numbers known
-unfolding AreFronts
-fronts_none units numbers known empty unit entry key few low is =
-    let none : None ≡ Some key = sym (ap (λ es. lookup (is_at (nat_cmp (place_of unit entry))) es) empty) ∙ is in
+pub noted_none : {A : Type 0} (holds : ℕ → ℕ → A → Type 0) (noted : BTreeMap ℕ A) → noted.entries ≡ [] → AreNoted holds noted
+noted_none holds noted empty unit entry x few low is =
+    let none : None ≡ Some x = sym (ap (λ es. lookup (is_at (nat_cmp (place_of unit entry))) es) empty) ∙ is in
     absurd (cc)
-
-pub fronts_grow : (units : List UnitRead) (old new : BlockNumbers) (known : BTreeMap ℕ NameKey) → Grows old new → AreFronts units old known → AreFronts units new known
-unfolding AreFronts
-fronts_grow units old new known grows are unit entry key few low is = key_grows old new key (kept (inner_front units unit entry)) grows (are unit entry key few low is)
-
-pub front_known : (units : List UnitRead) (numbers : BlockNumbers) (known : BTreeMap ℕ NameKey) (unit entry place : ℕ) (key : NameKey) → AreFronts units numbers known → unit < 2 ^ 32 → entry < 2 ^ 32 → place ≡ place_of unit entry → Some key ≡ get nat_cmp known place → IsKey numbers key (kept (inner_front units unit entry))
-unfolding AreFronts
-front_known units numbers known unit entry place key are few low at is = are unit entry key few low (ap (get nat_cmp known) (sym at) ∙ sym is)
 
 one_place : (unit entry other more : ℕ) → entry < 2 ^ 32 → more < 2 ^ 32 → place_of unit entry ≡ place_of other more → (unit ≡ other) × (entry ≡ more)
 one_place unit entry other more low short same = (omega arith, omega arith)
 
-pub fronts_noted : (units : List UnitRead) (numbers : BlockNumbers) (known noted : BTreeMap ℕ NameKey) (unit entry place : ℕ) (key : NameKey) → AreFronts units numbers known → entry < 2 ^ 32 → place ≡ place_of unit entry → IsKey numbers key (kept (inner_front units unit entry)) → Updates nat_cmp known noted place (Some key) → AreFronts units numbers noted
-unfolding AreFronts
-fronts_noted units numbers known noted unit entry place key are low at of updates other more found few short is =
+pub noted_more : {A : Type 0} (holds : ℕ → ℕ → A → Type 0) (old new : BTreeMap ℕ A) (unit entry place : ℕ) (x : A) → AreNoted holds old → entry < 2 ^ 32 → place ≡ place_of unit entry → holds unit entry x → Updates nat_cmp old new place (Some x) → AreNoted holds new
+noted_more holds old new unit entry place x are low at of updates other more found few short is =
     go (is_at (nat_cmp place) (place_of other more)) refl (sym (updates.0 (place_of other more)) ∙ is)
   where
-    go : (t : Bool) → is_at (nat_cmp place) (place_of other more) ≡ t → cond t (Some key) (get nat_cmp known (place_of other more)) ≡ Some found → IsKey numbers found (kept (inner_front units other more))
+    go : (t : Bool) → is_at (nat_cmp place) (place_of other more) ≡ t → cond t (Some x) (get nat_cmp old (place_of other more)) ≡ Some found → holds other more found
     go false there so = are other more found few short so
     go true there so =
         (let same : place ≡ place_of other more = grind (arith, nat_tests, there) in
         let both = one_place unit entry other more low short (sym at ∙ same) in
-        let one : key ≡ found = cc in
-        subst (λ k. IsKey numbers k (kept (inner_front units other more))) one
-        (subst (λ u. IsKey numbers key (kept (inner_front units u more))) both.0 (subst (λ e. IsKey numbers key (kept (inner_front units unit e))) both.1 of)))
+        let one : x ≡ found = cc in
+        subst (holds other more) one (subst (λ u. holds u more x) both.0 (subst (λ e. holds unit e x) both.1 of)))
+
+pub fronts_none : (units : List UnitRead) (known : BTreeMap ℕ NameKey) → known.entries ≡ [] → AreFronts units known
+unfolding AreFronts
+fronts_none units known empty = noted_none _ known empty
+
+pub front_known : (units : List UnitRead) (known : BTreeMap ℕ NameKey) (unit entry place : ℕ) (key : NameKey) → AreFronts units known → unit < 2 ^ 32 → entry < 2 ^ 32 → place ≡ place_of unit entry → Some key ≡ get nat_cmp known place → IsKey units key (kept (inner_front units unit entry))
+unfolding AreFronts
+front_known units known unit entry place key are few low at is = are unit entry key few low (ap (get nat_cmp known) (sym at) ∙ sym is)
+
+pub fronts_more : (units : List UnitRead) (known noted : BTreeMap ℕ NameKey) (unit entry place : ℕ) (key : NameKey) → AreFronts units known → entry < 2 ^ 32 → place ≡ place_of unit entry → IsKey units key (kept (inner_front units unit entry)) → Updates nat_cmp known noted place (Some key) → AreFronts units noted
+unfolding AreFronts
+fronts_more units known noted unit entry place key are low at of updates = noted_more _ known noted unit entry place key are low at of updates
 
 -- ---- The walk up to the outermost entry and down again.
 
-kept_none : kept [] ≡ []
-unfolding kept kept_upto skip
-kept_none = refl
-
 -- There is no entry around the last one.
-pub half_top : (dies : List DieFields) (numbers : BlockNumbers) (entry at : ℕ) (way : List ℕ) (key : NameKey) → way ++ outer dies at ≡ outer dies entry → outer dies at ≡ [] → IsKey numbers key [] → IsHalfway dies numbers entry way key
-half_top dies numbers entry at way key so_far none of = record {
-  rest = [];
-  around = ap (λ l. way ++ l) (sym none) ∙ so_far;
-  key_is = subst (IsKey numbers key) (sym kept_none) of;
-}
+pub half_top : (units : List UnitRead) (dies : List DieFields) (entry at : ℕ) (way : List ℕ) (key : NameKey) → way ++ outer dies at ≡ outer dies entry → outer dies at ≡ [] → IsKey units key (kept []) → IsHalfway units dies entry way key
+half_top units dies entry at way key so_far none of = record { rest = []; around = ap (λ l. way ++ l) (sym none) ∙ so_far; key_is = of }
 
 -- The key of the next entry is known.
-pub half_known : (units : List UnitRead) (numbers : BlockNumbers) (unit entry at number : ℕ) (way : List ℕ) (key : NameKey) (found : Option NameKey) → way ++ outer (unit_dies units unit) at ≡ outer (unit_dies units unit) entry → outer (unit_dies units unit) at ≡ number ∷ outer (unit_dies units unit) number
-    → found ≡ Some key → IfSome found (λ k. IsKey numbers k (kept (inner_front units unit number))) → IsHalfway (unit_dies units unit) numbers entry way key
+pub half_known : (units : List UnitRead) (unit entry at number : ℕ) (way : List ℕ) (key : NameKey) → way ++ outer (unit_dies units unit) at ≡ outer (unit_dies units unit) entry → outer (unit_dies units unit) at ≡ number ∷ outer (unit_dies units unit) number
+    → IsKey units key (kept (inner_front units unit number)) → IsHalfway units (unit_dies units unit) entry way key
 unfolding inner_front
-half_known units numbers unit entry at number way key found so_far is some of = record {
+half_known units unit entry at number way key so_far is of = record {
   rest = number ∷ outer (unit_dies units unit) number;
   around = ap (λ l. way ++ l) (sym is) ∙ so_far;
-  key_is = subst (λ o. IfSome o (λ k. IsKey numbers k (kept (inner_front units unit number)))) some of;
+  key_is = of;
 }
 
 -- The key after the prefix of an entry was added.
-pub key_inner : (units : List UnitRead) (numbers : BlockNumbers) (unit entry : ℕ) (key : NameKey) → IsKey numbers key (kept (outer_front units unit entry ++ front_at (unit_dies units unit) entry)) → IsKey numbers key (kept (inner_front units unit entry))
+pub key_inner : (units : List UnitRead) (unit entry : ℕ) (key : NameKey) → IsKey units key (kept (outer_front units unit entry ++ front_at (unit_dies units unit) entry)) → IsKey units key (kept (inner_front units unit entry))
 unfolding outer_front inner_front
-key_inner units numbers unit entry key of = of
+key_inner units unit entry key of = of
 
-half_split : (dies : List DieFields) (numbers : BlockNumbers) (entry number : ℕ) (way last : List ℕ) (key : NameKey) → way ≡ last ++ number ∷ [] → (half : IsHalfway dies numbers entry way key) → last ++ number ∷ half.rest ≡ outer dies entry
-half_split dies numbers entry number way last key popped half = sym (append_assoc last (number ∷ []) half.rest) ∙ ap (λ l. l ++ half.rest) (sym popped) ∙ half.around
+half_split : (units : List UnitRead) (dies : List DieFields) (entry number : ℕ) (way last : List ℕ) (key : NameKey) → way ≡ last ++ number ∷ [] → (half : IsHalfway units dies entry way key) → last ++ number ∷ half.rest ≡ outer dies entry
+half_split units dies entry number way last key popped half = sym (append_assoc last (number ∷ []) half.rest) ∙ ap (λ l. l ++ half.rest) (sym popped) ∙ half.around
 
 -- The key before the prefix of an entry is added.
-pub half_outer : (units : List UnitRead) (numbers : BlockNumbers) (unit entry number : ℕ) (way last : List ℕ) (key : NameKey) → way ≡ last ++ number ∷ [] → IsHalfway (unit_dies units unit) numbers entry way key → IsKey numbers key (kept (outer_front units unit number))
+pub half_outer : (units : List UnitRead) (unit entry number : ℕ) (way last : List ℕ) (key : NameKey) → way ≡ last ++ number ∷ [] → IsHalfway units (unit_dies units unit) entry way key → IsKey units key (kept (outer_front units unit number))
 unfolding outer_front
-half_outer units numbers unit entry number way last key popped half =
-    subst (λ l. IsKey numbers key (kept (fronts (unit_dies units unit) l))) (outer_tail (unit_dies units unit) entry last number half.rest (sym (half_split (unit_dies units unit) numbers entry number way last key popped half))) half.key_is
+half_outer units unit entry number way last key popped half =
+    subst (λ l. IsKey units key (kept (fronts (unit_dies units unit) l))) (outer_tail (unit_dies units unit) entry last number half.rest (sym (half_split units (unit_dies units unit) entry number way last key popped half))) half.key_is
 
-pub half_more : (units : List UnitRead) (old new : BlockNumbers) (unit entry number : ℕ) (way last : List ℕ) (key more : NameKey) → way ≡ last ++ number ∷ [] → IsHalfway (unit_dies units unit) old entry way key → IsKey new more (kept (inner_front units unit number)) → IsHalfway (unit_dies units unit) new entry last more
+pub half_more : (units : List UnitRead) (unit entry number : ℕ) (way last : List ℕ) (key more : NameKey) → way ≡ last ++ number ∷ [] → IsHalfway units (unit_dies units unit) entry way key → IsKey units more (kept (inner_front units unit number)) → IsHalfway units (unit_dies units unit) entry last more
 unfolding inner_front
-half_more units old new unit entry number way last key more popped half of =
-    let split = half_split (unit_dies units unit) old entry number way last key popped half in
+half_more units unit entry number way last key more popped half of =
+    let split = half_split units (unit_dies units unit) entry number way last key popped half in
     let tail = outer_tail (unit_dies units unit) entry last number half.rest (sym split) in
     record {
       rest = number ∷ outer (unit_dies units unit) number;
@@ -216,7 +207,7 @@ half_more units old new unit entry number way last key more popped half of =
       key_is = of;
     }
 
-pub half_end : (units : List UnitRead) (numbers : BlockNumbers) (unit entry : ℕ) (way : List ℕ) (key : NameKey) → way ≡ [] → IsHalfway (unit_dies units unit) numbers entry way key → IsKey numbers key (kept (outer_front units unit entry))
+pub half_end : (units : List UnitRead) (unit entry : ℕ) (way : List ℕ) (key : NameKey) → way ≡ [] → IsHalfway units (unit_dies units unit) entry way key → IsKey units key (kept (outer_front units unit entry))
 unfolding outer_front
-half_end units numbers unit entry way key none half =
-    subst (λ l. IsKey numbers key (kept (fronts (unit_dies units unit) l))) (ap (λ l. l ++ half.rest) (sym none) ∙ half.around) half.key_is
+half_end units unit entry way key none half =
+    subst (λ l. IsKey units key (kept (fronts (unit_dies units unit) l))) (ap (λ l. l ++ half.rest) (sym none) ∙ half.around) half.key_is

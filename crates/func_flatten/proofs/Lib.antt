@@ -6,7 +6,7 @@ pub mod PieceLemmas
 pub mod RepeatLemmas
 pub mod ClassLemmas
 pub mod NameLemmas
-pub mod BlockLemmas
+pub mod KeyLemmas
 pub mod FrontLemmas
 pub mod GrowingRuns
 pub mod LineLemmas

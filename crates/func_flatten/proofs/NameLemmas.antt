@@ -1,17 +1,17 @@
--- The names of functions, as they are compared, and the classes that they give.
-use Rattle.std.proofs.Common.{◌≡◌, ◌≢◌, ℕ, zero, suc, ◌+◌, ◌-◌, ◌<◌, ◌==◌, Bool, true, false, cond, if◌then◌else◌, map, length, take, get_or, List, [], ◌∷◌, ◌++◌, codes, Option, None, Some, Result, Ok, Err, IfOk, arith, refl, sym, ap, subst, ◌∙◌, unwrap_or, option_and_then}
+-- The names of functions, and the classes that they give.
+use Rattle.std.proofs.Common.{◌≡◌, ℕ, zero, suc, ◌+◌, ◌-◌, ◌<◌, ◌^◌, ◌==◌, Bool, true, false, if◌then◌else◌, map, length, take, get_or, List, [], ◌∷◌, ◌++◌, codes, Option, None, Some, IfSome, arith, refl, sym, ap, subst, ◌∙◌, unwrap_or, Ordering, Less, Equal, Greater}
 use Rattle.std.proofs.lemmas.Bool.Decides.{nat_tests}
-use Rattle.std.proofs.lemmas.List.{take_more, nil_from_length}
-use Rattle.std.proofs.lemmas.Option.{slice_get_read}
-use Rattle.std.proofs.lemmas.Map.Text.{btree_map_updates_str}
+use Rattle.std.proofs.lemmas.List.{take_more}
+use Rattle.std.proofs.lemmas.Map.Text.{is_eq-slice_cmp}
 use Rattle.std.proofs.lemmas.Slice.Eq.{bytes_eq-Decides}
 use Rattle.std.specs.BTreeMap as tree
+use Rattle.std.specs.BTreeMap.{BTreeMap, get, is_at, Updates}
 use Rattle.std.specs.Cmp.Lexicographic.{slice_cmp}
 use Rattle.std.specs.Global.{Vec}
 use Rattle.std.specs.List.{slice_get}
-use Rattle.std.specs.Option.{option_map, option_map_or, option_or, is_some}
+use Rattle.std.specs.Option.{option_map, option_map_or}
 use Rattle.std.specs.Map.{lookup}
-use Rattle.std.specs.Ordering.{nat_cmp, is_eq}
+use Rattle.std.specs.Ordering.{nat_cmp, match_ordering, is_eq}
 use Rattle.std.specs.Str.{bytes_eq}
 use Rattle.clean_names.specs.Names.{skip}
 use Rattle.clean_names.specs.Cleaning.{cleaned, or_omitted}
@@ -22,17 +22,15 @@ use Rattle.die_walk.specs.EntryTable.{DieFields}
 use Rattle.die_names.specs.Names.{around, fronts, front_at, front_in, front_of, dies_of}
 use Rattle.die_names.specs.NameRefs.{scopes_of, joined_bytes}
 use Rattle.step_maps.specs.declared.stretch.Stretch.{Stretch}
-use Rattle.func_flatten.specs.declared.name_blocks.NameKey.{NameKey}
-use Rattle.func_flatten.specs.declared.name_blocks.NameBlocks.{NameBlocks}
-use Rattle.func_flatten.specs.declared.name_met.NameMet.{NameMet}
-use Rattle.func_flatten.specs.declared.name_met.NameMet.TheVariants.{Whole, Made}
-use Rattle.func_flatten.specs.declared.name_classes.Names.{Names}
+use Rattle.func_flatten.specs.declared.name_keys.NameKey.{NameKey}
+use Rattle.func_flatten.specs.declared.name_classes.Bearers.{Bearers}
+use Rattle.func_flatten.specs.declared.name_classes.NameClasses.{NameClasses}
 use Rattle.func_flatten.specs.internal.Classes.{classed, class_where, last_class}
-use Rattle.func_flatten.specs.internal.NameBlocks.{kept, kept_upto, kept_more, BlockNumbers, number_at, text_key, Grows, IsKey}
-use Rattle.func_flatten.specs.internal.ScopeFronts.{outer, outer_front}
-use Rattle.func_flatten.specs.internal.MetNames.{IsMet, IsClean, AreClean, AreMet, key_number, whole_number, name_number, AreNumbersOf, Stays, StandApart, HasNumber, HaveNumbers, AreNamed, AreClassed, IsClass}
-use Rattle.func_flatten.proofs.BlockLemmas.{cleaned_kept, kept_joined, key_grows, found_text, HasMore, has_more, Given, given, newest}
-use Rattle.func_flatten.proofs.BlockLemmas.Given.{Old, New}
+use Rattle.func_flatten.specs.internal.ScopeFronts.{outer, outer_front, inner_front, place_of}
+use Rattle.func_flatten.specs.internal.NameKeys.{kept, kept_upto, kept_more, hash_of, IsKey}
+use Rattle.func_flatten.specs.internal.NameClasses.{AreNumbersOf, Stays, rare_at, class_among, class_in, class_at, AreAlike, AreRoots, AreHeld, Grows, AreNamed, AreClassed, IsClass}
+use Rattle.func_flatten.proofs.KeyLemmas.{cleaned_kept, kept_joined, kept_none}
+use Rattle.func_flatten.proofs.FrontLemmas.{noted_none, noted_more}
 
 fronts_nowhere : (numbers : List ℕ) → fronts [] numbers ≡ []
 fronts_nowhere [] = refl
@@ -66,194 +64,215 @@ pub omitted_is : kept (codes "<name omitted>") ≡ codes "<name omitted>"
 unfolding kept kept_upto skip
 omitted_is = refl
 
-pub kept_clean : (bytes : List ℕ) → cleaned bytes ≡ bytes → kept bytes ≡ bytes
-kept_clean bytes clean = go (kept bytes) refl
-  where
-    go : (l : List ℕ) → kept bytes ≡ l → l ≡ bytes
-    go [] is =
-        (let omitted : bytes ≡ codes "<name omitted>" = sym clean ∙ cleaned_kept bytes ∙ ap or_omitted is in
-        let none : codes "<name omitted>" ≡ [] = sym omitted_is ∙ ap kept (sym omitted) ∙ is in
-        absurd (cc))
-    go (b ∷ l) is = ap or_omitted (sym is) ∙ sym (cleaned_kept bytes) ∙ clean
-
--- Nothing is kept of the empty text.
-empty_kept : [] ≡ kept []
-unfolding kept kept_upto skip
-empty_kept = refl
-
-pub ok_key : {E : Type 0} (numbers : BlockNumbers) (result : Result NameKey E) → IfOk result (λ key. (numbers : BlockNumbers) → IsKey numbers key []) → IfOk result (λ key. IsKey numbers key (kept []))
-ok_key numbers (Ok key) is = subst (IsKey numbers key) empty_kept (is numbers)
-ok_key numbers (Err e) is = tt
+-- A name that is joined with no prefix.
+pub unjoined : (units : List UnitRead) (key : NameKey) (name : NameRef) (joined : Bool) → joined ≡ false → IsKey units key (kept []) → IsKey units key (kept (if joined then outer_front units name.unit name.entry else []))
+unjoined units key name joined is of = subst (λ (t : Bool). IsKey units key (kept (if t then outer_front units name.unit name.entry else []))) (sym is) of
 
 -- The key of a cleaned name.
-pub key_clean : (numbers : BlockNumbers) (key : NameKey) (bytes : List ℕ) → length (kept bytes) ≢ 0 → IsKey numbers key (kept bytes) → IsKey numbers key (cleaned bytes)
-key_clean numbers key bytes some is = subst (IsKey numbers key) (go (kept bytes) some ∙ sym (cleaned_kept bytes)) is
+pub key_clean : (units : List UnitRead) (key : NameKey) (bytes : List ℕ) → (length (kept bytes) == 0) ≡ false → IsKey units key (kept bytes) → IsKey units key (cleaned bytes)
+key_clean units key bytes some is = subst (IsKey units key) (go (kept bytes) some ∙ sym (cleaned_kept bytes)) is
   where
-    go : (l : List ℕ) → length l ≢ 0 → l ≡ or_omitted l
-    go [] some = absurd (some refl)
+    go : (l : List ℕ) → (length l == 0) ≡ false → l ≡ or_omitted l
+    go [] some = absurd (grind (arith, nat_tests, some))
     go (b ∷ l) some = refl
 
-nothing : (l : List ℕ) → length l ≡ 0 → l ≡ kept []
-unfolding kept kept_upto skip
-nothing [] none = refl
-nothing (b ∷ l) none = absurd (omega (arith, none))
+left_out : (l : List ℕ) → (length l == 0) ≡ true → kept_more l (codes "<name omitted>") ≡ or_omitted l
+left_out [] none = ap (λ k. kept_more k (codes "<name omitted>")) (sym kept_none) ∙ sym (kept_joined [] (codes "<name omitted>")) ∙ omitted_is
+left_out (b ∷ l) none = absurd (grind (arith, nat_tests, none))
 
-left_out : (l : List ℕ) → length l ≡ 0 → codes "<name omitted>" ≡ or_omitted l
-left_out [] none = refl
-left_out (b ∷ l) none = absurd (omega (arith, none))
+pub key_omitted : (units : List UnitRead) (key : NameKey) (bytes : List ℕ) → (length (kept bytes) == 0) ≡ true → IsKey units key (kept_more (kept bytes) (codes "<name omitted>")) → IsKey units key (cleaned bytes)
+key_omitted units key bytes none is = subst (IsKey units key) (left_out (kept bytes) none ∙ sym (cleaned_kept bytes)) is
 
-pub zero_length : (b : Bool) (n : ℕ) → b ≡ true → b ≡ (n == 0) → n ≡ 0
-zero_length b n yes_here is = grind (arith, nat_tests, yes_here, is)
+-- ---- The classes of names.
 
-pub some_length : (b : Bool) (n : ℕ) → b ≡ false → b ≡ (n == 0) → n ≢ 0
-some_length b n other is none = grind (arith, nat_tests, other, is, none)
+abbrev entry_at : List (Vec ℕ × ℕ) → List ℕ → Option ℕ
+entry_at entries text = lookup (λ k. is_eq (slice_cmp nat_cmp text k.items)) entries
 
-pub key_omitted : (numbers : BlockNumbers) (key : NameKey) (bytes : List ℕ) → length (kept bytes) ≡ 0 → IsKey numbers key (kept_more (kept bytes) (codes "<name omitted>")) → IsKey numbers key (cleaned bytes)
-key_omitted numbers key bytes none is = subst (IsKey numbers key) (ap (λ text. kept_more text (codes "<name omitted>")) (nothing (kept bytes) none) ∙ sym (kept_joined [] (codes "<name omitted>")) ∙ omitted_is ∙ left_out (kept bytes) none ∙ sym (cleaned_kept bytes)) is
-
--- Names that are stored stay stored when blocks are added.
-pub met_grows : (old new : BlockNumbers) (met : NameMet) (text : List ℕ) → Grows old new → IsMet old met text → IsMet new met text
-met_grows old new (Whole bytes) text grows is = is
-met_grows old new (Made key) text grows is = key_grows old new key text grows is
-
-pub all_grow : (old new : BlockNumbers) (name : ℕ → List ℕ) (items : List Stretch) (names : List NameMet) → Grows old new → AreMet old name items names → AreMet new name items names
-all_grow old new name [] [] grows all = tt
-all_grow old new name [] (met ∷ names) grows all = absurd all
-all_grow old new name (s ∷ items) [] grows all = absurd all
-all_grow old new name (s ∷ items) (met ∷ names) grows all = (met_grows old new met (name s.index) grows all.0, all_grow old new name items names grows all.1)
-
-met_more : (numbers : BlockNumbers) (name : ℕ → List ℕ) (items : List Stretch) (names : List NameMet) (s : Stretch) (met : NameMet) → AreMet numbers name items names → IsMet numbers met (name s.index) → AreMet numbers name (items ++ s ∷ []) (names ++ met ∷ [])
-met_more numbers name [] [] s met all is = (is, tt)
-met_more numbers name [] (m ∷ names) s met all is = absurd all
-met_more numbers name (t ∷ items) [] s met all is = absurd all
-met_more numbers name (t ∷ items) (m ∷ names) s met all is = (all.0, met_more numbers name items names s met all.1 is)
-
-pub met_next : (old new : BlockNumbers) (name : ℕ → List ℕ) (items : List Stretch) (names more : List NameMet) (i : ℕ) (s : Stretch) (met : NameMet) → i < length items → s ≡ get_or items i s → Grows old new → more ≡ names ++ met ∷ [] → AreMet old name (take i items) names → IsMet new met (name s.index)
-    → AreMet new name (take (i + 1) items) more
-met_next old new name items names more i s met inside at grows is all one =
-    subst (AreMet new name (take (i + 1) items)) (sym is)
-    (subst (λ (l : List Stretch). AreMet new name l (names ++ met ∷ [])) (sym (take_more items i s inside ∙ ap (λ t. take i items ++ t ∷ []) (sym at)))
-    (met_more new name (take i items) names s met (all_grow old new name (take i items) names grows all) one))
-
-pub met_count : (numbers : BlockNumbers) (name : ℕ → List ℕ) (items : List Stretch) (names : List NameMet) → AreMet numbers name items names → length names ≡ length items
-met_count numbers name [] [] all = refl
-met_count numbers name [] (met ∷ names) all = absurd all
-met_count numbers name (s ∷ items) [] all = absurd all
-met_count numbers name (s ∷ items) (met ∷ names) all = omega (arith, met_count numbers name items names all.1)
-
-met_is_clean : (numbers : BlockNumbers) (met : NameMet) (text : List ℕ) → IsMet numbers met text → IsClean met
-met_is_clean numbers (Whole bytes) text is = subst (λ (t : List ℕ). cleaned t ≡ t) (sym is.0) is.1
-met_is_clean numbers (Made key) text is = tt
-
-pub met_clean : (numbers : BlockNumbers) (name : ℕ → List ℕ) (items : List Stretch) (names : List NameMet) → AreMet numbers name items names → AreClean names
-met_clean numbers name [] [] all = tt
-met_clean numbers name [] (met ∷ names) all = absurd all
-met_clean numbers name (s ∷ items) [] all = absurd all
-met_clean numbers name (s ∷ items) (met ∷ names) all = (met_is_clean numbers met (name s.index) all.0, met_clean numbers name items names all.1)
-
-met_there : (numbers : BlockNumbers) (name : ℕ → List ℕ) (items : List Stretch) (names : List NameMet) (k : ℕ) (s : Stretch) (met : NameMet) → AreMet numbers name items names → slice_get items k ≡ Some s → slice_get names k ≡ Some met → IsMet numbers met (name s.index)
-met_there numbers name [] names k s met all at is = absurd (cc)
-met_there numbers name (t ∷ items) [] k s met all at is = absurd all
-met_there numbers name (t ∷ items) (m ∷ names) zero s met all at is =
-    (let one : t ≡ s = cc in let other : m ≡ met = cc in subst (λ (u : Stretch). IsMet numbers met (name u.index)) one (subst (λ (n : NameMet). IsMet numbers n (name t.index)) other all.0))
-met_there numbers name (t ∷ items) (m ∷ names) (suc k) s met all at is = met_there numbers name items names k s met all.1 at is
-
--- The name of the last stretch.
-pub met_ends : (numbers : BlockNumbers) (name : ℕ → List ℕ) (items : List Stretch) (names : List NameMet) (s : Stretch) (met : NameMet) (number : ℕ) → Some s ≡ slice_get items (length items - 1) → Some met ≡ slice_get names (length names - 1) → s.index ≡ number → AreMet numbers name items names → IsMet numbers met (name number)
-met_ends numbers name items names s met number at is same all =
-    subst (λ (n : ℕ). IsMet numbers met (name n)) same
-    (met_there numbers name items names (length items - 1) s met all (sym at) (ap (λ (n : ℕ). slice_get names (n - 1)) (sym (met_count numbers name items names all)) ∙ sym is))
-
-pub met_at : (numbers : BlockNumbers) (name : ℕ → List ℕ) (items : List Stretch) (names : List NameMet) (i : ℕ) (s : Stretch) (met : NameMet) → i < length items → s ≡ get_or items i s → i < length names → met ≡ get_or names i met → AreMet numbers name items names → IsMet numbers met (name s.index)
-met_at numbers name items names i s met inside at within is all = met_there numbers name items names i s met all (slice_get_read items (length items) i s refl inside at) (slice_get_read names (length names) i met refl within is)
-
-pub none_of : (o : Option ℕ) → false ≡ is_some o → None ≡ o
-none_of None is = refl
-none_of (Some n) is = absurd (cc)
-
--- The numbers of names that were made.
-some_more : (old new : BlockNumbers) (key : List ℕ) (number : ℕ) (other : List ℕ) → HasMore old new key number → is_some (number_at old other) ≡ true → is_some (number_at new other) ≡ true
-some_more old new key number other has some = grind (arith, nat_tests, has.more other, some)
-
-pub made_stays : (old new : BlockNumbers) (key : Vec ℕ) (number : ℕ) (other : NameMet) → None ≡ number_at old key.items → new.entries ≡ tree.insert_entry (λ x y. slice_cmp nat_cmp x.items y.items) old.entries key number → HasNumber old other → HasNumber new other
-made_stays old new key number (Whole bytes) none added has = tt
-made_stays old new key number (Made other) none added has = some_more old new key.items number other.bytes.items (has_more old new key number (sym none) added) has
-
-pub made_has : (old new : BlockNumbers) (key : Vec ℕ) (number : ℕ) → None ≡ number_at old key.items → new.entries ≡ tree.insert_entry (λ x y. slice_cmp nat_cmp x.items y.items) old.entries key number → is_some (number_at new key.items) ≡ true
-made_has old new key number none added = ap is_some (newest old new key.items number (has_more old new key number (sym none) added))
-
-pub made_numbers : (blocks : NameBlocks) (old new : Names) (name : ℕ → List ℕ) (key : NameKey) (held : Vec ℕ) (number : ℕ) → held.items ≡ key.bytes.items → None ≡ number_at old.made held.items → new.made.entries ≡ tree.insert_entry (λ x y. slice_cmp nat_cmp x.items y.items) old.made.entries held number
-    → IsKey blocks.numbers key (name number) → AreNumbersOf name (key_number blocks.numbers old) → AreNumbersOf name (key_number blocks.numbers new)
-made_numbers blocks old new name key held number same none added is all text n = go (text_key blocks.numbers text) refl
+inserted : (entries : List (Vec ℕ × ℕ)) (key : Vec ℕ) (number : ℕ) (text : List ℕ) → entry_at (tree.insert_entry (λ x y. slice_cmp nat_cmp x.items y.items) entries key number) text ≡ (if bytes_eq key.items text then Some number else entry_at entries text)
+inserted [] key number text = grind (arith, nat_tests, is_eq-slice_cmp text key.items, (bytes_eq-Decides text key.items).0, (bytes_eq-Decides text key.items).1, (bytes_eq-Decides key.items text).0, (bytes_eq-Decides key.items text).1)
+inserted (e ∷ entries) key number text = go (slice_cmp nat_cmp key.items e.0.items) refl (inserted entries key number text)
   where
-    has : HasMore old.made new.made held.items number
-    has = has_more old.made new.made held number (sym none) added
+    later : List (Vec ℕ × ℕ)
+    later = tree.insert_entry (λ x y. slice_cmp nat_cmp x.items y.items) entries key number
 
-    by : (k : List ℕ) → text_key blocks.numbers text ≡ Some k → Given old.made k held.items number n → name n ≡ text
-    by k at (Old there) = all text n (ap (option_and_then (number_at old.made)) at ∙ there)
-    by k at (New there is_number) = ap name (sym is_number) ∙ found_text blocks key (name number) text k is at (there ∙ same)
+    go : (o : Ordering) → slice_cmp nat_cmp key.items e.0.items ≡ o → entry_at later text ≡ (if bytes_eq key.items text then Some number else entry_at entries text)
+        → entry_at (match_ordering o ((key, number) ∷ e ∷ entries) ((e.0, number) ∷ entries) (e ∷ later)) text ≡ (if bytes_eq key.items text then Some number else entry_at (e ∷ entries) text)
+    go Less at later_is = grind (arith, nat_tests, is_eq-slice_cmp text key.items, (bytes_eq-Decides text key.items).0, (bytes_eq-Decides text key.items).1, (bytes_eq-Decides key.items text).0, (bytes_eq-Decides key.items text).1)
+    go Equal at later_is = grind (arith, nat_tests, sym (ap is_eq at) ∙ is_eq-slice_cmp key.items e.0.items, is_eq-slice_cmp text e.0.items, (bytes_eq-Decides key.items e.0.items).0, (bytes_eq-Decides text e.0.items).0, (bytes_eq-Decides text e.0.items).1, (bytes_eq-Decides key.items text).0, (bytes_eq-Decides key.items text).1)
+    go Greater at later_is = grind (arith, nat_tests, later_is, sym (ap is_eq at) ∙ is_eq-slice_cmp key.items e.0.items, is_eq-slice_cmp text e.0.items, (bytes_eq-Decides key.items e.0.items).1, (bytes_eq-Decides text e.0.items).0, (bytes_eq-Decides key.items text).0)
 
-    go : (o : Option (List ℕ)) → text_key blocks.numbers text ≡ o → option_and_then (number_at new.made) o ≡ Some n → name n ≡ text
-    go None at found = absurd (cc)
-    go (Some k) at found = by k at (given old.made new.made held.items number has k n found)
+-- The stored texts with one more.
+rare_is : (old new : BTreeMap (Vec ℕ) ℕ) (key : Vec ℕ) (number : ℕ) → new.entries ≡ tree.insert_entry (λ x y. slice_cmp nat_cmp x.items y.items) old.entries key number → (text : List ℕ) → rare_at new text ≡ (if bytes_eq key.items text then Some number else rare_at old text)
+unfolding rare_at
+rare_is old new key number added text = ap (λ l. entry_at l text) added ∙ inserted old.entries key number text
 
-have_stay : (old new : BlockNumbers) (names : List NameMet) → ((other : NameMet) → HasNumber old other → HasNumber new other) → HaveNumbers old names → HaveNumbers new names
-have_stay old new [] stays all = tt
-have_stay old new (met ∷ names) stays all = (stays met all.0, have_stay old new names stays all.1)
+pub rare_numbers : (name : ℕ → List ℕ) (old new : BTreeMap (Vec ℕ) ℕ) (key : Vec ℕ) (number : ℕ) → new.entries ≡ tree.insert_entry (λ x y. slice_cmp nat_cmp x.items y.items) old.entries key number → key.items ≡ name number → AreNumbersOf name (rare_at old) → AreNumbersOf name (rare_at new)
+rare_numbers name old new key number added is all text n found = grind (arith, nat_tests, rare_is old new key number added text, (bytes_eq-Decides key.items text).0, is, all text n, found)
 
-have_more : (made : BlockNumbers) (names : List NameMet) (met : NameMet) → HaveNumbers made names → HasNumber made met → HaveNumbers made (names ++ met ∷ [])
-have_more made [] met all is = (is, tt)
-have_more made (m ∷ names) met all is = (all.0, have_more made names met all.1 is)
+pub rare_stays : (old new : BTreeMap (Vec ℕ) ℕ) (key : Vec ℕ) (number : ℕ) → new.entries ≡ tree.insert_entry (λ x y. slice_cmp nat_cmp x.items y.items) old.entries key number → None ≡ rare_at old key.items → Stays (rare_at old) (rare_at new)
+rare_stays old new key number added none text n found = grind (arith, nat_tests, rare_is old new key number added text, (bytes_eq-Decides key.items text).0, none, found)
 
-pub have_next : (old new : BlockNumbers) (names : List NameMet) (i : ℕ) (met : NameMet) → i < length names → met ≡ get_or names i met → ((other : NameMet) → HasNumber old other → HasNumber new other) → HaveNumbers old (take i names) → HasNumber new met → HaveNumbers new (take (i + 1) names)
-have_next old new names i met inside at stays all is =
-    subst (HaveNumbers new) (sym (take_more names i met inside ∙ ap (λ m. take i names ++ m ∷ []) (sym at))) (have_more new (take i names) met (have_stay old new (take i names) stays all) is)
+pub rare_has : (old new : BTreeMap (Vec ℕ) ℕ) (key : Vec ℕ) (number : ℕ) → new.entries ≡ tree.insert_entry (λ x y. slice_cmp nat_cmp x.items y.items) old.entries key number → rare_at new key.items ≡ Some number
+rare_has old new key number added = grind (arith, nat_tests, rare_is old new key number added key.items, (bytes_eq-Decides key.items key.items).1 refl)
 
-pub have_at : (made : BlockNumbers) (names : List NameMet) (i : ℕ) (met : NameMet) → i < length names → met ≡ get_or names i met → HaveNumbers made names → HasNumber made met
-have_at made [] i met inside at all = absurd (omega arith)
-have_at made (m ∷ names) zero met inside at all = subst (HasNumber made) (sym at) all.0
-have_at made (m ∷ names) (suc i) met inside at all = have_at made names i met (omega arith) at all.1
+-- The functions of one more hash.
+first_is : (old new : BTreeMap ℕ Bearers) (hash : ℕ) (one : Bearers) → Updates nat_cmp old new hash (Some one) → (other : ℕ) → get nat_cmp new other ≡ (if hash == other then Some one else get nat_cmp old other)
+first_is old new hash one updates other = updates.0 other ∙ ap (λ (t : Bool). if t then Some one else get nat_cmp old other) (grind (arith, nat_tests))
 
-pub clean_at : (names : List NameMet) (i : ℕ) (met : NameMet) → i < length names → met ≡ get_or names i met → AreClean names → IsClean met
-clean_at [] i met inside at all = absurd (omega arith)
-clean_at (m ∷ names) zero met inside at all = subst IsClean (sym at) all.0
-clean_at (m ∷ names) (suc i) met inside at all = clean_at names i met (omega arith) at all.1
-
--- No name was made.
-none_at : (made : BlockNumbers) (key : List ℕ) → made.entries ≡ [] → number_at made key ≡ None
-unfolding number_at
-none_at made key none = ap (λ l. lookup (λ k. is_eq (slice_cmp nat_cmp key k.items)) l) none
-
-pub none_made : (numbers : BlockNumbers) (names : Names) (text : List ℕ) → length names.made.entries ≡ 0 → None ≡ key_number numbers names text
-none_made numbers names text none = go (text_key numbers text)
+alike_more : (name : ℕ → List ℕ) (old new : BTreeMap ℕ Bearers) (hash : ℕ) (one : Bearers) → AreAlike name old → Updates nat_cmp old new hash (Some one) → name one.last ≡ name one.first → hash_of (name one.first) ≡ hash → AreAlike name new
+unfolding AreAlike
+alike_more name old new hash one all updates same is other b found = go (hash == other) refl (sym (first_is old new hash one updates other) ∙ found)
   where
-    go : (o : Option (List ℕ)) → None ≡ option_and_then (number_at names.made) o
-    go None = refl
-    go (Some key) = sym (none_at names.made key (nil_from_length names.made.entries none))
+    go : (t : Bool) → (hash == other) ≡ t → (if t then Some one else get nat_cmp old other) ≡ Some b → (name b.last ≡ name b.first) × (hash_of (name b.first) ≡ other)
+    go true at so = (let here : one ≡ b = cc in let there : hash ≡ other = grind (arith, nat_tests, at) in subst (λ (c : Bearers). (name c.last ≡ name c.first) × (hash_of (name c.first) ≡ other)) here (same, is ∙ there))
+    go false at so = all other b so
 
--- Names that are in the file.
-whole_new : (old new : Names) (name : List ℕ) (number : ℕ) → tree.UpdatesBy (λ x y. slice_cmp nat_cmp x.now y.now) (λ k. slice_cmp nat_cmp name k.now) old.whole new.whole (Some number) → (text : List ℕ) → whole_number new text ≡ cond (bytes_eq name text) (Some number) (whole_number old text)
-whole_new old new name number updates text = btree_map_updates_str name old.whole new.whole (Some number) updates text
+alike_at : (name : ℕ → List ℕ) (firsts : BTreeMap ℕ Bearers) (hash : ℕ) (one : Bearers) → AreAlike name firsts → get nat_cmp firsts hash ≡ Some one → (name one.last ≡ name one.first) × (hash_of (name one.first) ≡ hash)
+unfolding AreAlike
+alike_at name firsts hash one all at = all hash one at
 
-pub none_class : {A : Type 0} (o found : Option A) → ((x : A) → o ≢ Some x) → o ≡ found → None ≡ found
-none_class None found none is = is
-none_class (Some x) found none is = absurd (none x refl)
+-- The classes stay if those of the names with one hash stay.
+first_stays : (name : ℕ → List ℕ) (old new : BTreeMap ℕ Bearers) (rare : BTreeMap (Vec ℕ) ℕ) (hash : ℕ) (one : Bearers) → Updates nat_cmp old new hash (Some one)
+    → ((text : List ℕ) (n : ℕ) → class_among name rare text (get nat_cmp old hash) ≡ Some n → class_among name rare text (Some one) ≡ Some n) → Stays (class_in name old rare) (class_in name new rare)
+first_stays name old new rare hash one updates here text n found =
+    ap (class_among name rare text) (first_is old new hash one updates (hash_of text)) ∙ go (hash == hash_of text) refl
+  where
+    go : (t : Bool) → (hash == hash_of text) ≡ t → class_among name rare text (if t then Some one else get nat_cmp old (hash_of text)) ≡ Some n
+    go true at = (let same : hash ≡ hash_of text = grind (arith, nat_tests, at) in here text n (ap (λ h. class_among name rare text (get nat_cmp old h)) same ∙ found))
+    go false at = found
 
--- One more name that is in the file.
-pub record AddsWhole (numbers : BlockNumbers) (old new : Names) (name : List ℕ) (number : ℕ) : Type 0 where
-  pub class : name_number numbers new name ≡ Some number
-  pub stays : Stays (name_number numbers old) (name_number numbers new)
-  pub apart : StandApart (whole_number old) (key_number numbers old) → StandApart (whole_number new) (key_number numbers new)
-  pub numbers_are : (of : ℕ → List ℕ) → of number ≡ name → AreNumbersOf of (name_number numbers old) → AreNumbersOf of (name_number numbers new)
+-- The class of a name that the functions of its hash give.
+among_is : (name : ℕ → List ℕ) (firsts : BTreeMap ℕ Bearers) (rare : BTreeMap (Vec ℕ) ℕ) (text : List ℕ) (o : Option Bearers) → get nat_cmp firsts (hash_of text) ≡ o → class_in name firsts rare text ≡ class_among name rare text o
+among_is name firsts rare text o at = ap (class_among name rare text) at
 
-pub adds_whole : (numbers : BlockNumbers) (old new : Names) (name : List ℕ) (number : ℕ) → None ≡ whole_number old name → None ≡ key_number numbers old name → new.made ≡ old.made
-    → tree.UpdatesBy (λ x y. slice_cmp nat_cmp x.now y.now) (λ k. slice_cmp nat_cmp name k.now) old.whole new.whole (Some number) → AddsWhole numbers old new name number
-adds_whole numbers old new name number none unmade same updates = record {
-  class = grind (arith, nat_tests, whole_new old new name number updates name, (bytes_eq-Decides name name).1 refl);
-  stays = λ text n is. grind (arith, nat_tests, whole_new old new name number updates text, same, none, unmade, (bytes_eq-Decides name text).0, is);
-  apart = λ apart text n is. grind (arith, nat_tests, whole_new old new name number updates text, same, unmade, (bytes_eq-Decides name text).0, apart text n, is);
-  numbers_are = λ of here all text n is. grind (arith, nat_tests, whole_new old new name number updates text, same, here, (bytes_eq-Decides name text).0, all text n, is);
+pub now_first : (old new : BTreeMap ℕ Bearers) (hash : ℕ) (one : Bearers) → Updates nat_cmp old new hash (Some one) → get nat_cmp new hash ≡ Some one
+now_first old new hash one updates = grind (arith, nat_tests, first_is old new hash one updates hash)
+
+pub grows : (units : List UnitRead) (name : ℕ → List ℕ) (old new : NameClasses) → AreHeld units name old → AreAlike name new.firsts → AreNumbersOf name (rare_at new.rare) → new.roots ≡ old.roots → Stays (class_in name old.firsts old.rare) (class_in name new.firsts new.rare) → Grows units name old new
+unfolding class_at AreRoots
+grows units name old new held alike numbers same stays = record {
+  held = record {
+    alike = alike;
+    numbers = numbers;
+    roots = λ unit entry n few low is. stays (kept (inner_front units unit entry)) n (held.roots unit entry n few low (ap (λ m. get nat_cmp m (place_of unit entry)) (sym same) ∙ is));
+  };
+  stays = stays;
 }
+
+pub grows_twice : (units : List UnitRead) (name : ℕ → List ℕ) (old mid new : NameClasses) → Grows units name old mid → Grows units name mid new → Grows units name old new
+grows_twice units name old mid new one two = record { held = two.held; stays = λ text n is. two.stays text n (one.stays text n is) }
+
+-- A function is the first one with its hash.
+pub grows_first : (units : List UnitRead) (name : ℕ → List ℕ) (old : NameClasses) (firsts : BTreeMap ℕ Bearers) (number hash : ℕ) (one : Bearers) → AreHeld units name old → hash ≡ hash_of (name number) → None ≡ get nat_cmp old.firsts hash → one ≡ record { first = number; last = number; differ = false } → Updates nat_cmp old.firsts firsts hash (Some one)
+    → Grows units name old (record { alloc = old.alloc; firsts = firsts; rare = old.rare; roots = old.roots })
+grows_first units name old firsts number hash one held is none made updates =
+    grows units name old _ held (alike_more name old.firsts firsts hash one held.alike updates (ap name (ap (λ (b : Bearers). b.last) made ∙ sym (ap (λ (b : Bearers). b.first) made))) (ap (λ (b : Bearers). hash_of (name b.first)) made ∙ sym is)) held.numbers refl
+    (first_stays name old.firsts firsts old.rare hash one updates (λ text n found. absurd (let wrong : None ≡ Some n = ap (class_among name old.rare text) none ∙ found in cc)))
+
+-- A function has the same name as the first one with its hash.
+pub grows_again : (units : List UnitRead) (name : ℕ → List ℕ) (old : NameClasses) (firsts : BTreeMap ℕ Bearers) (number hash : ℕ) (one more : Bearers) → AreHeld units name old → Some one ≡ get nat_cmp old.firsts hash → one.differ ≡ false → bytes_eq (name number) (name one.last) ≡ true → more ≡ record { first = one.first; last = number; differ = false } → Updates nat_cmp old.firsts firsts hash (Some more)
+    → Grows units name old (record { alloc = old.alloc; firsts = firsts; rare = old.rare; roots = old.roots })
+grows_again units name old firsts number hash one more held at alone same made updates =
+    let known = alike_at name old.firsts hash one held.alike (sym at) in
+    let begins : more.first ≡ one.first = ap (λ (b : Bearers). b.first) made in
+    let ends : name more.last ≡ name one.first = ap (λ (b : Bearers). name b.last) made ∙ (bytes_eq-Decides (name number) (name one.last)).0 same ∙ known.0 in
+    grows units name old _ held (alike_more name old.firsts firsts hash more held.alike updates (ends ∙ ap name (sym begins)) (ap (λ k. hash_of (name k)) begins ∙ known.1)) held.numbers refl
+    (first_stays name old.firsts firsts old.rare hash more updates (λ text n found. ap (λ (b : Bearers). class_among name old.rare text (Some b)) made ∙ grind (arith, nat_tests, at, alone, found)))
+
+-- The class of a name whose functions all have it.
+pub class_alone : (name : ℕ → List ℕ) (old new : NameClasses) (number hash : ℕ) (more : Bearers) → hash ≡ hash_of (name number) → Updates nat_cmp old.firsts new.firsts hash (Some more) → more.differ ≡ false → name more.first ≡ name number → class_at name new (name number) ≡ Some more.first
+unfolding class_at
+class_alone name old new number hash more is updates alone same =
+    among_is name new.firsts new.rare (name number) (Some more) (ap (get nat_cmp new.firsts) (sym is) ∙ now_first old.firsts new.firsts hash more updates)
+    ∙ grind (arith, nat_tests, alone, (bytes_eq-Decides (name more.first) (name number)).1 same)
+
+pub class_again : (units : List UnitRead) (name : ℕ → List ℕ) (old new : NameClasses) (number hash : ℕ) (one more : Bearers) → AreHeld units name old → hash ≡ hash_of (name number) → Some one ≡ get nat_cmp old.firsts hash → bytes_eq (name number) (name one.last) ≡ true → more ≡ record { first = one.first; last = number; differ = false } → Updates nat_cmp old.firsts new.firsts hash (Some more)
+    → class_at name new (name number) ≡ Some one.first
+class_again units name old new number hash one more held is at same made updates =
+    let begins : more.first ≡ one.first = ap (λ (b : Bearers). b.first) made in
+    let ends : name one.first ≡ name number = sym ((bytes_eq-Decides (name number) (name one.last)).0 same ∙ (alike_at name old.firsts hash one held.alike (sym at)).0) in
+    class_alone name old new number hash more is updates (ap (λ (b : Bearers). b.differ) made) (ap name begins ∙ ends) ∙ ap Some begins
+
+-- Names with one hash differ.
+pub class_differs : (name : ℕ → List ℕ) (new : NameClasses) (text : List ℕ) (hash : ℕ) (one : Bearers) → hash ≡ hash_of text → get nat_cmp new.firsts hash ≡ Some one → one.differ ≡ true → class_at name new text ≡ rare_at new.rare text
+unfolding class_at
+class_differs name new text hash one is at differ =
+    among_is name new.firsts new.rare text (Some one) (ap (get nat_cmp new.firsts) (sym is) ∙ at)
+    ∙ grind (arith, nat_tests, differ)
+
+pub grows_rare : (units : List UnitRead) (name : ℕ → List ℕ) (old new : NameClasses) → AreHeld units name old → new.firsts ≡ old.firsts → new.roots ≡ old.roots → Stays (rare_at old.rare) (rare_at new.rare) → AreNumbersOf name (rare_at new.rare) → Grows units name old new
+grows_rare units name old new held firsts roots stays numbers =
+    grows units name old new held (subst (AreAlike name) (sym firsts) held.alike) numbers roots (λ text n found. ap (λ m. class_in name m new.rare text) firsts ∙ go text n (get nat_cmp old.firsts (hash_of text)) found)
+  where
+    go : (text : List ℕ) (n : ℕ) (o : Option Bearers) → class_among name old.rare text o ≡ Some n → class_among name new.rare text o ≡ Some n
+    go text n None found = found
+    go text n (Some b) found = grind (arith, nat_tests, found, stays text n)
+
+-- The text of the first name with a hash is stored.
+stored : (name : ℕ → List ℕ) (firsts : BTreeMap ℕ Bearers) (old new : BTreeMap (Vec ℕ) ℕ) (key : Vec ℕ) (hash : ℕ) (one : Bearers) → get nat_cmp firsts hash ≡ Some one → one.differ ≡ false → hash_of key.items ≡ hash → new.entries ≡ tree.insert_entry (λ x y. slice_cmp nat_cmp x.items y.items) old.entries key one.first
+    → Stays (class_in name firsts old) (class_in name firsts new)
+stored name firsts old new key hash one at alone is added text n found = go (get nat_cmp firsts (hash_of text)) refl found
+  where
+    other : (b : Bearers) → get nat_cmp firsts (hash_of text) ≡ Some b → b.differ ≡ true → bytes_eq key.items text ≡ true → ⊥
+    other b there differ same =
+        (let here : hash ≡ hash_of text = sym is ∙ ap hash_of ((bytes_eq-Decides key.items text).0 same) in
+        let both : Some b ≡ Some one = sym there ∙ ap (get nat_cmp firsts) (sym here) ∙ at in
+        let one_is : b ≡ one = cc in
+        let wrong : true ≡ false = sym differ ∙ ap (λ (c : Bearers). c.differ) one_is ∙ alone in
+        absurd (cc))
+
+    go : (o : Option Bearers) → get nat_cmp firsts (hash_of text) ≡ o → class_among name old text o ≡ Some n → class_among name new text o ≡ Some n
+    go None there so = so
+    go (Some b) there so = grind (arith, nat_tests, so, rare_is old new key one.first added text, other b there)
+
+pub grows_parted : (units : List UnitRead) (name : ℕ → List ℕ) (old : NameClasses) (firsts : BTreeMap ℕ Bearers) (rare : BTreeMap (Vec ℕ) ℕ) (key : Vec ℕ) (hash : ℕ) (one : Bearers) → AreHeld units name old → get nat_cmp old.firsts hash ≡ Some one → one.differ ≡ false → key.items ≡ name one.last
+    → rare.entries ≡ tree.insert_entry (λ x y. slice_cmp nat_cmp x.items y.items) old.rare.entries key one.first → Updates nat_cmp old.firsts firsts hash (Some (record { first = one.first; last = one.last; differ = true }))
+    → Grows units name old (record { alloc = old.alloc; firsts = firsts; rare = rare; roots = old.roots })
+grows_parted units name old firsts rare key hash one held at alone is added updates =
+    let known = alike_at name old.firsts hash one held.alike at in
+    let text_is : key.items ≡ name one.first = is ∙ known.0 in
+    grows units name old _ held (alike_more name old.firsts firsts hash _ held.alike updates known.0 known.1) (rare_numbers name old.rare rare key one.first added text_is held.numbers) refl
+    (λ text n found. first_stays name old.firsts firsts rare hash _ updates (λ t m so. grind (arith, nat_tests, at, alone, so, rare_is old.rare rare key one.first added t, text_is, (bytes_eq-Decides (name one.first) t).0, (bytes_eq-Decides key.items t).1)) text n
+    (stored name old.firsts old.rare rare key hash one at alone (ap hash_of text_is ∙ known.1) added text n found))
+
+-- ---- The classes of roots.
+
+pub root_known : (units : List UnitRead) (name : ℕ → List ℕ) (classes : NameClasses) (key : NameKey) (text : List ℕ) (unit entry place class : ℕ) → AreHeld units name classes → IsKey units key text → Some (record { unit = unit; entry = entry }) ≡ key.root → unit < 2 ^ 32 → entry < 2 ^ 32 → place ≡ place_of unit entry → Some class ≡ get nat_cmp classes.roots place → class_at name classes text ≡ Some class
+unfolding AreRoots
+root_known units name classes key text unit entry place class held of root few low at found =
+    let full = subst (λ o. IfSome o (λ r. (length text ≡ 65536) × (text ≡ kept (inner_front units r.unit r.entry)))) (sym root) of.root_is in
+    ap (class_at name classes) full.1 ∙ held.roots unit entry class few low (ap (get nat_cmp classes.roots) (sym at) ∙ sym found)
+
+pub grows_root : (units : List UnitRead) (name : ℕ → List ℕ) (old mid : NameClasses) (roots : BTreeMap ℕ ℕ) (key : NameKey) (text : List ℕ) (unit entry place class : ℕ) → Grows units name old mid → IsKey units key text → Some (record { unit = unit; entry = entry }) ≡ key.root → entry < 2 ^ 32 → place ≡ place_of unit entry → class_at name mid text ≡ Some class → Updates nat_cmp mid.roots roots place (Some class)
+    → Grows units name old (record { alloc = mid.alloc; firsts = mid.firsts; rare = mid.rare; roots = roots })
+unfolding class_at AreRoots
+grows_root units name old mid roots key text unit entry place class more of root low at is updates =
+    let full = subst (λ o. IfSome o (λ r. (length text ≡ 65536) × (text ≡ kept (inner_front units r.unit r.entry)))) (sym root) of.root_is in
+    record {
+      held = record {
+        alike = more.held.alike;
+        numbers = more.held.numbers;
+        roots = noted_more _ mid.roots roots unit entry place class more.held.roots low at (ap (class_in name mid.firsts mid.rare) (sym full.1) ∙ is) updates;
+      };
+      stays = more.stays;
+    }
+
+-- Before the first name.
+pub held_none : (units : List UnitRead) (name : ℕ → List ℕ) (classes : NameClasses) → classes.firsts.entries ≡ [] → classes.rare.entries ≡ [] → classes.roots.entries ≡ [] → AreHeld units name classes
+unfolding AreAlike AreRoots rare_at
+held_none units name classes firsts rare roots = record {
+  alike = λ hash b is. (let none : None ≡ Some b = sym (ap (λ es. lookup (is_at (nat_cmp hash)) es) firsts) ∙ is in absurd (cc));
+  numbers = λ text n is. (let none : None ≡ Some n = sym (ap (λ es. entry_at es text) rare) ∙ is in absurd (cc));
+  roots = noted_none _ classes.roots roots;
+}
+
+pub held_numbers : (units : List UnitRead) (name : ℕ → List ℕ) (classes : NameClasses) → AreHeld units name classes → AreNumbersOf name (class_at name classes)
+unfolding class_at
+held_numbers units name classes held text n found = go (get nat_cmp classes.firsts (hash_of text)) found
+  where
+    go : (o : Option Bearers) → class_among name classes.rare text o ≡ Some n → name n ≡ text
+    go None so = absurd (cc)
+    go (Some b) so = grind (arith, nat_tests, so, held.numbers text n, (bytes_eq-Decides (name b.first) text).0)
 
 -- Stretches that have classes.
 class_grows : (old new : List ℕ → Option ℕ) (name : ℕ → List ℕ) (items named : List Stretch) → Stays old new → AreClassed old name items named → AreClassed new name items named
@@ -323,13 +342,3 @@ classes_by name items named found = (
   record { alike = λ i j same. ap (λ (l : List ℕ). unwrap_or (found.0 l) 0) same; named = named_all found.0 name items named found.1 found.2 },
   classes_are found.0 name items named found.2,
 )
-
--- Before the first name.
-pub none_known : (numbers : BlockNumbers) (names : Names) (name : ℕ → List ℕ) → names.made.entries ≡ [] → AreNumbersOf name (key_number numbers names)
-none_known numbers names name none text n found = absurd (let wrong : None ≡ Some n = none_made numbers names text (ap length none) ∙ found in cc)
-
-pub none_whole : (names : Names) (text : List ℕ) → names.whole.entries ≡ [] → whole_number names text ≡ None
-none_whole names text none = ap (λ l. lookup (λ k. is_eq (slice_cmp nat_cmp text k.now)) l) none
-
-pub numbers_none : (numbers : BlockNumbers) (names : Names) (name : ℕ → List ℕ) → names.whole.entries ≡ [] → AreNumbersOf name (key_number numbers names) → AreNumbersOf name (name_number numbers names)
-numbers_none numbers names name none all text n found = all text n (sym (ap (λ (o : Option ℕ). option_or o (key_number numbers names text)) (none_whole names text none)) ∙ found)

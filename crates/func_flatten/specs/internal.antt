@@ -5,6 +5,6 @@ pub mod Growing
 pub mod Grouping
 pub mod Standing
 pub mod Repeats
-pub mod NameBlocks
 pub mod ScopeFronts
-pub mod MetNames
+pub mod NameKeys
+pub mod NameClasses

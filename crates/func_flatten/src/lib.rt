@@ -9,11 +9,12 @@
 //! The definitions are in `specs/`: `Pieces`, `LineRuns` and `Publics`, each of which asks one address at a time. The owner and its line are those of
 //! `debug_units`, its name is that of `die_names`. The other modules there are for the code alone. The code takes all functions' ranges as stretches
 //! and sweeps them once (`step_maps::covers`). If two functions have the first address of a run, the stretches that have this address get classes by
-//! their functions' names, and are swept once more (`step_maps::first_items`). A name that is clean in the file is compared without a copy. Lines are
+//! their functions' names, and are swept once more (`step_maps::first_items`). Names are compared by a hash first, which is made scope by
+//! scope. Lines are
 //! made stop by stop, and sorted symbols are merged with the pieces.
 //!
 //! The modules are best read in this order: `piece`, `set_owners`, `functions`; for names
-//! `name_blocks`, `scope_keys`, `name_met`, `name_classes`; then `cover_marks`, `owners`,
+//! `name_keys`, `scope_keys`, `name_classes`; then `cover_marks`, `owners`,
 //! `line_run`, `lines`, `public`, `uncovered`, `laws`.
 #![tactic(auto)]
 
@@ -22,9 +23,8 @@ mod functions;
 pub mod laws;
 mod line_run;
 mod lines;
-mod name_blocks;
 mod name_classes;
-mod name_met;
+mod name_keys;
 mod owners;
 mod piece;
 mod public;

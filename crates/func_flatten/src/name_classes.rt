@@ -1,27 +1,46 @@
 //! Classes of functions: two functions have the same class exactly if their names are equal.
-ghost use Rattle.std.specs.Prelude.{◌≡◌, List, ℕ, Option, Some, map, length, IfOk, IfSome, OnOk};
-ghost use Rattle.clean_names.specs.Cleaning.{cleaned};
-ghost use Rattle.func_flatten.specs.declared.name_met.NameMet.TheVariants.{Made};
-ghost use Rattle.func_flatten.specs.internal.Classes.{place_at, number_name, classed, last_class};
-ghost use Rattle.func_flatten.specs.internal.NameBlocks.{BlockNumbers, IsKey};
-ghost use Rattle.func_flatten.specs.internal.ScopeFronts.{AreFronts};
-ghost use Rattle.func_flatten.specs.internal.MetNames.{IsMet, AreMet, IsClean, AreClean, key_number, whole_number, name_number, AreNumbersOf, Stays, StandApart, HasNumber, HaveNumbers, AreClassed, IsClass};
+//!
+//! A class is the number of a function with the name. It is found by the hash of the name. If another function has this hash, the two names are compared
+//! byte by byte. The other function is then the last one that was compared and has the first one's name, and not the first one itself. To read a name
+//! takes as many steps as there are scopes around it; so each name is read a few times only, and the scopes of one function are not walked for each of
+//! the others. If names with one hash differ, their texts are stored; that happens only in files that are made for it.
+//!
+//! Below a root there may be many scopes, but all names there are the same text: the class is kept for the root, and only the first of them is compared.
+ghost use Rattle.std.specs.Prelude.{◌≡◌, false, true, List, ℕ, Option, Some, map, IfOk, OnOk};
+ghost use Rattle.std.specs.BTreeMap.{get};
+ghost use Rattle.std.specs.Ordering.{nat_cmp};
+ghost use Rattle.debug_units.specs.declared.unit_read.UnitRead.{UnitRead};
+ghost use Rattle.func_flatten.specs.internal.Classes.{place_name, place_at, number_name, classed, last_class};
+ghost use Rattle.func_flatten.specs.internal.NameKeys.{hash_of, IsKey};
+ghost use Rattle.func_flatten.specs.internal.NameClasses.{AreNumbersOf, Stays, rare_at, class_at, AreHeld, Grows, IsClass};
 
-use crate::name_blocks::{NameBlocks, NameKey, number_at};
-use crate::name_met::{NameMet, met_name};
-use crate::scope_keys::ScopeKeys;
+use crate::name_keys::NameKey;
+use crate::scope_keys::{ScopeKeys, place_of};
+use crate::set_owners::have_one_name;
 use debug_units::{EntryRef, Units};
+use die_names::{name_of, name_text};
 use std::alloc::Global;
 use std::collections::BTreeMap;
 use step_maps::Stretch;
 use sym_edges::OutOfMemory;
 
-/// The names that were met, each with the number of a function that has it: names that are in the file as records may carry them, and names that were
-/// made, by the bytes of their keys.
+/// The functions whose names have one hash, by their numbers: the first one, and the last one that was found to have the same name. `differ` says whether
+/// another of these names differs from it.
+#[derive(Clone, Copy, Debug)]
+struct Bearers {
+    first: u32,
+    last: u32,
+    differ: bool,
+}
+
+/// The classes of names: `firsts` has the functions by the hashes of their names, `rare` has the classes by the texts of names whose hash is also that of
+/// another name, and `roots` has the classes by the places of roots.
 #[derive(Drop)]
-struct Names<'a> {
-    whole: BTreeMap<&'a [u8], u32>,
-    made: BTreeMap<Vec<u8>, u32>,
+struct NameClasses {
+    alloc: Global,
+    firsts: BTreeMap<u64, Bearers>,
+    rare: BTreeMap<Vec<u8>, u32>,
+    roots: BTreeMap<u64, u32>,
 }
 
 /// The entry of the function with a number.
@@ -34,174 +53,151 @@ pub(crate) fn place_at(places: &[EntryRef], number: u32) -> EntryRef
     }
 }
 
-/// The name of the last stretch's function, if the function has this number.
-fn met_last<'a>(
-    alloc: Global,
-    stretches: &[Stretch],
-    names: &[NameMet<'a>],
-    number: u32,
-) -> Result<Option<NameMet<'a>>, OutOfMemory>
-    ensures { IfOk result (λ found. IfSome found (λ met. (numbers : BlockNumbers) (name : ℕ → List ℕ) → AreMet numbers name stretches.now names.now → IsMet numbers met (name number))) }
+/// The text of the name of a function, in new memory.
+fn text_of(alloc: Global, units: &Units<'_>, place: EntryRef) -> Result<Vec<u8>, OutOfMemory>
+    ensures { IfOk result (λ text. text.items ≡ place_name units.now place) }
 {
-    let Some(stretch) = stretches.last() else {
-        return Ok(None);
-    };
-    let Some(met) = names.last() else {
-        return Ok(None);
-    };
-    if stretch.index != number {
-        return Ok(None);
-    }
-    Ok(Some(met.again(alloc)?))
+    let name = name_of(units, place.unit, place.entry);
+    let text = name_text(alloc, units, name)?;
+    let owned = Vec::from_slice(alloc, text.as_slice())?;
+    Ok(owned)
 }
 
-/// The names of the functions of stretches. Each is made once for neighbouring stretches of one function.
-fn met_names<'a>(
-    alloc: Global,
-    keys: &mut ScopeKeys,
-    units: &Units<'a>,
-    places: &[EntryRef],
-    stretches: &[Stretch],
-) -> Result<Vec<NameMet<'a>>, OutOfMemory>
-    requires { AreFronts units.now keys.old.blocks.numbers keys.old.known }
-    ensures met { IfOk result (λ names. AreMet keys.new.blocks.numbers (number_name units.now places.now) stretches.now names.items) }
-    ensures clean { IfOk result (λ names. AreClean names.items) }
-    ensures count { IfOk result (λ names. length names.items ≡ length stretches.now) }
+/// The class of a name whose text is stored.
+#[tactic(auto, unfolding(crate::specs::internal::NameClasses::rare_at))]
+fn rare_at(rare: &BTreeMap<Vec<u8>, u32>, text: &[u8]) -> Option<u32>
+    ensures { result ≡ rare_at rare.now text.now }
 {
-    let mut names = Vec::with_capacity(alloc, stretches.len())?;
-    'stretches: for at in 0..stretches.len() {
-        let number = stretches[at].index;
-        let before = stretches.split_at(at).0;
-        if let Some(met) = met_last(alloc, before, names.as_slice(), number)? {
-            names.push(met)?;
-            continue;
+    rare.get(text).copied()
+}
+
+/// Functions with one hash, all of which have one name.
+fn alone(first: u32, last: u32) -> Bearers
+    ensures { result ≡ record { first = first; last = last; differ = false } }
+{
+    Bearers {
+        first,
+        last,
+        differ: false,
+    }
+}
+
+impl NameClasses {
+    /// No name has a class yet.
+    fn new(alloc: Global) -> NameClasses
+        ensures { (units : List UnitRead) (name : ℕ → List ℕ) → AreHeld units name result }
+    {
+        NameClasses {
+            alloc,
+            firsts: BTreeMap::new(alloc),
+            rare: BTreeMap::new(alloc),
+            roots: BTreeMap::new(alloc),
         }
-        let met = met_name(alloc, keys, units, place_at(places, number))?;
-        names.push(met)?;
     }
-    Ok(names)
-}
 
-/// Notes the number of a function whose name was made, unless the name already has a number.
-fn note_made(
-    alloc: Global,
-    blocks: &NameBlocks,
-    names: &mut Names<'_>,
-    met: &NameMet<'_>,
-    number: u32,
-) -> Result<(), OutOfMemory>
-    ensures whole { names.new.whole ≡ names.old.whole }
-    ensures has { OnOk result (HasNumber names.new.made met.now) }
-    ensures stays { OnOk result ((other : NameMet) → HasNumber names.old.made other → HasNumber names.new.made other) }
-    ensures numbers { OnOk result ((name : ℕ → List ℕ) → IsMet blocks.now.numbers met.now (name number) → AreNumbersOf name (key_number blocks.now.numbers names.old) → AreNumbersOf name (key_number blocks.now.numbers names.new)) }
-{
-    let NameMet::Made(key) = met else {
-        return Ok(());
-    };
-    if number_at(&names.made, key.as_slice()).is_some() {
-        return Ok(());
+    /// The functions whose names have this hash.
+    fn bearers(&self, hash: u64) -> Option<Bearers>
+        ensures { result ≡ get nat_cmp self.now.firsts hash }
+    {
+        self.firsts.get(&hash).copied()
     }
-    names.made.insert(key.bytes(alloc)?, number)?;
-    Ok(())
-}
 
-/// Notes the numbers of the functions of stretches whose names were made.
-fn note_all(
-    alloc: Global,
-    blocks: &NameBlocks,
-    names: &mut Names<'_>,
-    mets: &[NameMet<'_>],
-    stretches: &[Stretch],
-) -> Result<(), OutOfMemory>
-    requires { length mets.now ≡ length stretches.now }
-    ensures whole { names.new.whole ≡ names.old.whole }
-    ensures has { OnOk result (HaveNumbers names.new.made mets.now) }
-    ensures numbers { OnOk result ((name : ℕ → List ℕ) → AreMet blocks.now.numbers name stretches.now mets.now → AreNumbersOf name (key_number blocks.now.numbers names.old) → AreNumbersOf name (key_number blocks.now.numbers names.new)) }
-{
-    'names: for at in 0..mets.len() {
-        note_made(alloc, blocks, names, &mets[at], stretches[at].index)?;
-    }
-    Ok(())
-}
-
-/// The number of a name that is in the file, if the same name was also made for some function.
-fn number_made(
-    alloc: Global,
-    blocks: &NameBlocks,
-    names: &Names<'_>,
-    name: &[u8],
-) -> Result<Option<u32>, OutOfMemory>
-    requires { cleaned name.now ≡ name.now }
-    ensures { IfOk result (λ found. found ≡ key_number blocks.now.numbers names.now name.now) }
-{
-    if names.made.is_empty() {
-        return Ok(None);
-    }
-    match blocks.find(alloc, name)? {
-        Some(key) => Ok(number_at(&names.made, key.as_slice())),
-        None => Ok(None),
-    }
-}
-
-/// The number of a name that is in the file; if the name has none, that of this function.
-fn meet_whole<'a>(
-    alloc: Global,
-    blocks: &NameBlocks,
-    names: &mut Names<'a>,
-    name: &'a [u8],
-    number: u32,
-) -> Result<u32, OutOfMemory>
-    requires { cleaned name.now ≡ name.now }
-    ensures class { IfOk result (λ class. name_number blocks.now.numbers names.new name.now ≡ Some class) }
-    ensures made { names.new.made ≡ names.old.made }
-    ensures stays { OnOk result (Stays (name_number blocks.now.numbers names.old) (name_number blocks.now.numbers names.new)) }
-    ensures apart { OnOk result (StandApart (whole_number names.old) (key_number blocks.now.numbers names.old) → StandApart (whole_number names.new) (key_number blocks.now.numbers names.new)) }
-    ensures numbers { OnOk result ((of : ℕ → List ℕ) → of number ≡ name.now → AreNumbersOf of (name_number blocks.now.numbers names.old) → AreNumbersOf of (name_number blocks.now.numbers names.new)) }
-{
-    if let Some(class) = names.whole.get(name) {
-        return Ok(*class);
-    }
-    if let Some(class) = number_made(alloc, blocks, names, name)? {
-        return Ok(class);
-    }
-    names.whole.insert(name, number)?;
-    Ok(number)
-}
-
-/// The number of a name that was made.
-fn meet_made(names: &Names<'_>, key: &NameKey) -> u32
-    requires { HasNumber names.now.made (Made key.now) }
-    ensures { (numbers : BlockNumbers) (text : List ℕ) → IsKey numbers key.now text → StandApart (whole_number names.now) (key_number numbers names.now) → name_number numbers names.now text ≡ Some result }
-{
-    match number_at(&names.made, key.as_slice()) {
-        Some(class) => class,
-        None => unreachable!(),
-    }
-}
-
-/// The number of a name.
-fn meet<'a>(
-    alloc: Global,
-    blocks: &NameBlocks,
-    names: &mut Names<'a>,
-    met: &NameMet<'a>,
-    number: u32,
-) -> Result<u32, OutOfMemory>
-    requires clean { IsClean met.now }
-    requires has { HasNumber names.old.made met.now }
-    requires apart { StandApart (whole_number names.old) (key_number blocks.now.numbers names.old) }
-    ensures class { IfOk result (λ class. (text : List ℕ) → IsMet blocks.now.numbers met.now text → name_number blocks.now.numbers names.new text ≡ Some class) }
-    ensures made { names.new.made ≡ names.old.made }
-    ensures stays { OnOk result (Stays (name_number blocks.now.numbers names.old) (name_number blocks.now.numbers names.new)) }
-    ensures apart { OnOk result (StandApart (whole_number names.new) (key_number blocks.now.numbers names.new)) }
-    ensures numbers { OnOk result ((of : ℕ → List ℕ) → IsMet blocks.now.numbers met.now (of number) → AreNumbersOf of (name_number blocks.now.numbers names.old) → AreNumbersOf of (name_number blocks.now.numbers names.new)) }
-{
-    match met {
-        NameMet::Whole(bytes) => {
-            let class = meet_whole(alloc, blocks, names, bytes, number)?;
-            Ok(class)
+    /// The class of the name of a function, by its text. If the name has none, this function gives it.
+    fn rare_class(
+        &mut self,
+        units: &Units<'_>,
+        places: &[EntryRef],
+        number: u32,
+    ) -> Result<u32, OutOfMemory>
+        ensures firsts { self.new.firsts ≡ self.old.firsts }
+        ensures roots { self.new.roots ≡ self.old.roots }
+        ensures stays { OnOk result (Stays (rare_at self.old.rare) (rare_at self.new.rare)) }
+        ensures numbers { OnOk result (AreNumbersOf (number_name units.now places.now) (rare_at self.old.rare) → AreNumbersOf (number_name units.now places.now) (rare_at self.new.rare)) }
+        ensures class { IfOk result (λ class. rare_at self.new.rare (number_name units.now places.now number) ≡ Some class) }
+    {
+        let text = text_of(self.alloc, units, place_at(places, number))?;
+        if let Some(class) = rare_at(&self.rare, text.as_slice()) {
+            return Ok(class);
         }
-        NameMet::Made(key) => Ok(meet_made(names, key)),
+        self.rare.insert(text, number)?;
+        Ok(number)
+    }
+
+    /// Stores the text of the first name with a hash, since another name has this hash.
+    fn part(
+        &mut self,
+        units: &Units<'_>,
+        places: &[EntryRef],
+        hash: u64,
+        one: Bearers,
+    ) -> Result<(), OutOfMemory>
+        requires held { AreHeld units.now (number_name units.now places.now) self.old }
+        requires known { get nat_cmp self.old.firsts hash ≡ Some one }
+        requires alone { one.differ ≡ false }
+        ensures grows { OnOk result (Grows units.now (number_name units.now places.now) self.old self.new) }
+        ensures parted { OnOk result (get nat_cmp self.new.firsts hash ≡ Some (record { first = one.first; last = one.last; differ = true })) }
+    {
+        let text = text_of(self.alloc, units, place_at(places, one.last))?;
+        self.rare.insert(text, one.first)?;
+        let mut parted = one;
+        parted.differ = true;
+        self.firsts.insert(hash, parted)?;
+        Ok(())
+    }
+
+    /// The class of the name of a function, which has this hash.
+    fn hash_class(
+        &mut self,
+        units: &Units<'_>,
+        places: &[EntryRef],
+        number: u32,
+        hash: u64,
+    ) -> Result<u32, OutOfMemory>
+        requires held { AreHeld units.now (number_name units.now places.now) self.old }
+        requires hash { hash ≡ hash_of (number_name units.now places.now number) }
+        ensures grows { OnOk result (Grows units.now (number_name units.now places.now) self.old self.new) }
+        ensures class { IfOk result (λ class. class_at (number_name units.now places.now) self.new (number_name units.now places.now number) ≡ Some class) }
+    {
+        let Some(one) = self.bearers(hash) else {
+            self.firsts.insert(hash, alone(number, number))?;
+            return Ok(number);
+        };
+        if one.differ {
+            let class = self.rare_class(units, places, number)?;
+            return Ok(class);
+        }
+        let place = place_at(places, number);
+        if have_one_name(self.alloc, units, place, place_at(places, one.last))? {
+            self.firsts.insert(hash, alone(one.first, number))?;
+            return Ok(one.first);
+        }
+        self.part(units, places, hash, one)?;
+        let class = self.rare_class(units, places, number)?;
+        Ok(class)
+    }
+
+    /// The class of the name of a function, which has this key.
+    fn class(
+        &mut self,
+        units: &Units<'_>,
+        places: &[EntryRef],
+        number: u32,
+        key: NameKey,
+    ) -> Result<u32, OutOfMemory>
+        requires held { AreHeld units.now (number_name units.now places.now) self.old }
+        requires key { IsKey units.now key (number_name units.now places.now number) }
+        ensures grows { OnOk result (Grows units.now (number_name units.now places.now) self.old self.new) }
+        ensures class { IfOk result (λ class. class_at (number_name units.now places.now) self.new (number_name units.now places.now number) ≡ Some class) }
+    {
+        let Some(root) = key.root else {
+            return self.hash_class(units, places, number, key.hash);
+        };
+        if let Some(class) = self.roots.get(&place_of(root.unit, root.entry)) {
+            return Ok(*class);
+        }
+        let class = self.hash_class(units, places, number, key.hash)?;
+        self.roots.insert(place_of(root.unit, root.entry), class)?;
+        Ok(class)
     }
 }
 
@@ -219,43 +215,11 @@ fn last_class(named: &[Stretch], number: u32) -> Option<u32>
 fn classed(stretch: Stretch, class: u32) -> Stretch
     ensures { result ≡ record { first = stretch.first; last = stretch.last; index = stretch.index; class = class } }
 {
-    Stretch {
-        first: stretch.first,
-        last: stretch.last,
-        index: stretch.index,
-        class,
-    }
+    Stretch { class, ..stretch }
 }
 
-/// The stretches, each with the number of its function's name as its class.
-fn class_all<'a>(
-    alloc: Global,
-    blocks: &NameBlocks,
-    names: &mut Names<'a>,
-    mets: &[NameMet<'a>],
-    stretches: &[Stretch],
-) -> Result<Vec<Stretch>, OutOfMemory>
-    requires count { length mets.now ≡ length stretches.now }
-    requires clean { AreClean mets.now }
-    requires has { HaveNumbers names.old.made mets.now }
-    requires apart { StandApart (whole_number names.old) (key_number blocks.now.numbers names.old) }
-    ensures { IfOk result (λ named. (name : ℕ → List ℕ) → AreMet blocks.now.numbers name stretches.now mets.now → AreNumbersOf name (name_number blocks.now.numbers names.old) → (number : List ℕ → Option ℕ) × AreNumbersOf name number × AreClassed number name stretches.now named.items) }
-{
-    let mut named = Vec::with_capacity(alloc, stretches.len())?;
-    'stretches: for at in 0..stretches.len() {
-        let stretch = stretches[at];
-        if let Some(class) = last_class(named.as_slice(), stretch.index) {
-            named.push(classed(stretch, class))?;
-            continue;
-        }
-        let class = meet(alloc, blocks, names, &mets[at], stretch.index)?;
-        named.push(classed(stretch, class))?;
-    }
-    Ok(named)
-}
-
-/// The stretches, each with a class by the name of its function. A name that is joined with those of its scopes is built from the key of the
-/// innermost scope, which is made once.
+/// The stretches, each with a class by the name of its function. Neighbouring stretches of one function share what was found for the first of them. A
+/// name that is joined with those of its scopes is hashed from the key of the innermost scope on, which is made once.
 pub fn with_classes(
     alloc: Global,
     units: &Units<'_>,
@@ -264,13 +228,18 @@ pub fn with_classes(
 ) -> Result<Vec<Stretch>, OutOfMemory>
     ensures { IfOk result (λ named. (class : ℕ → ℕ) × IsClass (number_name units.now places.now) class stretches.now × (named.items ≡ map (classed class) stretches.now)) }
 {
-    let mut keys = ScopeKeys::new(alloc);
-    let mets = met_names(alloc, &mut keys, units, places, stretches)?;
-    let mut names = Names {
-        whole: BTreeMap::new(alloc),
-        made: BTreeMap::new(alloc),
-    };
-    note_all(alloc, &keys.blocks, &mut names, mets.as_slice(), stretches)?;
-    let named = class_all(alloc, &keys.blocks, &mut names, mets.as_slice(), stretches)?;
+    let mut scopes = ScopeKeys::new(alloc);
+    let mut classes = NameClasses::new(alloc);
+    let mut named = Vec::with_capacity(alloc, stretches.len())?;
+    'stretches: for at in 0..stretches.len() {
+        let stretch = stretches[at];
+        if let Some(class) = last_class(named.as_slice(), stretch.index) {
+            named.push(classed(stretch, class))?;
+            continue;
+        }
+        let key = scopes.key(alloc, units, place_at(places, stretch.index))?;
+        let class = classes.class(units, places, stretch.index, key)?;
+        named.push(classed(stretch, class))?;
+    }
     Ok(named)
 }

@@ -1,24 +1,25 @@
-//! The keys of the prefixes that scopes give to names. Each entry is visited once for all names.
-ghost use Rattle.std.specs.Prelude.{◌≡◌, ℕ, ◌++◌, List, IfOk, IfSome, OnOk, ◌<◌};
+//! The keys of the prefixes that scopes give to names, and of the names themselves. Each entry is visited once for all names.
+ghost use Rattle.std.specs.Prelude.{◌≡◌, ℕ, ◌++◌, List, [], if◌then◌else◌, IfOk, IfSome, OnOk, ◌<◌, ◌^◌};
 ghost use Rattle.std.specs.List.{slice_get};
 ghost use Rattle.debug_units.specs.declared.unit_read.UnitRead.{UnitRead};
-ghost use Rattle.die_names.specs.Names.{scope_front, front_at};
-ghost use Rattle.func_flatten.specs.internal.NameBlocks.{kept, Grows, IsKey};
-ghost use Rattle.func_flatten.specs.internal.ScopeFronts.{unit_dies, outer, outer_from, outer_front, inner_front, place_of, AreFronts, IsHalfway};
+ghost use Rattle.die_names.specs.Names.{front_at};
+ghost use Rattle.func_flatten.specs.internal.Classes.{place_name};
+ghost use Rattle.func_flatten.specs.internal.ScopeFronts.{unit_dies, outer, outer_from, outer_front, inner_front, place_of};
+ghost use Rattle.func_flatten.specs.internal.NameKeys.{kept, IsKey, AreFronts, IsHalfway};
 
-use crate::name_blocks::{NameBlocks, NameKey};
+use crate::name_keys::NameKey;
+use clean_names::name_omitted;
 use debug_units::{EntryRef, Units};
-use die_names::scope_name;
+use die_names::{NameRef, name_of, name_parts, scope_name};
 use die_walk::Die;
 use std::alloc::Global;
 use std::collections::BTreeMap;
 use sym_edges::OutOfMemory;
 
-/// The blocks of names, and for the visited entries the keys of prefixes. The prefix of an entry is
-/// what it and the scopes around it give to the names in it.
+/// For the visited entries, the keys of prefixes. The prefix of an entry is what it and the scopes
+/// around it give to the names in it.
 #[derive(Drop)]
 pub(crate) struct ScopeKeys {
-    pub(crate) blocks: NameBlocks,
     known: BTreeMap<u64, NameKey>,
 }
 
@@ -44,89 +45,45 @@ fn outer_of(units: &Units<'_>, unit: u32, entry: u32) -> Option<u32>
     ensures around { outer (unit_dies units.now unit) entry ≡ outer_from (unit_dies units.now unit) result }
     ensures before { IfSome result (λ number. number < entry) }
 {
-    let Some(die) = entry_at(units, unit, entry) else {
-        return None;
-    };
-    let Some(number) = die.parent() else {
-        return None;
-    };
+    let die = entry_at(units, unit, entry)?;
+    let number = die.parent()?;
     if number >= entry {
         return None;
     }
-    let Some(_around) = entry_at(units, unit, number) else {
-        return None;
-    };
+    let _around = entry_at(units, unit, number)?;
     Some(number)
 }
 
 /// An entry of a unit as one number.
-fn place_of(unit: u32, entry: u32) -> u64
-    ensures { result ≡ place_of unit entry }
+pub(crate) fn place_of(unit: u32, entry: u32) -> u64
+    ensures place { result ≡ place_of unit entry }
+    ensures fits { (unit < 2 ^ 32) × (entry < 2 ^ 32) }
 {
     u64::from(unit) * 0x1_0000_0000 + u64::from(entry)
 }
 
-/// Adds to the text of a key the prefix that an entry gives to the names in it.
-fn add_front(
-    blocks: &mut NameBlocks,
-    key: &mut NameKey,
-    die: &Die<'_, '_>,
-) -> Result<(), OutOfMemory>
-    ensures grows { OnOk result (Grows blocks.old.numbers blocks.new.numbers) }
-    ensures key { OnOk result ((text : List ℕ) → IsKey blocks.old.numbers key.old (kept text) → IsKey blocks.new.numbers key.new (kept (text ++ scope_front die.now))) }
-{
-    if !die.is_scope() {
-        return Ok(());
-    }
-    blocks.add(key, scope_name(die))?;
-    blocks.add(key, b"::")?;
-    Ok(())
-}
-
-/// Appends to the text of a key the prefix that the entry with a number gives.
-#[tactic(auto, using(crate::proofs::FrontLemmas::key_none, crate::proofs::FrontLemmas::front_some))]
-fn add_front_at(
-    blocks: &mut NameBlocks,
-    key: &mut NameKey,
-    units: &Units<'_>,
-    unit: u32,
-    entry: u32,
-) -> Result<(), OutOfMemory>
-    ensures grows { OnOk result (Grows blocks.old.numbers blocks.new.numbers) }
-    ensures key { OnOk result ((text : List ℕ) → IsKey blocks.old.numbers key.old (kept text) → IsKey blocks.new.numbers key.new (kept (text ++ front_at (unit_dies units.now unit) entry))) }
+/// The key of a text after which the prefix follows that an entry gives to the names in it.
+fn with_front(key: NameKey, units: &Units<'_>, unit: u32, entry: u32) -> NameKey
+    ensures { (text : List ℕ) → IsKey units.now key (kept text) → IsKey units.now result (kept (text ++ front_at (unit_dies units.now unit) entry)) }
 {
     let Some(die) = entry_at(units, unit, entry) else {
-        return Ok(());
+        return key;
     };
-    add_front(blocks, key, &die)
+    if !die.is_scope() {
+        return key;
+    }
+    let named = key.with(scope_name(&die));
+    named.with(b"::")
 }
 
 impl ScopeKeys {
-    /// No blocks and no keys.
+    /// No entry was visited yet.
     pub(crate) fn new(alloc: Global) -> ScopeKeys
-        ensures { (units : List UnitRead) → AreFronts units result.blocks.numbers result.known }
+        ensures { (units : List UnitRead) → AreFronts units result.known }
     {
         ScopeKeys {
-            blocks: NameBlocks::new(alloc),
             known: BTreeMap::new(alloc),
         }
-    }
-
-    /// The key of the prefix that an entry and the scopes around it give to the names in it, if the key is known.
-    fn known(
-        &self,
-        alloc: Global,
-        units: &Units<'_>,
-        unit: u32,
-        entry: u32,
-    ) -> Result<Option<NameKey>, OutOfMemory>
-        requires { AreFronts units.now self.now.blocks.numbers self.now.known }
-        ensures { IfOk result (λ found. IfSome found (λ key. IsKey self.now.blocks.numbers key (kept (inner_front units.now unit entry)))) }
-    {
-        let Some(key) = self.known.get(&place_of(unit, entry)) else {
-            return Ok(None);
-        };
-        Ok(Some(key.again(alloc)?))
     }
 
     /// Walks up from an entry to the first whose key is known.
@@ -137,97 +94,85 @@ impl ScopeKeys {
         unit: u32,
         entry: u32,
     ) -> Result<Halfway, OutOfMemory>
-        requires { AreFronts units.now self.now.blocks.numbers self.now.known }
-        ensures { IfOk result (λ half. IsHalfway (unit_dies units.now unit) self.now.blocks.numbers entry half.numbers.items half.key) }
+        requires { AreFronts units.now self.now.known }
+        ensures { IfOk result (λ half. IsHalfway units.now (unit_dies units.now unit) entry half.numbers.items half.key) }
     {
         let mut numbers = Vec::new(alloc);
         let mut at = entry;
         'around: loop {
             let Some(number) = outer_of(units, unit, at) else {
-                let key = NameKey::empty(alloc)?;
+                let key = NameKey::empty();
                 return Ok(Halfway { numbers, key });
             };
-            if let Some(key) = self.known(alloc, units, unit, number)? {
-                return Ok(Halfway { numbers, key });
+            if let Some(key) = self.known.get(&place_of(unit, number)) {
+                return Ok(Halfway { numbers, key: *key });
             }
             numbers.push(number)?;
             at = number;
         }
     }
 
-    /// Keeps the key of the prefix that an entry and the scopes around it give.
-    fn note(
-        &mut self,
-        alloc: Global,
-        unit: u32,
-        entry: u32,
-        key: &NameKey,
-    ) -> Result<(), OutOfMemory>
-        ensures blocks { OnOk result (self.new.blocks ≡ self.old.blocks) }
-        ensures fronts { OnOk result ((units : List UnitRead) → AreFronts units self.old.blocks.numbers self.old.known → IsKey self.old.blocks.numbers key.now (kept (inner_front units unit entry)) → AreFronts units self.new.blocks.numbers self.new.known) }
-    {
-        let noted = key.again(alloc)?;
-        let _earlier = self.known.insert(place_of(unit, entry), noted)?;
-        Ok(())
-    }
-
-    /// Appends the prefix that an entry gives to the key for the scopes around it, and keeps the key.
-    fn enter(
-        &mut self,
-        alloc: Global,
-        units: &Units<'_>,
-        unit: u32,
-        entry: u32,
-        key: &mut NameKey,
-    ) -> Result<(), OutOfMemory>
-        requires fronts { AreFronts units.now self.old.blocks.numbers self.old.known }
-        requires key { IsKey self.old.blocks.numbers key.old (kept (outer_front units.now unit entry)) }
-        ensures grows { OnOk result (Grows self.old.blocks.numbers self.new.blocks.numbers) }
-        ensures fronts { OnOk result (AreFronts units.now self.new.blocks.numbers self.new.known) }
-        ensures key { OnOk result (IsKey self.new.blocks.numbers key.new (kept (inner_front units.now unit entry))) }
-    {
-        add_front_at(&mut self.blocks, key, units, unit, entry)?;
-        self.note(alloc, unit, entry, key)?;
-        Ok(())
-    }
-
     /// Goes down to an entry, and keeps the keys of the entries around it.
     fn descend(
         &mut self,
-        alloc: Global,
         units: &Units<'_>,
         unit: u32,
         entry: u32,
         half: Halfway,
     ) -> Result<NameKey, OutOfMemory>
-        requires fronts { AreFronts units.now self.old.blocks.numbers self.old.known }
-        requires halfway { IsHalfway (unit_dies units.now unit) self.old.blocks.numbers entry half.numbers.items half.key }
-        ensures grows { OnOk result (Grows self.old.blocks.numbers self.new.blocks.numbers) }
-        ensures fronts { OnOk result (AreFronts units.now self.new.blocks.numbers self.new.known) }
-        ensures key { IfOk result (λ key. IsKey self.new.blocks.numbers key (kept (outer_front units.now unit entry))) }
+        requires fronts { AreFronts units.now self.old.known }
+        requires halfway { IsHalfway units.now (unit_dies units.now unit) entry half.numbers.items half.key }
+        ensures fronts { OnOk result (AreFronts units.now self.new.known) }
+        ensures key { IfOk result (λ key. IsKey units.now key (kept (outer_front units.now unit entry))) }
     {
         let mut numbers = half.numbers;
         let mut key = half.key;
         'inner: while let Some(number) = numbers.pop() {
-            self.enter(alloc, units, unit, number, &mut key)?;
+            let inside = with_front(key, units, unit, number);
+            key = inside.rooted(unit, number);
+            self.known.insert(place_of(unit, number), key)?;
         }
         Ok(key)
     }
 
-    /// The key of the prefix of an entry's name.
-    pub(crate) fn front(
+    /// The key of the prefix that the scopes around the entry of a name give, if the name is joined with it.
+    fn front(
         &mut self,
         alloc: Global,
         units: &Units<'_>,
-        unit: u32,
-        entry: u32,
+        name: NameRef,
+        is_joined: bool,
     ) -> Result<NameKey, OutOfMemory>
-        requires { AreFronts units.now self.old.blocks.numbers self.old.known }
-        ensures grows { OnOk result (Grows self.old.blocks.numbers self.new.blocks.numbers) }
-        ensures fronts { OnOk result (AreFronts units.now self.new.blocks.numbers self.new.known) }
-        ensures key { IfOk result (λ key. IsKey self.new.blocks.numbers key (kept (outer_front units.now unit entry))) }
+        requires { AreFronts units.now self.old.known }
+        ensures fronts { OnOk result (AreFronts units.now self.new.known) }
+        ensures key { IfOk result (λ key. IsKey units.now key (kept (if is_joined then outer_front units.now name.unit name.entry else []))) }
     {
-        let half = self.climb(alloc, units, unit, entry)?;
-        self.descend(alloc, units, unit, entry, half)
+        if !is_joined {
+            return Ok(NameKey::empty());
+        }
+        let half = self.climb(alloc, units, name.unit, name.entry)?;
+        let key = self.descend(units, name.unit, name.entry, half)?;
+        Ok(key)
+    }
+
+    /// The key of the name of a function.
+    pub(crate) fn key(
+        &mut self,
+        alloc: Global,
+        units: &Units<'_>,
+        place: EntryRef,
+    ) -> Result<NameKey, OutOfMemory>
+        requires { AreFronts units.now self.old.known }
+        ensures fronts { OnOk result (AreFronts units.now self.new.known) }
+        ensures key { IfOk result (λ key. IsKey units.now key (place_name units.now place)) }
+    {
+        let name = name_of(units, place.unit, place.entry);
+        let parts = name_parts(units, name);
+        let front = self.front(alloc, units, name, parts.is_joined)?;
+        let key = front.with(parts.bytes);
+        if key.is_empty() {
+            return Ok(key.with(name_omitted()));
+        }
+        Ok(key)
     }
 }

@@ -29,7 +29,7 @@ pub enum Meeting {
 }
 
 /// Whether two functions have the same name.
-fn have_one_name(
+pub(crate) fn have_one_name(
     alloc: Global,
     units: &Units<'_>,
     one: EntryRef,

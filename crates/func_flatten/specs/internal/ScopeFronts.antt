@@ -1,5 +1,5 @@
--- Keys of the prefixes that scopes give to the names of the entries in them.
-use Rattle.std.specs.Prelude.{◌≡◌, ℕ, ◌+◌, ◌*◌, ◌^◌, ◌<◌, List, [], ◌∷◌, ◌++◌, Option, None, Some}
+-- The prefixes that scopes give to the names of the entries in them.
+use Rattle.std.specs.Prelude.{◌≡◌, ℕ, ◌+◌, ◌*◌, ◌^◌, ◌<◌, List, [], ◌∷◌, Option, None, Some}
 use Rattle.std.specs.BTreeMap.{BTreeMap, get}
 use Rattle.std.specs.List.{slice_get}
 use Rattle.std.specs.Option.{option_map_or}
@@ -7,8 +7,6 @@ use Rattle.std.specs.Ordering.{nat_cmp}
 use Rattle.die_walk.specs.EntryTable.{DieFields}
 use Rattle.debug_units.specs.declared.unit_read.UnitRead.{UnitRead}
 use Rattle.die_names.specs.Names.{around, fronts, dies_of}
-use Rattle.func_flatten.specs.declared.name_blocks.NameKey.{NameKey}
-use Rattle.func_flatten.specs.internal.NameBlocks.{kept, BlockNumbers, IsKey}
 
 -- the entries of unit `unit`
 abbrev pub unit_dies : List UnitRead → ℕ → List DieFields
@@ -35,13 +33,6 @@ inner_front units unit entry = fronts (unit_dies units unit) (entry ∷ outer (u
 abbrev pub place_of : ℕ → ℕ → ℕ
 place_of unit entry = unit * 2 ^ 32 + entry
 
--- each known key is that of the prefix that its entry and the scopes around it give
-unfoldable pub AreFronts : List UnitRead → BlockNumbers → BTreeMap ℕ NameKey → Type 0
-AreFronts units numbers known = (unit entry : ℕ) (key : NameKey) → unit < 2 ^ 32 → entry < 2 ^ 32 → get nat_cmp known (place_of unit entry) ≡ Some key → IsKey numbers key (kept (inner_front units unit entry))
-
--- the entries around `entry`, beginning with the innermost, are those in `numbers` and then those
--- in `rest`; `key` is that of the prefix that those in `rest` give
-pub record IsHalfway (dies : List DieFields) (blocks : BlockNumbers) (entry : ℕ) (numbers : List ℕ) (key : NameKey) : Type 0 where
-  pub rest : List ℕ
-  pub around : numbers ++ rest ≡ outer dies entry
-  pub key_is : IsKey blocks key (kept (fronts dies rest))
+-- what is noted of an entry holds for it
+abbrev pub AreNoted : {A : Type 0} → (ℕ → ℕ → A → Type 0) → BTreeMap ℕ A → Type 0
+AreNoted {A} holds noted = (unit entry : ℕ) (x : A) → unit < 2 ^ 32 → entry < 2 ^ 32 → get nat_cmp noted (place_of unit entry) ≡ Some x → holds unit entry x

@@ -1,21 +1,21 @@
 use Rattle.std.proofs.Common.{◌≡◌, [], arith}
 use Rattle.std.proofs.lemmas.List.{nil_from_length}
-use Rattle.func_flatten.proofs.BlockLemmas.{grows_twice}
-use Rattle.func_flatten.proofs.FrontLemmas.{half_outer, half_more, half_end}
+use Rattle.func_flatten.specs.internal.ScopeFronts.{outer_front}
+use Rattle.func_flatten.proofs.FrontLemmas.{half_outer, half_more, half_end, key_inner, fronts_more}
 use Rattle.func_flatten.proofs.scope_keys.ScopeKeys.descend.Goals as goal
 
-pub enter-requires-clause-key : goal.enter-requires-clause-key
-enter-requires-clause-key c =
-    half_outer c.args.units.now c.inner.self.blocks.numbers c.args.unit c.args.entry c.in-Some.number c.inner.numbers.items c.pop.new.self.items c.inner.key c.in-Some.ensures.items c.inner.invariant.halfway
-
 pub inner-preserved : goal.inner-preserved
-inner-preserved c = record {
-  grows = grows_twice c.args.self.now.blocks.numbers c.inner.self.blocks.numbers c.enter.new.self.blocks.numbers c.inner.invariant.grows c.in_ok-enter.ensures.grows;
-  fronts = c.in_ok-enter.ensures.fronts;
-  halfway = half_more c.args.units.now c.inner.self.blocks.numbers c.enter.new.self.blocks.numbers c.args.unit c.args.entry c.in-Some.number c.inner.numbers.items c.pop.new.self.items c.inner.key c.enter.new.key c.in-Some.ensures.items c.inner.invariant.halfway c.in_ok-enter.ensures.key;
-}
+inner-preserved c =
+    let units = c.args.units.now in
+    let number = c.in-Some.number in
+    let outside = half_outer units c.args.unit c.args.entry number c.inner.numbers.items c.pop.new.self.items c.inner.key c.in-Some.ensures.items c.inner.invariant.halfway in
+    let inside = c.rooted-key.ensures units (key_inner units c.args.unit number c.with_front-inside.result (c.with_front-inside.ensures (outer_front units c.args.unit number) outside)) in
+    record {
+      fronts = fronts_more units c.inner.self.known c.insert.new.self c.args.unit number c.place_of.result c.rooted-key.result c.inner.invariant.fronts c.place_of.ensures.fits.1 c.place_of.ensures.place inside c.in_ok-insert.ensures.updates;
+      halfway = half_more units c.args.unit c.args.entry number c.inner.numbers.items c.pop.new.self.items c.inner.key c.rooted-key.result c.in-Some.ensures.items c.inner.invariant.halfway inside;
+    }
 
 pub returns-clause-key : goal.returns-clause-key
 returns-clause-key c =
     let none : c.inner.numbers.items ≡ [] = nil_from_length _ (omega (arith, c.in_default.ensures.cases, c.inner.numbers.ok.0)) in
-    half_end c.args.units.now c.inner.self.blocks.numbers c.args.unit c.args.entry c.inner.numbers.items c.inner.key none c.inner.invariant.halfway
+    half_end c.args.units.now c.args.unit c.args.entry c.inner.numbers.items c.inner.key none c.inner.invariant.halfway
