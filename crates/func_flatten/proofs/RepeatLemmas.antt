@@ -1,9 +1,9 @@
 -- Stretches without those that repeat an earlier one.
-use Rattle.std.proofs.Common.{◌≡◌, ℕ, zero, suc, ◌+◌, ◌<◌, ◌≤◌, Bool, true, false, not, ◌&&◌, ◌||◌, nat_le, List, [], ◌∷◌, ◌++◌, take, length, get_or, Option, None, Some, arith, refl, sym, ap, ◌∙◌, subst}
+use Rattle.std.proofs.Common.{◌≡◌, ℕ, zero, suc, ◌+◌, ◌<◌, Bool, true, false, not, ◌&&◌, ◌||◌, nat_le, List, [], ◌∷◌, ◌++◌, take, length, get_or, Option, None, Some, arith, refl, sym, ap, ◌∙◌, subst}
 use Rattle.std.proofs.lemmas.Bool.Decides.{nat_tests}
 use Rattle.std.proofs.lemmas.List.{take_more}
 use Rattle.std.proofs.lemmas.List.Folds.{find-append, list_any-append}
-use Rattle.std.specs.List.{find, list_any, slice_get}
+use Rattle.std.specs.List.{find}
 use Rattle.std.specs.Option.{option_or, option_map_or}
 use Rattle.std.specs.Str.{bytes_eq}
 use Rattle.step_maps.specs.declared.stretch.Stretch.{Stretch}
@@ -46,7 +46,7 @@ represents_repeat name items kept s is r = record {
     told a text true has =
         (let there : any_other name text a items ≡ true
         = any_here (λ t. reaches t a && not (bytes_eq (name t.index) text)) items is.place is.known is.there
-          (ap (λ b. b && not (bytes_eq (name is.known.index) text)) (reach_alike is.known s a is.first is.last) ∙ ap (λ n. reaches s a && not (bytes_eq n text)) is.named ∙ has) in
+        (ap (λ b. b && not (bytes_eq (name is.known.index) text)) (reach_alike is.known s a is.first is.last) ∙ ap (λ n. reaches s a && not (bytes_eq n text)) is.named ∙ has) in
         grind (arith, nat_tests, there))
     told a text false none = grind (arith, nat_tests, none)
 

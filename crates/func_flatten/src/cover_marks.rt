@@ -106,7 +106,12 @@ pub fn named_covers(
     requires fit { AreFit all.now.stretches.items }
     ensures { IfOk result (λ covers. AreNamedCovers units.now all.now.stretches.items covers) }
 {
-    let single = without_repeats(alloc, units, all.places.as_slice(), all.stretches.as_slice())?;
+    let single = without_repeats(
+        alloc,
+        units,
+        all.places.as_slice(),
+        all.stretches.as_slice(),
+    )?;
     let stretches = single.as_slice();
     let apart = covers(alloc, stretches)?;
     let starts = shared_starts(alloc, apart.as_slice())?;

@@ -7,15 +7,14 @@
 //! when records are made from them.
 //!
 //! The definitions are in `specs/`: `Pieces`, `LineRuns` and `Publics`, each of which asks one address at a time. The owner and its line are those of
-//! `debug_units`, its name is that of `die_names`. The other modules there are for the code alone. The code takes all functions' ranges as stretches
-//! and sweeps them once (`step_maps::covers`). If two functions have the first address of a run, the stretches that have this address get classes by
-//! their functions' names, and are swept once more (`step_maps::first_items`). Names are compared by a hash first, which is made scope by
-//! scope. Lines are
-//! made stop by stop, and sorted symbols are merged with the pieces.
+//! `debug_units`, its name is that of `die_names`. The other modules there are for the code alone. The code takes all functions' ranges as stretches.
+//! It drops those that repeat an earlier one, since many units have the same inline functions, and sweeps the others once (`step_maps::covers`). If two
+//! functions have the first address of a run, the stretches that have this address get classes by their functions' names, and are swept once more
+//! (`step_maps::first_items`). Names are compared only if their hashes are equal. Lines are made stop by stop, and sorted symbols are merged with the
+//! pieces.
 //!
-//! The modules are best read in this order: `piece`, `set_owners`, `functions`; for names
-//! `name_keys`, `scope_keys`, `name_classes`; then `cover_marks`, `owners`,
-//! `line_run`, `lines`, `public`, `uncovered`, `laws`.
+//! The modules are best read in this order: `piece`, `set_owners`, `functions`; for names `name_keys`, `scope_keys`, `name_classes`; then `repeats`,
+//! `cover_marks`, `owners`, `line_run`, `lines`, `public`, `uncovered`, `laws`.
 #![tactic(auto)]
 
 mod cover_marks;

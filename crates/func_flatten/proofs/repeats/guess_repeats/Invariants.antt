@@ -1,4 +1,3 @@
-use Rattle.std.proofs.Common.{◌≡◌, ℕ}
 use Rattle.func_flatten.proofs.repeats.guess_repeats.Given as goal
 
 abbrev pub invariant-stretches : goal.invariant-stretches
