@@ -1,8 +1,7 @@
 -- The keys of names.
-use Rattle.std.proofs.Common.{◌≡◌, ◌≢◌, ℕ, zero, suc, ◌+◌, ◌-◌, ◌^◌, ◌<◌, ◌≤◌, ◌==◌, Bool, map, length, take, drop, get_or, min, List, [], ◌∷◌, ◌++◌, Option, None, Some, IfSome, arith, refl, sym, ap, ◌∙◌, subst, append-nil}
+use Rattle.std.proofs.Common.{◌≡◌, ◌≢◌, ℕ, zero, suc, ◌+◌, ◌-◌, ◌*◌, ◌%◌, ◌^◌, ◌<◌, ◌≤◌, ◌==◌, Bool, map, length, take, drop, get_or, min, List, [], ◌∷◌, ◌++◌, Option, None, Some, IfSome, arith, refl, sym, ap, ◌∙◌, subst, append-nil}
 use Rattle.std.proofs.lemmas.Bool.Decides.{nat_tests}
-use Rattle.std.proofs.lemmas.Grind.{common_steps}
-use Rattle.std.proofs.lemmas.List.{take_min, take-map, at_drop_more, map-append, length-append, length-map, length-take, nil_from_length}
+use Rattle.std.proofs.lemmas.List.{take_min, take-map, map-append, length-append, length-map, length-take, nil_from_length, map-append, take-append-drop}
 use Rattle.std.proofs.Math.Seq.{take-append-add}
 use Rattle.clean_names.proofs.CleaningLemmas.{skip_shown}
 use Rattle.clean_names.specs.Names.{is_space, skip}
@@ -92,26 +91,39 @@ unfolding hash_from
 hash_joined hash [] ys = refl
 hash_joined hash (x ∷ xs) ys = hash_joined (mixed hash x) xs ys
 
-hash_first : (hash b : ℕ) (bytes : List ℕ) → hash_from hash (b ∷ bytes) ≡ hash_from (mixed hash b) bytes
+pub hash_first : (hash b : ℕ) (bytes : List ℕ) → hash_from hash (b ∷ bytes) ≡ hash_from (mixed hash b) bytes
 unfolding hash_from
 hash_first hash b bytes = refl
 
-hash_none : (hash : ℕ) → hash_from hash [] ≡ hash
+pub hash_none : (hash : ℕ) → hash_from hash [] ≡ hash
 unfolding hash_from
 hash_none hash = refl
 
--- One more of the bytes that are hashed.
-pub hash_next : (hash more b whole : ℕ) (bytes : List ℕ) (i : ℕ) → i < length bytes → b ≡ shown_byte (get_or bytes i 0) → more ≡ mixed hash b → hash_from hash (map shown_byte (drop i bytes)) ≡ whole → hash_from more (map shown_byte (drop (i + 1) bytes)) ≡ whole
-hash_next hash more b whole bytes i inside at step is =
-    ap (λ h. hash_from h (map shown_byte (drop (i + 1) bytes))) (step ∙ ap (mixed hash) at)
-    ∙ sym (at_drop_more (λ l. hash_from hash (map shown_byte l)) bytes i 0 inside ∙ hash_first hash (shown_byte (get_or bytes i 0)) (map shown_byte (drop (i + 1) bytes)))
-    ∙ is
+-- Four bytes at once: the fourth power of the factor, modulo 2^64, stands for four steps.
+pub four_steps : (h a b c d : ℕ) → h < 2 ^ 64 → a < 256 → b < 256 → c < 256 → d < 256
+    → mixed (mixed (mixed (mixed h a) b) c) d ≡ (h * 15655466665053923249 % 18446744073709551616 + mixed (mixed (mixed a b) c) d) % 18446744073709551616
+unfolding mixed
+four_steps h a b c d p q r s t = omega (arith, p, q, r, s, t)
 
-pub hash_end : (hash whole : ℕ) (bytes : List ℕ) (i : ℕ) → length bytes ≤ i → hash_from hash (map shown_byte (drop i bytes)) ≡ whole → hash ≡ whole
-hash_end hash whole bytes i past is = sym (ap (λ l. hash_from hash (map shown_byte l)) none ∙ hash_none hash) ∙ is
-  where
-    none : drop i bytes ≡ []
-    none = grind (arith, common_steps)
+pub hash_four : (h : ℕ) (front : List ℕ) → length front ≡ 4
+    → hash_from h (map shown_byte front) ≡ mixed (mixed (mixed (mixed h (shown_byte (get_or front 0 0))) (shown_byte (get_or front 1 0))) (shown_byte (get_or front 2 0))) (shown_byte (get_or front 3 0))
+unfolding hash_from
+hash_four h (a ∷ b ∷ c ∷ d ∷ []) four = refl
+hash_four h [] four = absurd (omega (arith, four))
+hash_four h (a ∷ []) four = absurd (omega (arith, four))
+hash_four h (a ∷ b ∷ []) four = absurd (omega (arith, four))
+hash_four h (a ∷ b ∷ c ∷ []) four = absurd (omega (arith, four))
+hash_four h (a ∷ b ∷ c ∷ d ∷ e ∷ more) four = absurd (omega (arith, four))
+
+pub hash_end : (h whole : ℕ) (rest : List ℕ) → length rest ≡ 0 → hash_from h (map shown_byte rest) ≡ whole → h ≡ whole
+hash_end h whole [] none is = sym (hash_none h) ∙ is
+hash_end h whole (b ∷ rest) none is = absurd (omega (arith, none))
+
+-- The hash of a text in two parts.
+pub hash_parted : (h : ℕ) (bytes : List ℕ) (n : ℕ) → hash_from (hash_from h (map shown_byte (take n bytes))) (map shown_byte (drop n bytes)) ≡ hash_from h (map shown_byte bytes)
+hash_parted h bytes n =
+    sym (hash_joined h (map shown_byte (take n bytes)) (map shown_byte (drop n bytes)))
+    ∙ ap (hash_from h) (sym (map-append shown_byte (take n bytes) (drop n bytes)) ∙ ap (map shown_byte) (take-append-drop n bytes))
 
 -- ---- Keys.
 
