@@ -157,6 +157,15 @@ def functions_of_one_address(path, scale):
     functions(path, range(1_000 * scale), letters + b"\x01\0", 0)
 
 
+def functions_of_one_hash(path, scale):
+    """The names are 64 blocks of 1,024 bytes each: the letters of the Thue-Morse sequence, or these exchanged. Both blocks have one hash, since it is a
+    polynomial modulo 2^64 in an odd factor."""
+    blocks = [bytes(97 + (k.bit_count() + swap) % 2 for k in range(1024)) for swap in (0, 1)]
+    count = 500 * scale
+    text = b"".join(random.Random(1).choices(blocks, k=count + 63))
+    functions(path, range(0, 1024 * count, 1024), text + b"\0", 0)
+
+
 CASES = (
     ("10,000 lines that name as many files in a directory of 65,000 bytes", files_that_lines_name),
     ("4,000 functions whose lists begin at other places of one list of as many ranges", lists_in_a_list),
@@ -165,4 +174,5 @@ CASES = (
     ("20,000 functions whose names are ends of one text of 65,536 bytes with a control byte", functions_with_a_control_byte),
     ("20,000 inlined copies of one name of 60,000 bytes with a control byte", copies_with_a_control_byte),
     ("4,000 functions of one address whose names are ends of one text of 65,536 bytes with a control byte", functions_of_one_address),
+    ("2,000 functions of one address whose names of 65,536 bytes are made to have one hash", functions_of_one_hash),
 )
