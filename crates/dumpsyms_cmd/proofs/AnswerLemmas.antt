@@ -42,7 +42,7 @@ use Rattle.dumpsyms_cmd.specs.declared.words.SymQuery.TheVariants.{Check, Lookup
 use Rattle.dumpsyms_cmd.specs.declared.words.StateQuery.{StateQuery}
 use Rattle.dumpsyms_cmd.specs.declared.words.StateQuery.TheVariants as query
 use Rattle.dumpsyms_cmd.specs.declared.judgement.Output.{Output}
-use Rattle.dumpsyms_cmd.specs.declared.judgement.Output.TheVariants.{Nothing, Text, Bytes, Records}
+use Rattle.dumpsyms_cmd.specs.declared.judgement.Output.TheVariants.{Nothing, Text, Bytes, Shared, Records}
 use Rattle.dumpsyms_cmd.specs.declared.judgement.Judgement.{Judgement}
 use Rattle.dumpsyms_cmd.specs.declared.judgement.Answer.{Answer}
 use Rattle.dumpsyms_cmd.specs.declared.judgement.Answer.TheVariants.{Judged, Unread, NoMemory}
@@ -216,6 +216,7 @@ pub judges_refused : (o : Output) (status : ℕ) (err line : List ℕ) → Refus
 judges_refused Nothing status err line says = ap (λ n. given n [] err) says.0 ∙ ap (given 1 []) says.1
 judges_refused (Text lines) status err line says = absurd says.1
 judges_refused (Bytes text) status err line says = absurd says
+judges_refused (Shared text) status err line says = absurd says
 judges_refused (Records lines) status err line says = absurd says
 
 longer_answer : (lines : List SymLine) (ask : List SymLine → State → Verdict) (bytes : List ℕ) → STATE_LIMIT < length bytes → refused too_long_line ≡ state_answer ask lines bytes

@@ -31,7 +31,7 @@ use Rattle.dumpsyms_cmd.specs.commands.Dump.{IsSourceVerdict, DumpsSource, DumpP
 use Rattle.dumpsyms_cmd.specs.commands.Judge.{ruling_verdict, IsRuled, IsReadVerdict, IsSymVerdict, IsTextVerdict, IsJudgeVerdict, JudgesSym, RefusesElf, JudgePromises}
 use Rattle.dumpsyms_cmd.specs.internal.Judged.{IsJudged, AnswersCommand, AnswersEnd, AnswersJudged, AnswersSym, AsksThen, IsNoText}
 use Rattle.dumpsyms_cmd.specs.declared.judgement.Output.{Output}
-use Rattle.dumpsyms_cmd.specs.declared.judgement.Output.TheVariants.{Nothing, Text, Bytes, Records}
+use Rattle.dumpsyms_cmd.specs.declared.judgement.Output.TheVariants.{Nothing, Text, Bytes, Shared, Records}
 use Rattle.dumpsyms_cmd.specs.declared.judgement.Judgement.{Judgement}
 use Rattle.dumpsyms_cmd.specs.declared.judgement.Answer.{Answer}
 use Rattle.dumpsyms_cmd.specs.declared.judgement.Answer.TheVariants.{Judged, Unread, NoMemory}
@@ -104,6 +104,7 @@ no_text : (o : Output) → ((lines : List SymLine) → o ≡ Text lines → ⊥)
 no_text Nothing none = tt
 no_text (Text lines) none = none lines refl
 no_text (Bytes text) none = tt
+no_text (Shared text) none = tt
 no_text (Records lines) none = tt
 
 abbrev Refusing : ElfSource → Option Files → List ℕ → Type 0
@@ -123,6 +124,7 @@ refuses_by source files j Nothing is textless says = record {
 }
 refuses_by source files j (Text lines) is textless says = absurd textless
 refuses_by source files j (Bytes text) is textless says = absurd says
+refuses_by source files j (Shared text) is textless says = absurd says
 refuses_by source files j (Records lines) is textless says = absurd says
 
 pub no_text_judged : (source : ElfSource) (name : List ℕ) (files : Option Files) (j : Judgement) → ((lines : List SymLine) → j.out ≡ Text lines → ⊥) → DumpPromises source files j → IsJudged j (Some (judge source name)) files
@@ -155,6 +157,7 @@ textless_then : (o : Output) (names before after : List (List ℕ)) → IsNoText
 textless_then Nothing names before after textless same = same
 textless_then (Text lines) names before after textless same = absurd textless
 textless_then (Bytes text) names before after textless same = same
+textless_then (Shared text) names before after textless same = same
 textless_then (Records lines) names before after textless same = same
 
 pub no_text_asked : (j : Judgement) (names before after : List (List ℕ)) → ((lines : List SymLine) → j.out ≡ Text lines → ⊥) → after ≡ before → AsksThen j.out names before after

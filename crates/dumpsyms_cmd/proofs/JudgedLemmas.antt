@@ -36,7 +36,7 @@ use Rattle.dumpsyms_cmd.specs.Answers.{IsUsage}
 use Rattle.debug_read.proofs.KeptLemmas.{Kept, kept}
 use Rattle.dumpsyms_cmd.proofs.LeftLemmas.{left_said}
 use Rattle.dumpsyms_cmd.specs.declared.judgement.Output.{Output}
-use Rattle.dumpsyms_cmd.specs.declared.judgement.Output.TheVariants.{Nothing, Text, Bytes, Records}
+use Rattle.dumpsyms_cmd.specs.declared.judgement.Output.TheVariants.{Nothing, Text, Bytes, Shared, Records}
 use Rattle.dumpsyms_cmd.specs.declared.judgement.Judgement.{Judgement}
 use Rattle.dumpsyms_cmd.specs.declared.judgement.Answer.{Answer}
 use Rattle.dumpsyms_cmd.specs.declared.judgement.Answer.TheVariants.{Judged, Unread, NoMemory}
@@ -61,6 +61,7 @@ pub judging : (o : Output) (status : ℕ) (err : List ℕ) (P P' : List ℕ → 
 judging Nothing status err P P' Q Q' f g says = (says.0, f err says.1)
 judging (Text lines) status err P P' Q Q' f g says = (says.0, g lines err says.1)
 judging (Bytes text) status err P P' Q Q' f g says = absurd says
+judging (Shared text) status err P P' Q Q' f g says = absurd says
 judging (Records lines) status err P P' Q Q' f g says = absurd says
 
 -- A refusal with a line that is the text.
@@ -191,6 +192,7 @@ promised_low : (o : Output) (status : ℕ) (err : List ℕ) (P : List ℕ → Ty
 promised_low Nothing status err P Q says = let is = says.0 in omega arith
 promised_low (Text lines) status err P Q says = let is = says.0 in omega arith
 promised_low (Bytes text) status err P Q says = absurd says
+promised_low (Shared text) status err P Q says = absurd says
 promised_low (Records lines) status err P Q says = absurd says
 
 promised_told : (o : Output) (status : ℕ) (err : List ℕ) (source : ElfSource) (given_by : Files → Result ImageParts Verdict) (files : Option Files) → RefusesOrGives o status err (λ e. Tells files (λ f. IsGivenVerdict source (given_by f) (refused e))) (λ lines e. (reading (canon_text lines) ≡ Ok lines) × Tells files (λ f. DumpsGiven source (given_by f) lines e)) →
@@ -202,6 +204,7 @@ promised_told (Text lines) status err source given_by files says =
     told (λ f. DumpsGiven source (given_by f) lines err) (λ f. IsGivenVerdict source (given_by f) (given status (out_bytes (Text lines)) err)) files
     (λ f dumps. subst (λ (n : ℕ). IsGivenVerdict source (given_by f) (given n (out_bytes (Text lines)) err)) (sym says.0) (dumped_verdict source (given_by f) lines err dumps)) says.1.1
 promised_told (Bytes text) status err source given_by files says = absurd says
+promised_told (Shared text) status err source given_by files says = absurd says
 promised_told (Records lines) status err source given_by files says = absurd says
 
 below_three : (n : ℕ) → n < 2 → n < 3

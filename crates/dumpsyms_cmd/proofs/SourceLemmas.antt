@@ -33,7 +33,7 @@ use Rattle.dumpsyms_cmd.specs.Judgement.{err_bytes, RefusesOrGives}
 use Rattle.dumpsyms_cmd.specs.Observed.{Asks, AsksRow}
 use Rattle.dumpsyms_cmd.specs.internal.Judged.{AnswersCommand, AnswersImage, AnswersMade, AnswersStop, AsksAll, AsksFile, AsksPath, AsksDebug, AsksBehind, AsksBy, AsksNames, AsksSource, AsksThen, IsNoText, HasNoText}
 use Rattle.dumpsyms_cmd.specs.declared.judgement.Output.{Output}
-use Rattle.dumpsyms_cmd.specs.declared.judgement.Output.TheVariants.{Nothing, Text, Bytes, Records}
+use Rattle.dumpsyms_cmd.specs.declared.judgement.Output.TheVariants.{Nothing, Text, Bytes, Shared, Records}
 use Rattle.dumpsyms_cmd.specs.declared.judgement.Judgement.{Judgement}
 use Rattle.dumpsyms_cmd.specs.declared.judgement.Answer.{Answer}
 use Rattle.dumpsyms_cmd.specs.declared.judgement.Answer.TheVariants.{Judged, Unread, NoMemory}
@@ -366,6 +366,7 @@ textless_by : (o : Output) (names before after : List (List ℕ)) → IsNoText o
 textless_by Nothing names before after textless asked = asked
 textless_by (Text lines) names before after textless asked = absurd textless
 textless_by (Bytes text) names before after textless asked = asked
+textless_by (Shared text) names before after textless asked = asked
 textless_by (Records lines) names before after textless asked = asked
 
 textless_names : (answer : Answer) (names before after : List (List ℕ)) → HasNoText answer → Asks names before after → AsksNames answer names before after
@@ -380,6 +381,7 @@ whole_by : (o : Output) (names before after : List (List ℕ)) → after ≡ bef
 whole_by Nothing names before after asked = asks_whole names before after asked
 whole_by (Text lines) names before after asked = asked
 whole_by (Bytes text) names before after asked = asks_whole names before after asked
+whole_by (Shared text) names before after asked = asks_whole names before after asked
 whole_by (Records lines) names before after asked = asks_whole names before after asked
 
 behind : (answer : Answer) (elf : List ℕ) (names before mid after : List (List ℕ)) → mid ≡ before ++ elf ∷ [] → AsksAll answer names mid after → AsksNames answer (elf ∷ names) before after
@@ -450,6 +452,7 @@ longer_no_text : (o : Output) (status : ℕ) (err : List ℕ) → RefusesOrGives
 longer_no_text Nothing status err says = tt
 longer_no_text (Text lines) status err says = says.1
 longer_no_text (Bytes text) status err says = tt
+longer_no_text (Shared text) status err says = tt
 longer_no_text (Records lines) status err says = tt
 
 stop_no_text : (answer : Answer) (end : Stop ReadEnd) (text : List ℕ) → AnswersStop answer text end → HasNoText answer
@@ -477,6 +480,7 @@ front_by : (o : Output) (names before after : List (List ℕ)) → AsksBy o name
 front_by Nothing names before after asked = asked
 front_by (Text lines) names before after asked = asks_whole names before after asked
 front_by (Bytes text) names before after asked = asked
+front_by (Shared text) names before after asked = asked
 front_by (Records lines) names before after asked = asked
 
 pub names_front : (answer : Answer) (names before after : List (List ℕ)) → AsksNames answer names before after → Asks names before after
@@ -506,6 +510,7 @@ then_by : (o : Output) (names rest before mid after : List (List ℕ)) → AsksB
 then_by Nothing names rest before mid after first same = subst (λ (m : List (List ℕ)). Asks (names ++ rest) before m) (sym same) (asks_more names rest before mid first)
 then_by (Text lines) names rest before mid after first asked = asks_behind names rest before mid after first asked
 then_by (Bytes text) names rest before mid after first same = subst (λ (m : List (List ℕ)). Asks (names ++ rest) before m) (sym same) (asks_more names rest before mid first)
+then_by (Shared text) names rest before mid after first same = subst (λ (m : List (List ℕ)). Asks (names ++ rest) before m) (sym same) (asks_more names rest before mid first)
 then_by (Records lines) names rest before mid after first same = subst (λ (m : List (List ℕ)). Asks (names ++ rest) before m) (sym same) (asks_more names rest before mid first)
 
 pub judge_asked : (j : Judgement) (source : ElfSource) (name : List ℕ) (files mid_files : Option Files) (before mid after : List (List ℕ)) → mid_files ≡ files → AsksSource (Judged j) source files before mid → DumpPromises source files j

@@ -4,7 +4,7 @@ use Rattle.sym_records.specs.Canon.{canon_text}
 use Rattle.sym_records.specs.declared.line.SymLine.{SymLine}
 use Rattle.dumpsyms_cmd.specs.Verdict.{Verdict}
 use Rattle.dumpsyms_cmd.specs.declared.judgement.Output.{Output}
-use Rattle.dumpsyms_cmd.specs.declared.judgement.Output.TheVariants.{Nothing, Text, Bytes, Records}
+use Rattle.dumpsyms_cmd.specs.declared.judgement.Output.TheVariants.{Nothing, Text, Bytes, Shared, Records}
 use Rattle.dumpsyms_cmd.specs.declared.judgement.Message.{Message}
 use Rattle.dumpsyms_cmd.specs.declared.judgement.Message.TheVariants.{Fixed, Made}
 use Rattle.dumpsyms_cmd.specs.declared.judgement.Judgement.{Judgement}
@@ -14,6 +14,7 @@ abbrev pub out_bytes : Output → List ℕ
 out_bytes Nothing = []
 out_bytes (Text lines) = canon_text lines
 out_bytes (Bytes text) = text
+out_bytes (Shared text) = text
 out_bytes (Records lines) = canon_text lines
 
 abbrev pub err_bytes : Message → List ℕ
@@ -29,6 +30,7 @@ abbrev pub is_some_output : Output → Bool
 is_some_output Nothing = false
 is_some_output (Text lines) = true
 is_some_output (Bytes text) = true
+is_some_output (Shared text) = true
 is_some_output (Records lines) = true
 
 -- a judgement refuses with a message for which P holds, or it gives records and a message for which Q holds
@@ -36,6 +38,7 @@ abbrev pub RefusesOrGives : Output → ℕ → List ℕ → (List ℕ → Type 0
 RefusesOrGives Nothing status err P Q = (status ≡ 1) × P err
 RefusesOrGives (Text lines) status err P Q = (status ≡ 0) × Q lines err
 RefusesOrGives (Bytes text) status err P Q = ⊥
+RefusesOrGives (Shared text) status err P Q = ⊥
 RefusesOrGives (Records lines) status err P Q = ⊥
 
 abbrev pub Judges : Judgement → (List ℕ → Type 0) → (List SymLine → List ℕ → Type 0) → Type 0

@@ -1,4 +1,5 @@
 //! What is decided before anything is written.
+use sym_lookup::SharedText;
 use sym_records::{ByteText, SymFile, SymText};
 
 /// What standard output gets.
@@ -8,6 +9,8 @@ pub enum Output {
     /// The canonical text of these records.
     Text(SymText),
     Bytes(ByteText),
+    /// Bytes of which long parts that come again are in memory once.
+    Shared(SharedText),
     /// The canonical text of these records, which is made while it is written.
     Records(SymFile),
 }

@@ -20,7 +20,7 @@ pub(crate) fn judge_address(
     let answer = answer_at(alloc, file, address)?;
     Ok(Judgement {
         status: 0,
-        out: Output::Bytes(answer_text(alloc, file, &answer)?),
+        out: Output::Shared(answer_text(alloc, file, &answer)?),
         err: Message::Fixed(b""),
     })
 }

@@ -50,6 +50,7 @@ fn write_output<O: Sink>(output: &Output, out: &mut O) -> Result<(), Failed>
         Output::Nothing => Ok(()),
         Output::Text(file) => file.write(out),
         Output::Bytes(text) => write_all(out, text.as_slice()),
+        Output::Shared(text) => text.write(out),
         Output::Records(file) => write_file(file, out),
     }
 }

@@ -26,7 +26,7 @@ pub(crate) fn judge_stacks<S: Store>(
     let texts = spell_stacks(alloc, store, &mut walker)?;
     Ok(Judgement {
         status: 0,
-        out: Output::Bytes(texts.out),
+        out: Output::Shared(texts.out),
         err: Message::Made(texts.err),
     })
 }

@@ -38,7 +38,7 @@ pub(crate) fn judge_walk(
     match walk(alloc, file, &index, state) {
         Ok(walk) => Ok(Judgement {
             status: 0,
-            out: Output::Bytes(spell_walk(alloc, file, &index, &walk)?),
+            out: Output::Shared(spell_walk(alloc, file, &index, &walk)?),
             err: Message::Fixed(b""),
         }),
         Err(Stop::Fault(_)) => Ok(refuse(Message::Fixed(NO_RIP))),

@@ -4,7 +4,9 @@ ghost use Rattle.sym_records.specs.Canon.{spaced};
 ghost use Rattle.sym_records.specs.Fields.{hex};
 ghost use Rattle.stack_text.specs.Lines.{line};
 
-use std::alloc::AllocError;
+use std::alloc::{AllocError, Global};
+use sym_edges::OutOfMemory;
+use sym_lookup::SharedText;
 use sym_records::HexText;
 
 /// Adds words with one space before each but the first.
@@ -26,6 +28,20 @@ pub fn add_line(text: &mut Vec<u8>, first: &[u8], words: &[&[u8]]) -> Result<(),
     add_words(text, first, words)?;
     text.push(b'\n')?;
     Ok(())
+}
+
+/// Adds a line of such words to a text with shared parts.
+pub(crate) fn share_line(
+    alloc: Global,
+    text: &mut SharedText,
+    first: &[u8],
+    words: &[&[u8]],
+) -> Result<(), OutOfMemory>
+    ensures { OnOk result (text.new ≡ text.old ++ line (spaced first.now (map (λ word. word.now) words.now))) }
+{
+    let mut made = Vec::new(alloc);
+    add_line(&mut made, first, words)?;
+    text.add(made.as_slice())
 }
 
 /// Adds a number in hexadecimal.

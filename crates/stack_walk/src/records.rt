@@ -1,5 +1,5 @@
 //! The records of a module.
-ghost use Rattle.std.specs.Prelude.{◌≡◌, Some, None, IfOk};
+ghost use Rattle.std.specs.Prelude.{◌≡◌, ◌++◌, Some, None, IfOk, OnOk};
 ghost use Rattle.sym_lookup.specs.AnswerTexts.{answer_text};
 ghost use Rattle.sym_lookup.specs.IndexOf.{IsIndexOf};
 ghost use Rattle.stack_walk.specs.Records.{rules_in, answer_in};
@@ -8,8 +8,8 @@ use cfi_eval::RulesAt;
 use std::alloc::Global;
 use std::marker::Model;
 use sym_edges::OutOfMemory;
-use sym_lookup::{Answer, Index};
-use sym_records::{ByteText, SymFile};
+use sym_lookup::{Answer, Index, SharedText};
+use sym_records::SymFile;
 
 /// The records of a module, with their index, and the address of the process from which their addresses count.
 #[derive(Drop)]
@@ -63,10 +63,10 @@ impl<'k> Records<'k> {
         self.index.answer_at(alloc, self.file, a - self.base)
     }
 
-    /// The text that shows an answer, as `lookup` prints it.
-    pub fn answer_text(&self, alloc: Global, answer: &Answer) -> Result<ByteText, OutOfMemory>
-        ensures { IfOk result (λ text. text ≡ answer_text self.now.lines answer.now) }
+    /// Adds the text that shows an answer, as `lookup` prints it.
+    pub fn add_answer(&self, text: &mut SharedText, answer: &Answer) -> Result<(), OutOfMemory>
+        ensures { OnOk result (text.new ≡ text.old ++ answer_text self.now.lines answer.now) }
     {
-        self.index.answer_text(alloc, self.file, answer)
+        self.index.add_answer(text, self.file, answer)
     }
 }

@@ -4,6 +4,7 @@ pub mod FirstLemmas
 pub mod PublicLemmas
 pub mod NameLemmas
 pub mod ShownLemmas
+pub mod SharedLemmas
 pub mod Computing
 mod WorkedAnswers
 pub mod StretchLemmas

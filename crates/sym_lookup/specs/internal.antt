@@ -7,3 +7,4 @@ pub mod Marks
 pub mod HeldUnders
 pub mod Risings
 pub mod Levels
+pub mod SharedTexts

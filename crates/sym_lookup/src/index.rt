@@ -1,5 +1,5 @@
 //! The index of a symbol file.
-ghost use Rattle.std.specs.Prelude.{◌≡◌, ◌<◌, ◌^◌, List, length, IfOk, IfSome};
+ghost use Rattle.std.specs.Prelude.{◌≡◌, ◌<◌, ◌^◌, ◌++◌, List, length, IfOk, IfSome, OnOk};
 ghost use Rattle.cfi_eval.specs.Inits.{init_place};
 ghost use Rattle.sym_lookup.specs.Answers.{func_place, public_place, answer_of};
 ghost use Rattle.sym_lookup.specs.AnswerTexts.{answer_text};
@@ -16,13 +16,13 @@ use crate::answers::{Answer, PlaceRun};
 use crate::marks::{Mark, Marked, mark_at, sorted_marks};
 use crate::named::Records;
 use crate::numbers::{Numbers, numbers_of};
+use crate::shared_text::SharedText;
 use crate::stretches::{Kind, PlaceMap, place_at, place_map, run_at};
-use crate::texts::shown_text;
+use crate::texts::add_answer;
 use crate::under::{Under, held_in_function, unders_of};
 use std::alloc::Global;
 use sym_edges::OutOfMemory;
 use sym_records::{SymFile, SymLine};
-use sym_rules::ByteText;
 
 /// An index of a symbol file. It has the first `FUNC` and the first `INIT` at each address, the
 /// addresses at which `FUNC` and `PUBLIC` records begin, and the first `FILE` and the first
@@ -162,19 +162,19 @@ impl Index {
         run_at(&self.inits, address)
     }
 
-    /// The text of an answer, equal to that of [`crate::answer_text`], but without a scan of the
+    /// Adds the text of an answer, equal to that of [`crate::answer_text`], but without a scan of the
     /// file.
-    pub fn answer_text(
+    pub fn add_answer(
         &self,
-        alloc: Global,
+        text: &mut SharedText,
         file: &SymFile,
         answer: &Answer,
-    ) -> Result<ByteText, OutOfMemory>
+    ) -> Result<(), OutOfMemory>
         requires { IsIndexOf file.now self.now }
-        ensures { IfOk result (λ text. text ≡ answer_text file.now answer.now) }
+        ensures { OnOk result (text.new ≡ text.old ++ answer_text file.now answer.now) }
     {
         let records = Records::numbered(file.as_slice(), &self.numbers);
-        shown_text(alloc, &records, answer)
+        add_answer(text, &records, answer)
     }
 
     /// The name of the first `FILE` with a number.

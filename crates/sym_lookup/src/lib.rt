@@ -7,11 +7,12 @@
 //! same by binary search. [`Index::init_at`] finds the first `INIT` that covers an address, for
 //! `cfi_eval::frame_from`. [`Index::func_run`] and [`Index::init_run`] also give the address up to
 //! which the record is the same. [`answer_text`] shows an answer with a line for each frame;
-//! [`Index::answer_text`] makes the same text by binary search. The names, paths and lines of an
+//! [`Index::add_answer`] makes the same text by binary search. Such a text is a [`SharedText`], in
+//! which a long name or path that comes again is in memory once. The names, paths and lines of an
 //! answer are those that `sym_meaning` defines for the address ([`laws`]).
 //!
-//! Read the modules `answers`, `scans`, `texts` and `laws` first; `texts` uses `named`, which finds
-//! `FILE` and `INLINE_ORIGIN` records by number. Then comes `index`. It uses `stretches` (step maps
+//! Read the modules `answers`, `scans`, `shared_text`, `texts` and `laws` first; `texts` uses
+//! `named`, which finds `FILE` and `INLINE_ORIGIN` records by number. Then comes `index`. It uses `stretches` (step maps
 //! of records), `marks` (records sorted by a key), `numbers`, `under` (the records under a `FUNC`)
 //! and `line_runs` (line records that are ascending and disjoint). `parts` gives the parts of an
 //! answer one by one.
@@ -26,6 +27,7 @@ mod named;
 mod numbers;
 mod parts;
 mod scans;
+mod shared_text;
 mod stretches;
 mod texts;
 mod under;
@@ -34,4 +36,5 @@ pub use answers::{Answer, PlaceList, PlaceRun};
 pub use index::Index;
 pub use parts::place_run;
 pub use scans::answer_at;
+pub use shared_text::SharedText;
 pub use texts::answer_text;

@@ -41,7 +41,7 @@ use Rattle.dumpsyms_cmd.specs.declared.words.SymQuery.TheVariants.{Check, Lookup
 use Rattle.dumpsyms_cmd.specs.declared.words.StateQuery.{StateQuery}
 use Rattle.dumpsyms_cmd.specs.declared.words.StateQuery.TheVariants.{Frame, Walk}
 use Rattle.dumpsyms_cmd.specs.declared.judgement.Output.{Output}
-use Rattle.dumpsyms_cmd.specs.declared.judgement.Output.TheVariants.{Nothing, Text, Bytes, Records}
+use Rattle.dumpsyms_cmd.specs.declared.judgement.Output.TheVariants.{Nothing, Text, Bytes, Shared, Records}
 use Rattle.dumpsyms_cmd.specs.declared.judgement.Judgement.{Judgement}
 use Rattle.dumpsyms_cmd.specs.declared.judgement.Answer.{Answer}
 use Rattle.dumpsyms_cmd.specs.declared.judgement.Answer.TheVariants.{Judged, Unread, NoMemory}
@@ -127,6 +127,7 @@ abbrev pub IsNoText : Output → Type 0
 IsNoText Nothing = Unit {0}
 IsNoText (Text lines) = ⊥
 IsNoText (Bytes text) = Unit {0}
+IsNoText (Shared text) = Unit {0}
 IsNoText (Records lines) = Unit {0}
 
 abbrev pub HasNoText : Answer → Type 0
@@ -161,6 +162,7 @@ abbrev pub AsksBy : Output → List (List ℕ) → List (List ℕ) → List (Lis
 AsksBy Nothing names before after = Asks names before after
 AsksBy (Text lines) names before after = after ≡ before ++ names
 AsksBy (Bytes text) names before after = Asks names before after
+AsksBy (Shared text) names before after = Asks names before after
 AsksBy (Records lines) names before after = Asks names before after
 
 abbrev pub AsksNames : Answer → List (List ℕ) → List (List ℕ) → List (List ℕ) → Type 0
@@ -177,6 +179,7 @@ abbrev pub AsksThen : Output → List (List ℕ) → List (List ℕ) → List (L
 AsksThen Nothing names before after = after ≡ before
 AsksThen (Text lines) names before after = Asks names before after
 AsksThen (Bytes text) names before after = after ≡ before
+AsksThen (Shared text) names before after = after ≡ before
 AsksThen (Records lines) names before after = after ≡ before
 
 -- the answer refuses with the line that was made, or memory ran out

@@ -4,4 +4,4 @@ use Rattle.stack_text.specs.StacksText.{module_line}
 use Rattle.stack_text.proofs.stacks_text.add_modules.Given as goal
 
 abbrev pub invariant-modules : goal.invariant-modules
-invariant-modules l = l.text.items ≡ l.fn.text.items ++ flat_map (module_line l.walker.folder) (take l.place l.walker.core.modules)
+invariant-modules l = l.text ≡ l.fn.text ++ flat_map (module_line l.walker.folder) (take l.place l.walker.core.modules)

@@ -12,5 +12,5 @@ invariant-threads g l = record {
   files : g.S.Store.files l.store ≡ g.S.Store.files l.initial.store;
   faults : g.S.Store.faults l.initial.store ≤ g.S.Store.faults l.store;
   learns : Learns (IsPathOf l.initial.walker) (g.S.Store.files l.initial.store) (g.S.Store.asked l.initial.store) (g.S.Store.asked l.store) (g.S.Store.faults l.initial.store) (g.S.Store.faults l.store) (seen_in l.initial.walker.known) (seen_in l.walker.known);
-  spelled : (lines : List (List ℕ)) → HasSaid l.initial.said lines → HasSpelled (seen_in l.walker.known) l.initial.walker.folder l.initial.walker.core (take l.place l.initial.walker.core.threads) l.initial.text.items l.text.items l.said lines;
+  spelled : (lines : List (List ℕ)) → HasSaid l.initial.said lines → HasSpelled (seen_in l.walker.known) l.initial.walker.folder l.initial.walker.core (take l.place l.initial.walker.core.threads) l.initial.text l.text l.said lines;
 }

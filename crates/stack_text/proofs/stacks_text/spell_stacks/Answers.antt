@@ -6,7 +6,7 @@ use Rattle.stack_text.proofs.stacks_text.spell_stacks.Goals as goal
 
 pub returns-clause-out : goal.returns-clause-out
 returns-clause-out g c = λ got agrees.
-    c.of.ensures ∙ all_text got c.args.walker.now.folder c.args.walker.now.core c.new-text.result.items _ _ _ c.new-text.ensures.items (c.in_ok-add_signal.ensures ∙ ap (λ threads. c.new-text.result.items ++ signal_text threads) (c.threads.ensures ∙ ap (λ (k : CoreParts). k.threads) c.core.ensures)) c.in_ok-add_modules.ensures
+    all_text got c.args.walker.now.folder c.args.walker.now.core c.new-text.result _ _ _ c.new-text.ensures (c.in_ok-add_signal.ensures ∙ ap (λ threads. c.new-text.result ++ signal_text threads) (c.threads.ensures ∙ ap (λ (k : CoreParts). k.threads) c.core.ensures)) c.in_ok-add_modules.ensures
     ((c.in_ok-add_threads.ensures.spelled [] c.new-said.ensures).text_is got agrees)
 
 pub returns-clause-err : goal.returns-clause-err

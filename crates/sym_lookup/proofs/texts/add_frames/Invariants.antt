@@ -5,8 +5,8 @@ use Rattle.sym_lookup.proofs.texts.add_frames.Given as goal
 
 abbrev pub invariant-frames : goal.invariant-frames
 invariant-frames l =
-    l.text.items ++ frames_text (func_name_at l.lines l.func) (spot_shown l.lines l.spot) (map (call_at l.lines) (reverse l.rest))
-    ≡ l.fn.text.items ++ frames_text (func_name_at l.lines l.func) (line_spot (line_at l.lines l.fn.line)) (map (call_at l.lines) (reverse l.chain))
+    l.text ++ frames_text (func_name_at l.lines l.func) (spot_shown l.lines l.spot) (map (call_at l.lines) (reverse l.rest))
+    ≡ l.fn.text ++ frames_text (func_name_at l.lines l.func) (line_spot (line_at l.lines l.fn.line)) (map (call_at l.lines) (reverse l.chain))
 
 abbrev pub decreases-frames : goal.decreases-frames
 decreases-frames l = length l.rest
