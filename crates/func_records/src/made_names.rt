@@ -7,6 +7,7 @@ use debug_units::Units;
 use die_names::{EntryNameText, NameRef, clean_slice, name_text};
 use place_guesses::PlaceGuesses;
 use std::alloc::Global;
+use std::hash::{FoldHasher, Hasher};
 use std::marker::Model;
 use std::sync::Arc;
 use sym_edges::OutOfMemory;
@@ -34,24 +35,11 @@ impl<'a> Model for MadeName<'a> {
     ghost view = { λ m. held_name m.text };
 }
 
-/// A key that few other texts have. Eight bytes at a time are mixed in, and then each byte that is left.
+/// A key that few other texts have.
 fn key_of(text: &[u8]) -> u64 {
-    let mut key = text.len() as u64;
-    let mut rest = text;
-    'words: while let [a, b, c, d, e, f, g, h, later @ ..] = rest {
-        key = mixed(key, u64::from_le_bytes([*a, *b, *c, *d, *e, *f, *g, *h]));
-        rest = later;
-    }
-    'bytes: while let Some((byte, later)) = rest.split_first() {
-        key = mixed(key, u64::from(*byte));
-        rest = later;
-    }
-    key
-}
-
-/// A key with a number mixed in.
-fn mixed(key: u64, word: u64) -> u64 {
-    (key.rotate_left(5) ^ word).wrapping_mul(0x9e37_79b9_7f4a_7c15)
+    let mut hasher = FoldHasher::default();
+    hasher.write(text);
+    hasher.finish()
 }
 
 impl<'a> MadeName<'a> {
